@@ -1,0 +1,168 @@
+-- The turns of the loops of the sine, the cosine and the arctangent, and the constants as MIR has them, by their bit patterns. Assumes nothing.
+use mathlib.Core.Path.{_≡_, refl, sym, ap, _∙_, subst}
+use mathlib.Core.Bool.{_||_, Bool, true, false, cond, not, _&&_, true≢false}
+use Prim.Native.Nat.{ℕ, zero, suc, _+_, _-_, _*_, _^_, _≤_, _<_}
+use native.Mathlib.Nat.{pow-suc, mul-pos, zero-lt-suc, mul-le-mul, le-trans, lt-of-le-of-lt}
+use native.Mathlib.Omega.{arith}
+use lib.IntN.{ℤ, pos, negsuc}
+use lib.Dec.{T, ltb, eqb, ltb→lt, nltb→le, eqb→eq}
+use lib.Pow.{pow-pos}
+use lib.Ieee.Fits.{up-pos, and-l, and-i, eq→eqb}
+use lib.Ieee.Bits.{is-true}
+use lib.Ieee.{Float, nan, inf, fin, binary64, up, down, fits, add, sub, mul, div, neg, lt, eq, ofInt, ofBits, round}
+use Rattle.floats.specs.Trig.{pi, tau, reduce, cosFrom, sinFrom, atanFrom, atan, magnitude, arctangent}
+use Rattle.floats.specs.Number.{num, near}
+
+pub zero-is : ofBits binary64 0 ≡ num 0
+unfolding ofBits ofInt round
+zero-is = refl
+
+pub one-is : ofBits binary64 0x3ff0_0000_0000_0000 ≡ num 1
+unfolding ofBits ofInt round
+one-is = refl
+
+pub two-is : ofBits binary64 0x4000_0000_0000_0000 ≡ num 2
+unfolding ofBits ofInt round
+two-is = refl
+
+pub four-is : ofBits binary64 0x4010_0000_0000_0000 ≡ num 4
+unfolding ofBits ofInt round
+four-is = refl
+
+pub half-is : ofBits binary64 0x3fe0_0000_0000_0000 ≡ near 1 2
+unfolding ofBits round
+half-is = refl
+
+pub two-fifths-is : ofBits binary64 0x3fd9_9999_9999_999a ≡ near 4 10
+unfolding ofBits round
+two-fifths-is = refl
+
+pub pi-is : ofBits binary64 0x4009_21fb_5444_2d18 ≡ pi
+unfolding ofBits round
+pi-is = refl
+
+pub tau-is : mul binary64 (ofBits binary64 0x4000_0000_0000_0000) (ofBits binary64 0x4009_21fb_5444_2d18) ≡ tau
+tau-is = ap (λ (x : Float). mul binary64 x (ofBits binary64 0x4009_21fb_5444_2d18)) two-is ∙ ap (mul binary64 (num 2)) pi-is
+
+less : (m : ℕ) → suc m - 1 ≡ m
+less m = omega arith
+
+none : {A : Type 0} (n : ℕ) → n ≡ 0 → 1 ≤ n → A
+none n e h = absurd (go n e h)
+  where
+    go : (n : ℕ) → n ≡ 0 → 1 ≤ n → ⊥
+    go n e h = omega arith
+
+pub cos-turn : (n : ℕ) (q p : Float) → 1 ≤ n
+    → cosFrom (n - 1) q (sub binary64 (ofBits binary64 0x3ff0_0000_0000_0000) (div binary64 (mul binary64 p q) (ofInt binary64 (pos ((2 * n - 1) * (2 * n)))))) ≡ cosFrom n q p
+unfolding cosFrom
+cos-turn zero q p h = none 0 refl h
+cos-turn (suc m) q p h =
+    ap (λ (k : ℕ). cosFrom k q (sub binary64 (ofBits binary64 0x3ff0_0000_0000_0000) (div binary64 (mul binary64 p q) (num ((2 * suc m - 1) * (2 * suc m)))))) (less m)
+    ∙ ap (λ (o : Float). cosFrom m q (sub binary64 o (div binary64 (mul binary64 p q) (num ((2 * suc m - 1) * (2 * suc m)))))) one-is
+
+pub sin-turn : (n : ℕ) (q p : Float) → 1 ≤ n
+    → sinFrom (n - 1) q (sub binary64 (ofBits binary64 0x3ff0_0000_0000_0000) (div binary64 (mul binary64 p q) (ofInt binary64 (pos (2 * n * (2 * n + 1)))))) ≡ sinFrom n q p
+unfolding sinFrom
+sin-turn zero q p h = none 0 refl h
+sin-turn (suc m) q p h =
+    ap (λ (k : ℕ). sinFrom k q (sub binary64 (ofBits binary64 0x3ff0_0000_0000_0000) (div binary64 (mul binary64 p q) (num (2 * suc m * (2 * suc m + 1)))))) (less m)
+    ∙ ap (λ (o : Float). sinFrom m q (sub binary64 o (div binary64 (mul binary64 p q) (num (2 * suc m * (2 * suc m + 1)))))) one-is
+
+pub atan-turn : (k : ℕ) (u p : Float) → 1 ≤ k
+    → atanFrom (k - 1) u (sub binary64 (div binary64 (ofBits binary64 0x3ff0_0000_0000_0000) (ofInt binary64 (pos (2 * (k - 1) + 1)))) (mul binary64 (mul binary64 u u) p)) ≡ atanFrom k u p
+unfolding atanFrom
+atan-turn zero u p h = none 0 refl h
+atan-turn (suc m) u p h =
+    ap (λ (k : ℕ). atanFrom k u (sub binary64 (div binary64 (ofBits binary64 0x3ff0_0000_0000_0000) (num (2 * k + 1))) (mul binary64 (mul binary64 u u) p))) (less m)
+    ∙ ap (λ (o : Float). atanFrom m u (sub binary64 (div binary64 o (num (2 * m + 1))) (mul binary64 (mul binary64 u u) p))) one-is
+
+-- the loops' end
+pub cos-end : (n : ℕ) (q p : Float) → n ≡ 0 → cosFrom n q p ≡ p
+unfolding cosFrom
+cos-end n q p e = ap (λ (k : ℕ). cosFrom k q p) e
+
+pub sin-end : (n : ℕ) (q p : Float) → n ≡ 0 → sinFrom n q p ≡ p
+unfolding sinFrom
+sin-end n q p e = ap (λ (k : ℕ). sinFrom k q p) e
+
+pub atan-end : (k : ℕ) (u p : Float) → k ≡ 0 → atanFrom k u p ≡ p
+unfolding atanFrom
+atan-end k u p e = ap (λ (n : ℕ). atanFrom n u p) e
+
+-- a product of two small numbers fits
+pub product : (a b : ℕ) → a ≤ 30 → b ≤ 30 → a * b < 2147483648
+product a b A B = lt-of-le-of-lt (mul-le-mul A B) (omega arith)
+
+-- ---- the magnitude
+
+nothing : (d : ℕ) → 0 * 1 * d ≡ 0
+nothing d = omega arith
+
+pub abs-below : (x : Float) → lt x (ofBits binary64 0) ≡ true → neg x ≡ magnitude x
+unfolding ofBits lt neg magnitude
+abs-below nan h = refl
+abs-below (inf true) h = refl
+abs-below (inf false) h = absurd (true≢false (sym h))
+abs-below (fin true m e) h = refl
+abs-below (fin false m e) h = absurd (go (m * up e * 1) (0 * 1 * down e) (nothing (down e)) (ltb→lt (m * up e * 1) (0 * 1 * down e) (subst T (sym h) tt)))
+  where
+    go : (a b : ℕ) → b ≡ 0 → a < b → ⊥
+    go a b z h = omega arith
+
+zero-exp : (s : Bool) (e : ℤ) → T (fits binary64 (fin s zero e)) → e ≡ pos 0
+unfolding fits
+zero-exp s (pos zero) t = refl
+zero-exp s (pos (suc k)) t = absurd (go (2 ^ k) (2 ^ suc k) (pow-pos k) (pow-suc 2 k) (eqb→eq (2 ^ suc k * 1) 1 t))
+  where
+    go : (a b : ℕ) → 0 < a → b ≡ a * 2 → b * 1 ≡ 1 → ⊥
+    go a b p q r = omega arith
+zero-exp s (negsuc k) t = absurd (go (2 ^ k) (2 ^ suc k) (pow-pos k) (pow-suc 2 k) (eqb→eq (1 * 2 ^ suc k) 1 t))
+  where
+    go : (a b : ℕ) → 0 < a → b ≡ a * 2 → 1 * b ≡ 1 → ⊥
+    go a b p q r = omega arith
+
+pub abs-zero : (x : Float) → T (fits binary64 x) → eq x (ofBits binary64 0) ≡ true → ofBits binary64 0 ≡ magnitude x
+unfolding ofBits eq magnitude
+abs-zero nan F h = absurd (true≢false (sym h))
+abs-zero (inf s) F h = absurd (true≢false (sym h))
+abs-zero (fin s zero e) F h = ap (fin false 0) (sym (zero-exp s e F))
+abs-zero (fin s (suc m) e) F h =
+    absurd (go (suc m * up e) (0 * 1 * down e) (mul-pos (zero-lt-suc m) (up-pos e)) (nothing (down e)) (eqb→eq (suc m * up e * 1) (0 * 1 * down e) (and-l (eqb (suc m * up e * 1) (0 * 1 * down e)) _ (subst T (sym h) tt))))
+  where
+    go : (a b : ℕ) → 0 < a → b ≡ 0 → a * 1 ≡ b → ⊥
+    go a b p q r = omega arith
+
+pub abs-above : (x : Float) → lt x (ofBits binary64 0) ≡ false → eq x (ofBits binary64 0) ≡ false → x ≡ magnitude x
+unfolding ofBits lt eq magnitude
+abs-above nan h k = refl
+abs-above (inf true) h k = absurd (true≢false h)
+abs-above (inf false) h k = refl
+abs-above (fin false m e) h k = refl
+abs-above (fin true m e) h k =
+    absurd (go (m * up e * 1) (0 * 1 * down e) (nltb→le 0 (m * up e * 1 + 0 * 1 * down e) (subst (λ (b : Bool). T (not b)) (sym h) tt)) k)
+  where
+    go : (a b : ℕ) → a + b ≤ 0 → eqb a b && (false || eqb a 0) ≡ false → ⊥
+    go a b l k = true≢false (sym (is-true _ (and-i (eqb a b) (eqb a 0) (eq→eqb (x a b l)) (eq→eqb (y a b l)))) ∙ k)
+      where
+        x : (a b : ℕ) → a + b ≤ 0 → a ≡ b
+        x a b l = omega arith
+
+        y : (a b : ℕ) → a + b ≤ 0 → a ≡ 0
+        y a b l = omega arith
+
+-- ---- the test of two zeros
+
+module _ (s c : Float) where
+  pub both-left : eq s (ofBits binary64 0) ≡ true → eq c (ofBits binary64 0) ≡ true → eq s (num 0) && eq c (num 0) ≡ true
+  both-left a b = cc (ap (λ (x : Bool). x && eq c (num 0)) (sym (ap (eq s) zero-is) ∙ a), sym (ap (eq c) zero-is) ∙ b)
+
+  pub both-right : eq c (ofBits binary64 0) ≡ false → eq s (num 0) && eq c (num 0) ≡ false
+  both-right b = ap (λ (x : Bool). eq s (num 0) && x) (sym (ap (eq c) zero-is) ∙ b) ∙ go (eq s (num 0))
+    where
+      go : (x : Bool) → x && false ≡ false
+      go true = refl
+      go false = refl
+
+  pub both-no : eq s (ofBits binary64 0) ≡ false → eq s (num 0) && eq c (num 0) ≡ false
+  both-no a = ap (λ (x : Bool). x && eq c (num 0)) (sym (ap (eq s) zero-is) ∙ a)

@@ -1,0 +1,20 @@
+-- Rust's `f64::floor`: the largest whole number that is not above x. A zero, an infinity and a NaN stay what they are.
+-- A positive number's magnitude m * 2 ^ e is rounded down, and a negative one's up. `round` of a whole number that the format holds is that number, with the sign.
+-- Assumes nothing.
+use Prim.Native.Nat.{ℕ, _+_, _-_, _*_, _/_}
+use mathlib.Core.Bool.{Bool, true, false}
+use lib.Ieee.{Float, nan, inf, fin, binary64, up, down, round, add, ofBits}
+
+-- a / c, to the whole number below, or where the sign is negative to the one above
+abbrev pub part : Bool → ℕ → ℕ → ℕ
+part false a c = a / c
+part true a c = (a + (c - 1)) / c
+
+unfoldable pub floor : Float → Float
+floor nan = nan
+floor (inf s) = inf s
+floor (fin s m e) = round binary64 s (part s (m * up e) (down e)) 1
+
+-- Math.round of the TypeScript host: halves go up
+unfoldable pub roundHalfUp : Float → Float
+roundHalfUp x = floor (add binary64 x (ofBits binary64 0x3fe0_0000_0000_0000))

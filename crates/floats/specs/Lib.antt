@@ -1,0 +1,7 @@
+-- The definitions that the contracts of `floats` cite.
+pub mod Number
+pub mod Floor
+pub mod Fold
+pub mod Bytes
+pub mod Trig
+pub mod Rates

@@ -1,0 +1,3 @@
+-- The definitions that the contracts of `limits` cite.
+pub mod Limits
+pub mod Samples

@@ -1,0 +1,78 @@
+-- The numbers of 01's table of causes ('Causes and returns'), each by one name; the code has one name for each too. Assumes nothing.
+use Prim.Native.Nat.{ℕ, _*_, _^_}
+use lib.Ieee.{Float, neg}
+use Rattle.floats.specs.Number.{num}
+
+-- refusals
+abbrev pub badRate : ℕ
+badRate = 1
+
+abbrev pub short : ℕ
+short = 2
+
+abbrev pub long : ℕ
+long = 3
+
+abbrev pub badSample : ℕ
+badSample = 4
+
+abbrev pub badState : ℕ
+badState = 5
+
+abbrev pub waiting : ℕ
+waiting = 6
+
+abbrev pub stream : ℕ
+stream = 7
+
+abbrev pub full : ℕ
+full = 8
+
+abbrev pub badNumber : ℕ
+badNumber = 9
+
+-- rate not 200 to 4,000
+abbrev pub lowestRate : ℕ
+lowestRate = 200
+
+abbrev pub highestRate : ℕ
+highestRate = 4000
+
+-- samples 12 × rate; a call without a rate reads 4,000 there
+abbrev pub bufferS : ℕ
+bufferS = 12
+
+abbrev pub mostSamples : ℕ
+mostSamples = 48000
+
+-- over 4,096 readings or 1,024 bits handed in
+abbrev pub mostReadings : ℕ
+mostReadings = 4096
+
+abbrev pub mostBits : ℕ
+mostBits = 1024
+
+-- events 30,720 bytes (C function: 120), scratch 3,000 f64
+abbrev pub recordSize : ℕ
+recordSize = 120
+
+abbrev pub eventsSize : ℕ
+eventsSize = 30720
+
+abbrev pub scratch64 : ℕ
+scratch64 = 3000
+
+-- stream would pass 2^40 samples
+abbrev pub longestStream : ℕ
+longestStream = 2 ^ 40
+
+-- sample not in −200 to 100 dBm
+abbrev pub lowestDbm : Float
+lowestDbm = neg (num 200)
+
+abbrev pub highestDbm : Float
+highestDbm = num 100
+
+-- times not within ±10^9
+abbrev pub farthestS : Float
+farthestS = num 1000000000

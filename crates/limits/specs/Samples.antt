@@ -1,0 +1,20 @@
+-- Which rates and samples are accepted (01, causes 1 and 4). Assumes nothing.
+use Prim.Native.Nat.{ℕ}
+use mathlib.Core.Bool.{Bool, true, _&&_}
+use mathlib.Core.List.{List, [], _∷_}
+use lib.Dec.{leb}
+use lib.Ieee.{Float, le}
+use Rattle.limits.specs.Limits.{lowestRate, highestRate, lowestDbm, highestDbm}
+
+-- cause 1 does not apply
+abbrev pub rateOk : ℕ → Bool
+rateOk rate = leb lowestRate rate && leb rate highestRate
+
+-- a sample, or a floor, from -200 to 100 dBm; a NaN is none
+abbrev pub isDbm : Float → Bool
+isDbm x = le lowestDbm x && le x highestDbm
+
+-- cause 4 does not apply
+unfoldable pub allDbm : List Float → Bool
+allDbm [] = true
+allDbm (x ∷ xs) = isDbm x && allDbm xs

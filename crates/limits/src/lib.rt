@@ -1,0 +1,93 @@
+// The numbers of 01's table of causes: refusals, ranges and sizes, each under one name, and the tests of rates and samples that the modules share.
+ghost use mathlib.Core.Path.{_≡_};
+ghost use Rattle.limits.specs.Samples.{rateOk, isDbm, allDbm};
+
+// Refusals, by 01's numbers.
+pub const BAD_RATE: u8 = 1;
+
+// A lent slice is short.
+pub const SHORT: u8 = 2;
+
+// Too much is handed in.
+pub const LONG: u8 = 3;
+
+pub const BAD_SAMPLE: u8 = 4;
+
+// The state is not in order.
+pub const BAD_STATE: u8 = 5;
+
+// A push with too many messages waiting.
+pub const WAITING: u8 = 6;
+
+// The stream would be too long.
+pub const STREAM: u8 = 7;
+
+// The tracker's lists have no place left.
+pub const FULL: u8 = 8;
+
+pub const BAD_NUMBER: u8 = 9;
+
+// Samples per second.
+pub const LOWEST_RATE: u32 = 200;
+
+pub const HIGHEST_RATE: u32 = 4000;
+
+// The sample buffer holds this many seconds, and no call takes more.
+pub const BUFFER_S: usize = 12;
+
+// The most samples of a call without a rate: those of the highest one.
+pub const MOST_SAMPLES: usize = 48_000;
+
+pub const MOST_READINGS: usize = 4096;
+
+pub const MOST_BITS: usize = 1024;
+
+// Bytes of an event record, and of an event buffer.
+pub const RECORD: usize = 120;
+
+pub const EVENTS: usize = 30_720;
+
+// f64 places of scratch.
+pub const SCRATCH64: usize = 3000;
+
+// The longest stream, in samples: 2^40.
+pub const LONGEST_STREAM: u64 = 1_099_511_627_776;
+
+pub const LOWEST_DBM: f32 = -200.0;
+
+pub const HIGHEST_DBM: f32 = 100.0;
+
+// Times handed in lie within this of 0, in seconds.
+pub const FARTHEST_S: f64 = 1_000_000_000.0;
+
+// Whether cause 1 does not apply.
+pub fn rate_ok(rate: u32) -> bool
+    ensures { λ r. ⌜ r ≡ rateOk rate ⌝ }
+{
+    let low = LOWEST_RATE <= rate;
+    let high = rate <= HIGHEST_RATE;
+    low & high
+}
+
+// Whether a sample, or a floor, lies in 01's range; a NaN doesn't.
+pub fn is_dbm(x: f32) -> bool
+    ensures { λ r. ⌜ r ≡ isDbm x ⌝ }
+{
+    let low = x >= LOWEST_DBM;
+    let high = x <= HIGHEST_DBM;
+    low & high
+}
+
+// Whether cause 4 does not apply. No early exit, so that it runs several samples at a time.
+pub fn all_dbm(dbm: &[f32]) -> bool
+    ensures { λ r. ⌜ r ≡ allDbm (now (dbm .entry)) ⌝ }
+{
+    let mut ok = true;
+    let mut i: usize = 0;
+    while i < dbm.len() {
+        let here = is_dbm(dbm[i]);
+        ok = ok & here;
+        i += 1;
+    }
+    ok
+}
