@@ -1,0 +1,2 @@
+-- The definitions that the contracts of `endian` cite.
+pub mod Bytes
