@@ -1,0 +1,7 @@
+-- The laws that the proofs of `coding` and of the crates above it cite.
+pub mod Digits
+pub mod Division
+pub mod Quotient
+pub mod BitLaws
+pub mod Codes
+pub mod Causes

@@ -1,0 +1,165 @@
+// The frame's CRC-16 and convolutional codes (frame.rs crc16, convolve, deconvolve). Bits are bytes 0 or 1.
+ghost use mathlib.Core.Path.{_≡_};
+ghost use mathlib.Core.Bool.{true, cond};
+ghost use mathlib.Core.List.{_++_, map};
+ghost use Prim.Native.Nat.{_<_, _≤_};
+ghost use lib.ListN.{length, drop};
+ghost use Rattle.coding.specs.Bits.{odd, bitOf, plus, digits, areBits};
+ghost use Rattle.coding.specs.Crc.{crcOf};
+ghost use Rattle.coding.specs.Register.{step, run};
+ghost use Rattle.coding.specs.Convolution.{tap, fresh, stateOf, convolved, deconvolved};
+ghost use Rattle.coding.specs.Answers.{codingCause, codingAnswer, convolveOut, deconvolveOut};
+
+// x^12 + x^5 + 1, the CRC's divisor after x^16.
+pub const POLYNOMIAL: u16 = 0x1021;
+
+// A message is sent at most three times, as ranks 0, 1 and 2.
+pub const HIGHEST_RANK: u8 = 2;
+
+// The CRC's register after one bit more, the lowest of `bit`.
+pub fn crc_bit(c: u16, bit: u8) -> u16
+    ensures { λ r. ⌜ r ≡ step c (odd bit) ⌝ }
+{
+    let low = (c % 32768) * 2;
+    let top = (c / 32768) as u8;
+    if top == bit % 2 {
+        low
+    } else {
+        low ^ POLYNOMIAL
+    }
+}
+
+// The register after the eight bits of a byte, the highest first.
+pub fn crc_byte(c: u16, b: u8) -> u16
+    ensures { λ r. ⌜ r ≡ run c (digits 8 b) ⌝ }
+{
+    let c7 = crc_bit(c, b / 128);
+    let c6 = crc_bit(c7, b / 64);
+    let c5 = crc_bit(c6, b / 32);
+    let c4 = crc_bit(c5, b / 16);
+    let c3 = crc_bit(c4, b / 8);
+    let c2 = crc_bit(c3, b / 4);
+    let c1 = crc_bit(c2, b / 2);
+    crc_bit(c1, b)
+}
+
+// The CRC of bytes (frame.rs crc16).
+pub fn crc16(data: &[u8]) -> u16
+    ensures { λ r. ⌜ r ≡ crcOf (now («data» .entry)) ⌝ }
+{
+    let mut c: u16 = 0;
+    let mut i: usize = 0;
+    while i < data.len() {
+        c = crc_byte(c, data[i]);
+        i += 1;
+    }
+    65535 - c
+}
+
+// Whether no bit byte is over 1.
+pub fn are_bits(bits: &[u8]) -> bool
+    ensures { λ r. ⌜ r ≡ areBits (now (bits .entry)) ⌝ }
+{
+    let mut i: usize = 0;
+    while i < bits.len() {
+        if 1 < bits[i] {
+            return false;
+        }
+        i += 1;
+    }
+    true
+}
+
+// A bit with what the state adds to it: input to product and product to input. `p` is the last input, `q` the one before it.
+pub fn coded_bit(b: u8, rank: u8, p: u8, q: u8) -> u8
+    requires { ⌜ (b < 2) × (p < 2) × (q < 2) ⌝ }
+    ensures { λ r. ⌜ r ≡ bitOf (plus (odd b) (tap rank (stateOf p q))) ⌝ }
+{
+    if rank == 1 {
+        return (b + (p + q)) % 2;
+    }
+    if rank == 2 {
+        return (b + q) % 2;
+    }
+    b
+}
+
+// What `convolve` and `deconvolve` answer.
+pub enum Coded {
+    // A refusal's number.
+    Refused(u8),
+    // How many bits were written.
+    Done(usize),
+}
+
+// The first cause that applies, 0 where none does.
+fn coding_cause(bits: &[u8], rank: u8, room: usize) -> u8
+    ensures { λ r. ⌜ r ≡ codingCause (now (bits .entry)) rank room ⌝ }
+{
+    if room < bits.len() {
+        return limits::SHORT;
+    }
+    if limits::MOST_BITS < bits.len() {
+        return limits::LONG;
+    }
+    if HIGHEST_RANK < rank {
+        return limits::BAD_NUMBER;
+    }
+    if are_bits(bits) {
+        0
+    } else {
+        limits::BAD_NUMBER
+    }
+}
+
+fn either(first: bool, a: u8, b: u8) -> u8
+    ensures { λ r. ⌜ r ≡ cond first a b ⌝ }
+{
+    if first { a } else { b }
+}
+
+// The bits' product, or with `undo` the inputs of which they are the product, into the first places of `out`.
+fn code_into(bits: &[u8], rank: u8, undo: bool, out: &mut [u8])
+    requires { ⌜ (areBits (now bits) ≡ true) × (length (now bits) ≤ length (now out)) ⌝ }
+    ensures { λ _. ⌜ now (out .exit)
+        ≡ map bitOf (cond undo (deconvolved rank fresh (map odd (now (bits .entry)))) (convolved rank fresh (map odd (now (bits .entry)))))
+        ++ drop (length (now (bits .entry))) (now (out .entry)) ⌝ }
+{
+    let mut p: u8 = 0;
+    let mut q: u8 = 0;
+    let mut i: usize = 0;
+    while i < bits.len() {
+        let b = bits[i];
+        let a = coded_bit(b, rank, p, q);
+        out[i] = a;
+        q = p;
+        p = either(undo, a, b);
+        i += 1;
+    }
+}
+
+// The bits as a repetition sends them (frame.rs convolve).
+pub fn convolve(bits: &[u8], rank: u8, out: &mut [u8]) -> Coded
+    ensures { λ r. ⌜ (r ≡ codingAnswer (now (bits .entry)) rank (now (out .entry)))
+        × (now (out .exit) ≡ convolveOut (now (bits .entry)) rank (now (out .entry))) ⌝ }
+{
+    let cause = coding_cause(bits, rank, out.len());
+    if cause != 0 {
+        return Coded::Refused(cause);
+    }
+    code_into(bits, rank, false, out);
+    Coded::Done(bits.len())
+}
+
+// The bits that a repetition sent (frame.rs deconvolve).
+pub fn deconvolve(bits: &[u8], rank: u8, out: &mut [u8]) -> Coded
+    ensures { λ r. ⌜ (r ≡ codingAnswer (now (bits .entry)) rank (now (out .entry)))
+        × (now (out .exit) ≡ deconvolveOut (now (bits .entry)) rank (now (out .entry))) ⌝ }
+{
+    let cause = coding_cause(bits, rank, out.len());
+    if cause != 0 {
+        return Coded::Refused(cause);
+    }
+    code_into(bits, rank, true, out);
+    Coded::Done(bits.len())
+}
