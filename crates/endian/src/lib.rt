@@ -157,7 +157,7 @@ fn i32_of_bits(n: u32) -> i32
 }
 
 // f32::to_bits, where a NaN has one pattern.
-fn bits_of_f32(x: f32) -> u32
+pub fn bits_of_f32(x: f32) -> u32
     ensures { λ r. ⌜ r ≡ bitsOf binary32 x ⌝ }
 {
     if x != x {
@@ -167,7 +167,7 @@ fn bits_of_f32(x: f32) -> u32
 }
 
 // f64::to_bits, where a NaN has one pattern.
-fn bits_of_f64(x: f64) -> u64
+pub fn bits_of_f64(x: f64) -> u64
     ensures { λ r. ⌜ r ≡ bitsOf binary64 x ⌝ }
 {
     if x != x {
@@ -177,7 +177,7 @@ fn bits_of_f64(x: f64) -> u64
 }
 
 // f32::from_bits; the built-in one is undefined at a NaN's pattern.
-fn f32_of_bits(n: u32) -> f32
+pub fn f32_of_bits(n: u32) -> f32
     ensures { λ r. ⌜ r ≡ ofBits binary32 n ⌝ }
 {
     if n % 0x8000_0000 > 0x7f80_0000 {
@@ -187,7 +187,7 @@ fn f32_of_bits(n: u32) -> f32
 }
 
 // f64::from_bits; the built-in one is undefined at a NaN's pattern.
-fn f64_of_bits(n: u64) -> f64
+pub fn f64_of_bits(n: u64) -> f64
     ensures { λ r. ⌜ r ≡ ofBits binary64 n ⌝ }
 {
     if n % 0x8000_0000_0000_0000 > 0x7ff0_0000_0000_0000 {
