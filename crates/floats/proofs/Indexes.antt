@@ -1,19 +1,19 @@
 -- An index worked out as floor(n * q), for a q from 1/16 to 15/16: it is below n. No number is computed: n * q lies between n / 16 and 15 n / 16, which are floats exactly, and rounding keeps that order.
 -- Assumes nothing.
 use mathlib.Core.Path.{_≡_, refl, sym, ap, _∙_, subst}
-use mathlib.Core.Bool.{Bool, true, false}
-use Prim.Native.Nat.{ℕ, _+_, _*_, _/_, _^_, _≤_, _<_}
-use native.Mathlib.Nat.{le-trans, le-of-eq, lt-of-lt-of-le, lt-of-le-of-lt, mul-assoc, mul-comm, mul-left-comm, mul-right-comm, mul-one, one-mul, mul-le-mul-left, mul-le-mul-right, mul-lt-mul-of-pos-right, lt-of-mul-lt-mul-right, div-mul-le-self, le-div-iff-mul-le, le-of-mul-le-mul-right, zero-lt-suc}
+use mathlib.Core.Bool.{false}
+use Prim.Native.Nat.{ℕ, _*_, _/_, _^_, _≤_, _<_}
+use native.Mathlib.Nat.{le-trans, le-of-eq, lt-of-lt-of-le, mul-assoc, mul-comm, mul-right-comm, mul-le-mul-left, mul-le-mul-right, div-mul-le-self, le-of-mul-le-mul-right, zero-lt-suc}
 use native.Mathlib.Omega.{arith}
-use lib.IntN.{pos, negsuc}
+use lib.IntN.{negsuc}
 use lib.Dec.{T, le→leb, lit≤}
-use lib.Pow.{pow-pos, pow-mono, shl-lt}
-use lib.Ieee.{Float, fin, binary64, round, mul, ofInt, ofBits, inFloat, toUnsigned}
+use lib.Pow.{pow-pos, shl-lt}
+use lib.Ieee.{Float, fin, binary64, round, mul, ofInt, inFloat, toUnsigned}
 use lib.Ieee.Exact.{HasValue, round-exact}
 use lib.Ieee.Order.{round-mono}
 use lib.Ieee.Back.{round-whole, unsigned-back}
 use lib.Ieee.Positive.{num, den, positive, den-pos, positive-of-value, own-value, values-of-le, between, mul-at}
-use Rattle.floats.specs.Floor.{floor, part}
+use Rattle.floats.specs.Floor.{floor}
 use Rattle.floats.specs.Number as Trig
 use Rattle.floats.proofs.Floors.{floor-of}
 

@@ -1,16 +1,16 @@
--- The turns of the loops of the sine, the cosine and the arctangent, and the constants as MIR has them, by their bit patterns. Assumes nothing.
+-- The trigonometry: constants by their bit patterns, as compiled code has them, the turns of the loops, the magnitude, and the test of two zeros. Assumes nothing.
 use mathlib.Core.Path.{_≡_, refl, sym, ap, _∙_, subst}
-use mathlib.Core.Bool.{_||_, Bool, true, false, cond, not, _&&_, true≢false}
+use mathlib.Core.Bool.{_||_, Bool, true, false, not, _&&_, true≢false}
 use Prim.Native.Nat.{ℕ, zero, suc, _+_, _-_, _*_, _^_, _≤_, _<_}
-use native.Mathlib.Nat.{pow-suc, mul-pos, zero-lt-suc, mul-le-mul, le-trans, lt-of-le-of-lt}
+use native.Mathlib.Nat.{pow-suc, mul-pos, zero-lt-suc, mul-le-mul, lt-of-le-of-lt}
 use native.Mathlib.Omega.{arith}
 use lib.IntN.{ℤ, pos, negsuc}
-use lib.Dec.{T, ltb, eqb, ltb→lt, nltb→le, eqb→eq}
+use lib.Dec.{T, eqb, ltb→lt, nltb→le, eqb→eq}
 use lib.Pow.{pow-pos}
 use lib.Ieee.Fits.{up-pos, and-l, and-i, eq→eqb}
 use lib.Ieee.Bits.{is-true}
-use lib.Ieee.{Float, nan, inf, fin, binary64, up, down, fits, add, sub, mul, div, neg, lt, eq, ofInt, ofBits, round}
-use Rattle.floats.specs.Trig.{pi, tau, reduce, cosFrom, sinFrom, atanFrom, atan, magnitude, arctangent}
+use lib.Ieee.{Float, nan, inf, fin, binary64, up, down, fits, sub, mul, div, neg, lt, eq, ofInt, ofBits, round}
+use Rattle.floats.specs.Trig.{pi, tau, series, atanFrom, magnitude}
 use Rattle.floats.specs.Number.{num, near}
 
 pub zero-is : ofBits binary64 0 ≡ num 0
@@ -53,21 +53,13 @@ none n e h = absurd (go n e h)
     go : (n : ℕ) → n ≡ 0 → 1 ≤ n → ⊥
     go n e h = omega arith
 
-pub cos-turn : (n : ℕ) (q p : Float) → 1 ≤ n
-    → cosFrom (n - 1) q (sub binary64 (ofBits binary64 0x3ff0_0000_0000_0000) (div binary64 (mul binary64 p q) (ofInt binary64 (pos ((2 * n - 1) * (2 * n)))))) ≡ cosFrom n q p
-unfolding cosFrom
-cos-turn zero q p h = none 0 refl h
-cos-turn (suc m) q p h =
-    ap (λ (k : ℕ). cosFrom k q (sub binary64 (ofBits binary64 0x3ff0_0000_0000_0000) (div binary64 (mul binary64 p q) (num ((2 * suc m - 1) * (2 * suc m)))))) (less m)
-    ∙ ap (λ (o : Float). cosFrom m q (sub binary64 o (div binary64 (mul binary64 p q) (num ((2 * suc m - 1) * (2 * suc m)))))) one-is
-
-pub sin-turn : (n : ℕ) (q p : Float) → 1 ≤ n
-    → sinFrom (n - 1) q (sub binary64 (ofBits binary64 0x3ff0_0000_0000_0000) (div binary64 (mul binary64 p q) (ofInt binary64 (pos (2 * n * (2 * n + 1)))))) ≡ sinFrom n q p
-unfolding sinFrom
-sin-turn zero q p h = none 0 refl h
-sin-turn (suc m) q p h =
-    ap (λ (k : ℕ). sinFrom k q (sub binary64 (ofBits binary64 0x3ff0_0000_0000_0000) (div binary64 (mul binary64 p q) (num (2 * suc m * (2 * suc m + 1)))))) (less m)
-    ∙ ap (λ (o : Float). sinFrom m q (sub binary64 o (div binary64 (mul binary64 p q) (num (2 * suc m * (2 * suc m + 1)))))) one-is
+pub series-turn : (o n : ℕ) (q p : Float) → 1 ≤ n
+    → series o (n - 1) q (sub binary64 (ofBits binary64 0x3ff0_0000_0000_0000) (div binary64 (mul binary64 p q) (ofInt binary64 (pos ((2 * n - 1 + o) * (2 * n + o)))))) ≡ series o n q p
+unfolding series
+series-turn o zero q p h = none 0 refl h
+series-turn o (suc m) q p h =
+    ap (λ (k : ℕ). series o k q (sub binary64 (ofBits binary64 0x3ff0_0000_0000_0000) (div binary64 (mul binary64 p q) (num ((2 * suc m - 1 + o) * (2 * suc m + o)))))) (less m)
+    ∙ ap (λ (x : Float). series o m q (sub binary64 x (div binary64 (mul binary64 p q) (num ((2 * suc m - 1 + o) * (2 * suc m + o)))))) one-is
 
 pub atan-turn : (k : ℕ) (u p : Float) → 1 ≤ k
     → atanFrom (k - 1) u (sub binary64 (div binary64 (ofBits binary64 0x3ff0_0000_0000_0000) (ofInt binary64 (pos (2 * (k - 1) + 1)))) (mul binary64 (mul binary64 u u) p)) ≡ atanFrom k u p
@@ -78,13 +70,9 @@ atan-turn (suc m) u p h =
     ∙ ap (λ (o : Float). atanFrom m u (sub binary64 (div binary64 o (num (2 * m + 1))) (mul binary64 (mul binary64 u u) p))) one-is
 
 -- the loops' end
-pub cos-end : (n : ℕ) (q p : Float) → n ≡ 0 → cosFrom n q p ≡ p
-unfolding cosFrom
-cos-end n q p e = ap (λ (k : ℕ). cosFrom k q p) e
-
-pub sin-end : (n : ℕ) (q p : Float) → n ≡ 0 → sinFrom n q p ≡ p
-unfolding sinFrom
-sin-end n q p e = ap (λ (k : ℕ). sinFrom k q p) e
+pub series-end : (o n : ℕ) (q p : Float) → n ≡ 0 → series o n q p ≡ p
+unfolding series
+series-end o n q p e = ap (λ (k : ℕ). series o k q p) e
 
 pub atan-end : (k : ℕ) (u p : Float) → k ≡ 0 → atanFrom k u p ≡ p
 unfolding atanFrom

@@ -2,6 +2,5 @@
 pub mod Number
 pub mod Floor
 pub mod Fold
-pub mod Bytes
 pub mod Trig
 pub mod Rates

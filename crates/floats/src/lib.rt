@@ -1,16 +1,15 @@
-// Floats: floor, rounding, casts.
+// Floats: floor and rounding from the bits, Rust's casts, choice and maximum, and 01's sine, cosine and arctangent.
 ghost use mathlib.Core.Path.{_≡_};
 ghost use mathlib.Core.Bool.{false, cond};
-ghost use Prim.Native.Nat.{_+_, _≤_, _<_, _^_};
-ghost use lib.IntN.{pos, natAbs};
-ghost use lib.ListN.{length};
-ghost use lib.Seq.{sets};
-ghost use lib.Ieee.{binary32, binary64, round, lt, neg, isNan, ofInt, ofBits, toUnsigned, toSigned};
-ghost use Rattle.floats.specs.Fold.{maxOf, maxFrom};
-ghost use Rattle.floats.specs.Bytes.{bytesOf, putFloat};
-ghost use Rattle.floats.specs.Trig.{reduce, cosine, sine, atanFrom, atan, magnitude, arctangent};
+ghost use Prim.Native.Nat.{_≤_, _<_, _^_};
+ghost use lib.IntN.{pos};
+ghost use lib.Ieee.{binary64, round, lt, ofInt, toUnsigned, toSigned};
 ghost use Rattle.floats.specs.Number.{num};
 ghost use Rattle.floats.specs.Floor.{floor, roundHalfUp};
+ghost use Rattle.floats.specs.Fold.{maxOf};
+ghost use Rattle.floats.specs.Trig.{terms, atanTerms, reduce, series, cosine, sine, atanFrom, atan, magnitude, arctangent};
+
+// ---- floor and rounding
 
 // The float of the whole number w, which is below 2^53: the leading digit goes to bit 52, where it adds one to the exponent's field.
 fn of_whole(w: u64) -> f64
@@ -24,7 +23,7 @@ fn of_whole(w: u64) -> f64
     f64::from_bits((1085 - z) * 0x10_0000_0000_0000 + (w << (z - 11)))
 }
 
-// The largest whole number that is not above x, from the bits of x.
+// f64::floor, worked out from the bits: the sign, the exponent's field and the 52 digits below the leading one.
 pub fn floor64(x: f64) -> f64
     ensures { λ r. ⌜ r ≡ floor x ⌝ }
 {
@@ -57,14 +56,16 @@ pub fn floor64(x: f64) -> f64
     of_whole(m / unit)
 }
 
-// floor(x + 0.5)
+// floor(x + 0.5): halves go up (demod.rs round).
 pub fn round_half_up(x: f64) -> f64
     ensures { λ r. ⌜ r ≡ roundHalfUp x ⌝ }
 {
     floor64(x + 0.5)
 }
 
-// Rust's `as`: toward zero, to the nearest end of the range, and 0 for a NaN.
+// ---- Rust's `as`: toward zero, to the nearest end of the range, and 0 for a NaN
+
+// x as usize
 pub fn to_usize_saturating(x: f64) -> usize
     ensures { λ r. ⌜ r ≡ toUnsigned 64 x ⌝ }
 {
@@ -77,6 +78,7 @@ pub fn to_usize_saturating(x: f64) -> usize
     0
 }
 
+// x as u32
 pub fn to_u32_saturating(x: f64) -> u32
     ensures { λ r. ⌜ r ≡ toUnsigned 32 x ⌝ }
 {
@@ -87,6 +89,7 @@ pub fn to_u32_saturating(x: f64) -> u32
     u32::MAX
 }
 
+// x as i64
 pub fn to_i64_saturating(x: f64) -> i64
     ensures { λ r. ⌜ r ≡ toSigned 63 x ⌝ }
 {
@@ -102,6 +105,7 @@ pub fn to_i64_saturating(x: f64) -> i64
     i64::MIN
 }
 
+// x as i32
 pub fn to_i32_saturating(x: f64) -> i32
     ensures { λ r. ⌜ r ≡ toSigned 31 x ⌝ }
 {
@@ -117,183 +121,61 @@ pub fn to_i32_saturating(x: f64) -> i32
     i32::MIN
 }
 
-// f64::from(x) > threshold, at a NaN false.
-pub fn loud(x: f32, threshold: f64) -> bool
-    ensures { λ r. ⌜ r ≡ lt threshold x ⌝ }
+// ---- to f64, exactly
+
+// f64::from(x), of a NaN too.
+pub fn widened(x: f32) -> f64
+    ensures { λ r. ⌜ r ≡ x ⌝ }
 {
-    std::num::f32_to_f64_with_nan(x) > threshold
+    std::num::f32_to_f64_with_nan(x)
 }
 
-// The same by `as`, of an x that is tested to be no NaN.
-pub fn loud_tested(x: f32, threshold: f64) -> bool
-    ensures { λ r. ⌜ r ≡ lt threshold x ⌝ }
-{
-    if x != x {
-        return false;
-    }
-    (x as f64) > threshold
-}
-
-pub fn max64(a: f64, b: f64) -> f64
-    ensures { λ r. ⌜ r ≡ maxOf a b ⌝ }
-{
-    if a < b { b } else { a }
-}
-
-pub fn max32(a: f32, b: f32) -> f32
-    ensures { λ r. ⌜ r ≡ maxOf a b ⌝ }
-{
-    if a < b { b } else { a }
-}
-
-// The largest sample, as an f64, and -200 where there is none louder.
-pub fn loudest(s: &[f32]) -> f64
-    ensures { λ r. ⌜ r ≡ maxFrom (neg (ofBits binary64 0x4069_0000_0000_0000)) (now (s .entry)) ⌝ }
-{
-    let mut m = -200.0;
-    let mut i = 0;
-    while i < s.len() {
-        m = max64(m, std::num::f32_to_f64_with_nan(s[i]));
-        i += 1;
-    }
-    m
-}
-
-// A count as a float: exact.
+// A count as a float.
 pub fn count_as_f64(n: usize) -> f64
-    requires { ⌜ n ≤ 2 ^ 40 ⌝ }
+    requires { ⌜ n ≤ 2 ^ 53 ⌝ }
     ensures { λ r. ⌜ r ≡ ofInt binary64 (pos n) ⌝ }
 {
     n as f64
 }
 
-// A bit index as a float: exact.
-pub fn index_as_f64(n: i64) -> f64
-    requires { ⌜ natAbs n ≤ 2 ^ 31 ⌝ }
-    ensures { λ r. ⌜ r ≡ ofInt binary64 n ⌝ }
+// ---- choice and maximum
+
+// a where t holds, else b: a choice without a branch, whose callers are proved by computing.
+pub fn pick64(t: bool, a: f64, b: f64) -> f64
+    ensures { λ r. ⌜ r ≡ cond t a b ⌝ }
 {
-    n as f64
+    if t { a } else { b }
 }
 
-// There and back.
-pub fn index_back(n: i64) -> i64
-    requires { ⌜ natAbs n ≤ 2 ^ 31 ⌝ }
-    ensures { λ r. ⌜ r ≡ n ⌝ }
+// The same of f32.
+pub fn pick32(t: bool, a: f32, b: f32) -> f32
+    ensures { λ r. ⌜ r ≡ cond t a b ⌝ }
 {
-    to_i64_saturating(index_as_f64(n))
+    if t { a } else { b }
 }
 
-// The low 8 bytes of n, lowest first, at a place.
-fn put_u64(out: &mut [u8], at: usize, n: u64)
-    requires { ⌜ at + 8 ≤ length (now out) ⌝ }
-    ensures { λ _. ⌜ now (out .exit) ≡ sets (now (out .entry)) at (bytesOf 8 n) ⌝ }
+// f64::max of numbers that are no NaN.
+pub fn max64(a: f64, b: f64) -> f64
+    ensures { λ r. ⌜ r ≡ maxOf a b ⌝ }
 {
-    let mut i = 0;
-    let mut b = n;
-    while i < 8 {
-        out[at + i] = (b % 256) as u8;
-        b = b / 256;
-        i += 1;
-    }
+    pick64(a < b, b, a)
 }
 
-// The 8 bytes of x at a place, and 0; 9 and nothing written where x is a NaN.
-pub fn put_f64(out: &mut [u8], at: usize, x: f64) -> u32
-    requires { ⌜ at + 8 ≤ length (now out) ⌝ }
-    ensures { λ r. ⌜ (r ≡ cond (isNan x) 9 0) × (now (out .exit) ≡ putFloat binary64 8 (now (out .entry)) at x) ⌝ }
+// f32::max of numbers that are no NaN.
+pub fn max32(a: f32, b: f32) -> f32
+    ensures { λ r. ⌜ r ≡ maxOf a b ⌝ }
 {
-    if x != x {
-        return 9;
-    }
-    put_u64(out, at, f64::to_bits(x));
-    0
+    pick32(a < b, b, a)
 }
 
-// The same of an f32, of 4 bytes.
-fn put_u32(out: &mut [u8], at: usize, n: u32)
-    requires { ⌜ at + 4 ≤ length (now out) ⌝ }
-    ensures { λ _. ⌜ now (out .exit) ≡ sets (now (out .entry)) at (bytesOf 4 n) ⌝ }
+// f64::from(x) > threshold, at a NaN false (demod.rs find_bursts).
+pub fn loud(x: f32, threshold: f64) -> bool
+    ensures { λ r. ⌜ r ≡ lt threshold x ⌝ }
 {
-    let mut i = 0;
-    let mut b = n;
-    while i < 4 {
-        out[at + i] = (b % 256) as u8;
-        b = b / 256;
-        i += 1;
-    }
+    widened(x) > threshold
 }
 
-pub fn put_f32(out: &mut [u8], at: usize, x: f32) -> u32
-    requires { ⌜ at + 4 ≤ length (now out) ⌝ }
-    ensures { λ r. ⌜ (r ≡ cond (isNan x) 9 0) × (now (out .exit) ≡ putFloat binary32 4 (now (out .entry)) at x) ⌝ }
-{
-    if x != x {
-        return 9;
-    }
-    put_u32(out, at, f32::to_bits(x));
-    0
-}
-
-pub const PI: f64 = 3.141592653589793;
-
-fn reduced(a: f64) -> f64
-    ensures { λ r. ⌜ r ≡ reduce a ⌝ }
-{
-    let t = 2.0 * PI;
-    a - floor64(a / t + 0.5) * t
-}
-
-pub fn cos64(a: f64) -> f64
-    ensures { λ r. ⌜ r ≡ cosine a ⌝ }
-{
-    let r = reduced(a);
-    let q = r * r;
-    let mut p = 1.0;
-    let mut n = 11u32;
-    while n > 0 {
-        p = 1.0 - (p * q) / (((2 * n - 1) * (2 * n)) as f64);
-        n -= 1;
-    }
-    p
-}
-
-pub fn sin64(a: f64) -> f64
-    ensures { λ r. ⌜ r ≡ sine a ⌝ }
-{
-    let r = reduced(a);
-    let q = r * r;
-    let mut p = 1.0;
-    let mut n = 11u32;
-    while n > 0 {
-        p = 1.0 - (p * q) / ((2 * n * (2 * n + 1)) as f64);
-        n -= 1;
-    }
-    r * p
-}
-
-// p of the arctangent, for n = 15 down to 0; k is n + 1.
-fn atan_series(u: f64) -> f64
-    ensures { λ r. ⌜ r ≡ atanFrom 16 u (num 0) ⌝ }
-{
-    let mut p = 0.0;
-    let mut k = 16u32;
-    while k > 0 {
-        k -= 1;
-        p = 1.0 / ((2 * k + 1) as f64) - (u * u) * p;
-    }
-    p
-}
-
-fn atan64(t: f64) -> f64
-    ensures { λ r. ⌜ r ≡ atan t ⌝ }
-{
-    if t > 0.4 {
-        let u = (t - 1.0) / (t + 1.0);
-        return PI / 4.0 + u * atan_series(u);
-    }
-    0.0 + t * atan_series(t)
-}
-
+// f64::abs
 pub fn abs64(x: f64) -> f64
     ensures { λ r. ⌜ r ≡ magnitude x ⌝ }
 {
@@ -306,12 +188,78 @@ pub fn abs64(x: f64) -> f64
     x
 }
 
-pub fn pick64(t: bool, a: f64, b: f64) -> f64
-    ensures { λ r. ⌜ r ≡ cond t a b ⌝ }
+// ---- 01's stand-ins for sine, cosine and arctangent: the same rounded operations in the same order
+
+// std::f64::consts::PI
+pub const PI: f64 = 3.141592653589793;
+// The n that the series of cosine and sine starts from, down to 1.
+const TERMS: u32 = 11;
+// One more than the n that the arctangent's series starts from, down to 0.
+const ATAN_TERMS: u32 = 16;
+// Above this quotient the arctangent is taken from PI/4, where the series ends sooner.
+const STEEP: f64 = 0.4;
+
+// r = a - k * T, k = floor(a / T + 0.5)
+fn reduced(a: f64) -> f64
+    ensures { λ r. ⌜ r ≡ reduce a ⌝ }
 {
-    if t { a } else { b }
+    let t = 2.0 * PI;
+    a - floor64(a / t + 0.5) * t
 }
 
+// p of the cosine (odd = 0) or of the sine (odd = 1), of q = r * r.
+fn series_of(odd: u32, q: f64) -> f64
+    requires { ⌜ odd ≤ 1 ⌝ }
+    ensures { λ r. ⌜ r ≡ series odd terms q (num 1) ⌝ }
+{
+    let mut p = 1.0;
+    let mut n = TERMS;
+    while n > 0 {
+        p = 1.0 - (p * q) / (((2 * n - 1 + odd) * (2 * n + odd)) as f64);
+        n -= 1;
+    }
+    p
+}
+
+// f64::cos of the Rust, by its stand-in.
+pub fn cos64(a: f64) -> f64
+    ensures { λ r. ⌜ r ≡ cosine a ⌝ }
+{
+    let r = reduced(a);
+    series_of(0, r * r)
+}
+
+// f64::sin of the Rust, by its stand-in.
+pub fn sin64(a: f64) -> f64
+    ensures { λ r. ⌜ r ≡ sine a ⌝ }
+{
+    let r = reduced(a);
+    r * series_of(1, r * r)
+}
+
+// p of the arctangent; k is n + 1.
+fn atan_series(u: f64) -> f64
+    ensures { λ r. ⌜ r ≡ atanFrom atanTerms u (num 0) ⌝ }
+{
+    let mut p = 0.0;
+    let mut k = ATAN_TERMS;
+    while k > 0 {
+        k -= 1;
+        p = 1.0 / ((2 * k + 1) as f64) - (u * u) * p;
+    }
+    p
+}
+
+// A of the arctangent, of t = smaller / larger.
+fn atan64(t: f64) -> f64
+    ensures { λ r. ⌜ r ≡ atan t ⌝ }
+{
+    let steep = t > STEEP;
+    let u = pick64(steep, (t - 1.0) / (t + 1.0), t);
+    pick64(steep, PI / 4.0, 0.0) + u * atan_series(u)
+}
+
+// f64::atan2 of the Rust, by its stand-in.
 pub fn atan2_64(s: f64, c: f64) -> f64
     ensures { λ r. ⌜ r ≡ arctangent s c ⌝ }
 {

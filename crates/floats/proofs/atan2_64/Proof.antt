@@ -1,12 +1,11 @@
 -- `floats::atan2_64` meets its contract. Assumes nothing.
 use borrow.Author.Needs.{needs}
-use native.Mathlib.Omega.{arith}
 use Rattle.floats.proofs.atan2_64.Statement.{statement}
 use Rattle.floats.proofs.atan2_64.Tie as tie
-use mathlib.Core.Path.{_≡_, sym, ap, _∙_}
-use mathlib.Core.Logic.{_⊎_, ⊎-elim}
-use mathlib.Core.Bool.{Bool, true, false, cond, _&&_}
-use lib.Ieee.{Float, binary64, lt, eq}
+use mathlib.Core.Path.{_≡_}
+use mathlib.Core.Logic.{⊎-elim}
+use mathlib.Core.Bool.{true, false, _&&_}
+use lib.Ieee.{eq}
 use Rattle.floats.specs.Trig.{arctangent}
 use Rattle.floats.specs.Number.{num}
 use Rattle.floats.proofs.Trigs.{zero-is, two-is, pi-is, both-left, both-right, both-no}

@@ -4,14 +4,12 @@ use native.Mathlib.Omega.{arith}
 use Rattle.floats.proofs.atan_series.Statement.{statement}
 use Rattle.floats.proofs.atan_series.Tie as tie
 use mathlib.Core.Path.{_≡_, refl, sym, ap, _∙_}
-use Prim.Native.Nat.{ℕ, _-_, _≤_}
-use lib.Ieee.{Float, binary64}
-use Rattle.floats.specs.Trig.{atanFrom}
-use Rattle.floats.specs.Number.{num}
+use Prim.Native.Nat.{_≤_}
+use Rattle.floats.specs.Trig.{atanTerms, atanFrom}
 use Rattle.floats.proofs.Trigs.{zero-is, atan-turn, atan-end}
 
 abbrev Inv-loop : tie.InvT-loop
-Inv-loop u p₀ k₀ p k = (k ≤ 16) × (atanFrom k u p ≡ atanFrom 16 u p₀)
+Inv-loop u p₀ k₀ p k = (k ≤ atanTerms) × (atanFrom k u p ≡ atanFrom atanTerms u p₀)
 
 abbrev μ-loop : tie.MeasureT-loop
 μ-loop u p₀ k₀ p k = k
@@ -43,7 +41,7 @@ returns : tie.Need-returns Inv-loop μ-loop
 returns c =
     let l = c .before .loop in
     let u = c .before .before .args .u in
-    sym (atan-end (l .k) u (l .p) (omega arith)) ∙ l .inv .1 ∙ ap (atanFrom 16 u) zero-is
+    sym (atan-end (l .k) u (l .p) (omega arith)) ∙ l .inv .1 ∙ ap (atanFrom atanTerms u) zero-is
 
 pub atan-series-spec : {M : Type 1} → statement M
 atan-series-spec = tie.close (tie.spec Inv-loop μ-loop loop-holds sub-k mul-p add-p int-to-float-p loop-less loop-again returns)

@@ -1,13 +1,8 @@
 -- `floats::reduced` meets its contract. Assumes nothing.
 use borrow.Author.Needs.{needs}
-use native.Mathlib.Omega.{arith}
 use Rattle.floats.proofs.reduced.Statement.{statement}
 use Rattle.floats.proofs.reduced.Tie as tie
-use mathlib.Core.Path.{_≡_, ap, _∙_}
-use lib.Ieee.{Float, binary64, add, sub, mul, div, ofBits}
-use Rattle.floats.specs.Floor.{floor}
-use Rattle.floats.specs.Trig.{reduce, tau}
-use Rattle.floats.specs.Number.{near}
+use Rattle.floats.specs.Trig.{reduce}
 use Rattle.floats.proofs.Trigs.{tau-is, half-is}
 
 floor64-requires : tie.Need-floor64-requires
