@@ -1,7 +1,7 @@
 -- Signed numbers and floats: their patterns, the way back, and a NaN's patterns. Assumes nothing.
 use mathlib.Core.Path.{_≡_, refl, sym, ap, _∙_, subst}
 use mathlib.Core.Bool.{Bool, true, false, not, cond, true≢false}
-use mathlib.Core.List.{List}
+use mathlib.Core.List.{List, _++_}
 use Prim.Native.Nat.{ℕ, suc, _+_, _-_, _*_, _%_, _^_, _≤_, _<_}
 use native.Mathlib.Nat.{pow-suc}
 use native.Mathlib.Omega.{arith}
@@ -18,7 +18,7 @@ use lib.Ieee.{Float, nan, inf, fin, Format, binary32, binary64, top, hid, ones, 
 use lib.Ieee.Bits.{is-true, ofBits-toBits, toBits-lt, nanBits-is, nanBits-above}
 use lib.Ieee.Compare.{differs-from-itself, nan-differs}
 use Rattle.endian.specs.Bytes.{bytesOf, numberAt, bitsOf, floatAt, signedBits, signedOf}
-use Rattle.endian.proofs.Stores.{number-put}
+use Rattle.endian.proofs.Stores.{number-put, number-field}
 
 -- ---- two's complement in h + 1 bits
 
@@ -40,12 +40,7 @@ signed-back h (negsuc k) b =
     back : (k p : ℕ) → k < p → p - suc (p - suc k) ≡ k
     back k p h = omega arith
 
--- the machine's two readings of 32 bits are these definitions
-pub bits-is : (z : ℤ) → ofZ w32 z ≡ signedBits 32 z
-unfolding signedBits
-bits-is (pos n) = refl
-bits-is (negsuc k) = refl
-
+-- the machine's signed reading of 32 bits is this definition
 pub number-is : (n : ℕ) → toZ w32 n ≡ signedOf 32 n
 unfolding signedOf
 number-is n = go (ltb n (2 ^ 31))
@@ -102,16 +97,24 @@ unfolding div ofBits
 zero-by-zero binary32 = refl
 zero-by-zero binary64 = refl
 
--- ---- get undoes put
+-- ---- get undoes put, and reads a field between others; `wide` says that k bytes hold the pattern
 
-pub signed-put : (h k : ℕ) (z : ℤ) (l : List ℕ) (at : ℕ) → 2 ^ suc h ≡ 256 ^ k → mag z < 2 ^ h → at + k ≤ length l
-    → signedOf (suc h) (numberAt k (sets l at (bytesOf k (signedBits (suc h) z))) at) ≡ z
-signed-put h k z l at e b r =
-    ap (signedOf (suc h)) (number-put k (signedBits (suc h) z) l at r (subst (λ (n : ℕ). signedBits (suc h) z < n) e (signed-lt h z b)))
-    ∙ signed-back h z b
+module _ (h k : ℕ) (z : ℤ) (wide : 2 ^ suc h ≡ 256 ^ k) (in-range : mag z < 2 ^ h) where
+  pub signed-small : signedBits (suc h) z < 256 ^ k
+  signed-small = subst (λ (n : ℕ). signedBits (suc h) z < n) wide (signed-lt h z in-range)
 
-pub float-put : (f : Format) (k : ℕ) (x : Float) (l : List ℕ) (at : ℕ) → 2 * top f ≡ 256 ^ k → T (fits f x) → at + k ≤ length l
-    → floatAt f k (sets l at (bytesOf k (bitsOf f x))) at ≡ x
-float-put f k x l at e t r =
-    ap (ofBits f) (number-put k (bitsOf f x) l at r (subst (λ (n : ℕ). bitsOf f x < n) e (toBits-lt f x t)))
-    ∙ ofBits-toBits f x t
+  pub signed-put : (l : List ℕ) (at : ℕ) → at + k ≤ length l → signedOf (suc h) (numberAt k (sets l at (bytesOf k (signedBits (suc h) z))) at) ≡ z
+  signed-put l at r = ap (signedOf (suc h)) (number-put k (signedBits (suc h) z) l at r signed-small) ∙ signed-back h z in-range
+
+  pub signed-field : (a rest : List ℕ) (at : ℕ) → length a ≡ at → signedOf (suc h) (numberAt k (a ++ bytesOf k (signedBits (suc h) z) ++ rest) at) ≡ z
+  signed-field a rest at e = ap (signedOf (suc h)) (number-field k (signedBits (suc h) z) a rest at e signed-small) ∙ signed-back h z in-range
+
+module _ (f : Format) (k : ℕ) (x : Float) (wide : 2 * top f ≡ 256 ^ k) (held : T (fits f x)) where
+  pub pattern-small : bitsOf f x < 256 ^ k
+  pattern-small = subst (λ (n : ℕ). bitsOf f x < n) wide (toBits-lt f x held)
+
+  pub float-put : (l : List ℕ) (at : ℕ) → at + k ≤ length l → floatAt f k (sets l at (bytesOf k (bitsOf f x))) at ≡ x
+  float-put l at r = ap (ofBits f) (number-put k (bitsOf f x) l at r pattern-small) ∙ ofBits-toBits f x held
+
+  pub float-field : (a rest : List ℕ) (at : ℕ) → length a ≡ at → floatAt f k (a ++ bytesOf k (bitsOf f x) ++ rest) at ≡ x
+  float-field a rest at e = ap (ofBits f) (number-field k (bitsOf f x) a rest at e pattern-small) ∙ ofBits-toBits f x held

@@ -2,8 +2,9 @@
 use mathlib.Core.Path.{_≡_, refl}
 use mathlib.Core.Bool.{false}
 use mathlib.Core.List.{[], _∷_}
+use Prim.Native.Nat.{ℕ, _*_, _^_}
 use lib.IntN.{pos, negsuc}
-use lib.Ieee.{nan, inf, binary32, binary64, ofBits, toBits}
+use lib.Ieee.{nan, inf, binary32, binary64, ofBits, toBits, top}
 use Rattle.endian.specs.Bytes.{bytesOf, numberOf, bitsOf, signedBits, signedOf}
 
 -- the least significant byte comes first
@@ -25,3 +26,7 @@ patterns = (refl, refl, refl)
 signs : (signedBits 32 (negsuc 0) ≡ 0xffff_ffff) × (signedOf 32 0x8000_0000 ≡ negsuc 0x7fff_ffff) × (signedOf 32 0x7fff_ffff ≡ pos 0x7fff_ffff)
 unfolding signedBits signedOf
 signs = (refl, refl, refl)
+
+-- the widths at which the laws of Values are used
+widths : (2 * top binary32 ≡ 256 ^ 4) × (2 * top binary64 ≡ 256 ^ 8) × (_≡_ {A = ℕ} (2 ^ 32) (256 ^ 4))
+widths = (refl, refl, refl)
