@@ -1,0 +1,4 @@
+-- The definitions that the laws of `rates` are about.
+pub mod Numbers
+pub mod Rounding
+pub mod Rates
