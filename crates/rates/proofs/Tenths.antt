@@ -2,25 +2,25 @@
 use mathlib.Core.Path.{_≡_, refl, sym, ap, _∙_, subst}
 use mathlib.Core.Bool.{Bool, true, false}
 use Prim.Native.Nat.{ℕ, suc, _+_, _-_, _*_, _/_, _%_, _^_, _≤_, _<_}
-use native.Mathlib.Nat.{le-trans, le-of-eq, mul-assoc, mul-le-mul-right, pos-of-ne-zero}
+use native.Mathlib.Nat.{mul-assoc, mul-one, mul-le-mul-right, pos-of-ne-zero}
 use native.Mathlib.Omega.{arith}
 use lib.Arith.{lt-of-le-ne}
 use lib.Dec.{leb, ltb, eqb}
 use lib.IntN.{negsuc}
 use lib.Ieee.{Float, binary64, round, add, mul, lt, le, ofInt, toUnsigned}
-use lib.Ieee.Exact.{HasValue}
+use lib.Ieee.Positive as P
 use borrow.Author.Tests.{eqb-true, eqb-false}
 use Rattle.floats.specs.Number.{num}
 use Rattle.rates.specs.Rounding.{roundHalfAway}
 use Rattle.rates.proofs.Short.{short}
-use Rattle.rates.proofs.Between.{Lies, rounded, of-value, sum-lies, less-lies, below-whole, above-whole, up-to-whole, rounded-away}
+use Rattle.rates.proofs.Between.{Lies, Factor, rounded, of-value, whole-factor, positive-factor, sum-lies, less-lies, below-whole, above-whole, up-to-whole, rounded-away}
 
 -- how many 1,024ths it may be off
 abbrev pub off : ℕ → ℕ
 off w = (w % 5 + 4) / 5
 
-abbrev pub Tenths : Float → ℕ → Type 0
-Tenths v w = Lies v (1024 * w / 10 - off w) (1024 * w / 10 + off w)
+pub record Tenths (v : Float) (w : ℕ) : Type 0 where
+  pub near : Lies v (1024 * w / 10 - off w) (1024 * w / 10 + off w)
 
 -- `off` is 0 where 5 divides w, else 1
 module _ (C : ℕ → Type 0) (w : ℕ) (whole : w % 5 ≡ 0 → C 0) (other : 0 < w % 5 → C 1) where
@@ -49,7 +49,8 @@ under-five w n h k = lt-of-le-ne k (missed w n h)
 
 -- a / c is w / 10 but for at most one part in 2^54
 pub tenths : (a c w : ℕ) → 0 < c → 10 ≤ w → w ≤ 2 ^ 20 → a < 2 ^ 20 * c → 2 ^ 54 * (w * c) ≤ 2 ^ 54 * (10 * a) + 10 * a → 2 ^ 54 * (10 * a) ≤ 2 ^ 54 * (w * c) + 10 * a → Tenths (round binary64 false a c) w
-tenths a c w C W M S above below = cases (λ z. Lies (round binary64 false a c) (1024 * w / 10 - z) (1024 * w / 10 + z)) w exactly nearly
+tenths a c w C W M S above below =
+    record { near = cases (λ z. Lies (round binary64 false a c) (1024 * w / 10 - z) (1024 * w / 10 + z)) w exactly nearly }
   where
     fifth : w % 5 ≡ 0 → w * c ≡ 5 * (w / 5 * c)
     fifth e = ap (λ (z : ℕ). z * c) (go w e) ∙ mul-assoc 5 (w / 5) c
@@ -71,9 +72,9 @@ tenths a c w C W M S above below = cases (λ z. Lies (round binary64 false a c) 
 
     nearly : 0 < w % 5 → Lies (round binary64 false a c) (1024 * w / 10 - 1) (1024 * w / 10 + 1)
     nearly _ =
-        rounded a c (1024 * w / 10 - 1) (1024 * w / 10 + 1) C (omega arith) (omega arith) (omega arith)
-        (low (1024 * w / 10 - 1) (w * c) a c ((1024 * w / 10 - 1) * c) (times (1024 * w / 10 - 1) w (omega arith)) S above)
-        (high (1024 * w / 10 + 1) (w * c) a c ((1024 * w / 10 + 1) * c) (times' (1024 * w / 10 + 1) w (omega arith)) S below)
+        rounded a c (1024 * w / 10 - 1) (1024 * w / 10 + 1) C (omega arith)
+        (low (w * c) a c ((1024 * w / 10 - 1) * c) (times (1024 * w / 10 - 1) w (omega arith)) S above)
+        (high (w * c) a c ((1024 * w / 10 + 1) * c) (times' (1024 * w / 10 + 1) w (omega arith)) S below)
       where
         times : (t w : ℕ) → 10 * t + 10 ≤ 1024 * w → 10 * (t * c) + 10 * c ≤ 1024 * (w * c)
         times t w h = let m : (10 * t + 10) * c ≤ 1024 * w * c = mul-le-mul-right c h in omega arith
@@ -81,43 +82,58 @@ tenths a c w C W M S above below = cases (λ z. Lies (round binary64 false a c) 
         times' : (t w : ℕ) → 1024 * w + 1 ≤ 10 * t → 1024 * (w * c) + c ≤ 10 * (t * c)
         times' t w h = let m : (1024 * w + 1) * c ≤ 10 * t * c = mul-le-mul-right c h in omega arith
 
-        low : (t x a c y : ℕ) → 10 * y + 10 * c ≤ 1024 * x → a < 2 ^ 20 * c → 2 ^ 54 * x ≤ 2 ^ 54 * (10 * a) + 10 * a → y ≤ a * 1024
-        low t x a c y h s k = omega arith
+        low : (x a c y : ℕ) → 10 * y + 10 * c ≤ 1024 * x → a < 2 ^ 20 * c → 2 ^ 54 * x ≤ 2 ^ 54 * (10 * a) + 10 * a → y ≤ a * 1024
+        low x a c y h s k = omega arith
 
-        high : (t x a c y : ℕ) → 1024 * x + c ≤ 10 * y → a < 2 ^ 20 * c → 2 ^ 54 * (10 * a) ≤ 2 ^ 54 * x + 10 * a → a * 1024 ≤ y
-        high t x a c y h s k = omega arith
+        high : (x a c y : ℕ) → 1024 * x + c ≤ 10 * y → a < 2 ^ 20 * c → 2 ^ 54 * (10 * a) ≤ 2 ^ 54 * x + 10 * a → a * 1024 ≤ y
+        high x a c y h s k = omega arith
 
--- a whole number and v
-pub sum-tenths : (t w : ℕ) (v : Float) → t ≤ 2 ^ 41 → 10 ≤ w → w ≤ 2 ^ 20 → Tenths v w → Tenths (add binary64 (num t) v) (10 * t + w)
-sum-tenths t w v M W U h =
-    subst (λ (z : ℕ). Lies (add binary64 (num t) v) z (1024 * (10 * t + w) / 10 + off (10 * t + w))) (low t w W)
-    (subst (λ (z : ℕ). Lies (add binary64 (num t) v) (1024 * t + (1024 * w / 10 - off w)) z) (high t w)
-    (sum-lies t (1024 * w / 10 - off w) (1024 * w / 10 + off w) v M (omega arith) (omega arith) (omega arith) h))
-  where
-    same : (t w : ℕ) → (10 * t + w) % 5 ≡ w % 5
-    same t w = omega arith
+-- a factor and a whole number n
+pub product-tenths : {q : Float} {a c : ℕ} → Factor q a c → (n w : ℕ)
+    → (0 < n) × (n ≤ 2 ^ 53) × (10 ≤ w) × (w ≤ 2 ^ 20) × (a * n < 2 ^ 20 * c) × (2 ^ 54 * (w * c) ≤ 2 ^ 54 * (10 * (a * n)) + 10 * (a * n)) × (2 ^ 54 * (10 * (a * n)) ≤ 2 ^ 54 * (w * c) + 10 * (a * n))
+    → Tenths (mul binary64 q (num n)) w
+product-tenths {q} {a} {c} k n w s =
+    let one = whole-factor n (s .0) (s .1) in
+    subst (λ (v : Float). Tenths v w)
+    (sym (P.mul-at binary64 q (num n) a c n 1 (positive-factor k) (positive-factor one) (k .over-zero .1) (omega arith) (k .value) (one .value) ∙ ap (λ (z : ℕ). round binary64 false (a * n) z) (mul-one c)))
+    (tenths (a * n) c w (k .over-zero .1) (s .2) (s .3) (s .4) (s .5) (s .6))
 
-    low : (t w : ℕ) → 10 ≤ w → 1024 * t + (1024 * w / 10 - off w) ≡ 1024 * (10 * t + w) / 10 - off (10 * t + w)
-    low t w h = rw (same t w) (omega arith)
+module _ {v : Float} {w : ℕ} (h : Tenths v w) (U : w ≤ 2 ^ 20) where
+  -- a whole number and v
+  pub sum-tenths : (t : ℕ) → t ≤ 2 ^ 41 → 10 ≤ w → Tenths (add binary64 (num t) v) (10 * t + w)
+  sum-tenths t M W =
+      record {
+        near = subst (λ (z : ℕ). Lies (add binary64 (num t) v) z (1024 * (10 * t + w) / 10 + off (10 * t + w))) (low t w W)
+            (subst (λ (z : ℕ). Lies (add binary64 (num t) v) (1024 * t + (1024 * w / 10 - off w)) z) (high t w)
+            (sum-lies (h .near) (omega arith) t M (omega arith)));
+      }
+    where
+      same : (t w : ℕ) → (10 * t + w) % 5 ≡ w % 5
+      same t w = omega arith
 
-    high : (t w : ℕ) → 1024 * t + (1024 * w / 10 + off w) ≡ 1024 * (10 * t + w) / 10 + off (10 * t + w)
-    high t w = rw (same t w) (omega arith)
+      low : (t w : ℕ) → 10 ≤ w → 1024 * t + (1024 * w / 10 - off w) ≡ 1024 * (10 * t + w) / 10 - off (10 * t + w)
+      low t w h = rw (same t w) (omega arith)
 
--- v less 1
-pub less-tenths : (w : ℕ) (v : Float) → 20 ≤ w → w ≤ 2 ^ 20 → Tenths v w → Tenths (add binary64 (ofInt binary64 (negsuc 0)) v) (w - 10)
-less-tenths w v W U h =
-    subst (λ (z : ℕ). Lies (add binary64 (ofInt binary64 (negsuc 0)) v) z (1024 * (w - 10) / 10 + off (w - 10))) (low w W)
-    (subst (λ (z : ℕ). Lies (add binary64 (ofInt binary64 (negsuc 0)) v) (1024 * w / 10 - off w - 1024) z) (high w W)
-    (less-lies (1024 * w / 10 - off w) (1024 * w / 10 + off w) v (omega arith) (omega arith) (omega arith) h))
-  where
-    same : (w : ℕ) → 20 ≤ w → (w - 10) % 5 ≡ w % 5
-    same w h = omega arith
+      high : (t w : ℕ) → 1024 * t + (1024 * w / 10 + off w) ≡ 1024 * (10 * t + w) / 10 + off (10 * t + w)
+      high t w = rw (same t w) (omega arith)
 
-    low : (w : ℕ) → 20 ≤ w → 1024 * w / 10 - off w - 1024 ≡ 1024 * (w - 10) / 10 - off (w - 10)
-    low w h = rw (same w h) (omega arith)
+  -- v less 1
+  pub less-tenths : 20 ≤ w → Tenths (add binary64 (ofInt binary64 (negsuc 0)) v) (w - 10)
+  less-tenths W =
+      record {
+        near = subst (λ (z : ℕ). Lies (add binary64 (ofInt binary64 (negsuc 0)) v) z (1024 * (w - 10) / 10 + off (w - 10))) (low w W)
+            (subst (λ (z : ℕ). Lies (add binary64 (ofInt binary64 (negsuc 0)) v) (1024 * w / 10 - off w - 1024) z) (high w W)
+            (less-lies (h .near) (omega arith) (omega arith)));
+      }
+    where
+      same : (w : ℕ) → 20 ≤ w → (w - 10) % 5 ≡ w % 5
+      same w h = omega arith
 
-    high : (w : ℕ) → 20 ≤ w → 1024 * w / 10 + off w - 1024 ≡ 1024 * (w - 10) / 10 + off (w - 10)
-    high w h = rw (same w h) (omega arith)
+      low : (w : ℕ) → 20 ≤ w → 1024 * w / 10 - off w - 1024 ≡ 1024 * (w - 10) / 10 - off (w - 10)
+      low w h = rw (same w h) (omega arith)
+
+      high : (w : ℕ) → 20 ≤ w → 1024 * w / 10 + off w - 1024 ≡ 1024 * (w - 10) / 10 + off (w - 10)
+      high w h = rw (same w h) (omega arith)
 
 -- ---- w / 10 and a whole number d
 
@@ -133,19 +149,19 @@ up-to w d h = cases (λ z. 1024 * w / 10 + z ≤ 1024 * d) w (λ e. omega arith)
 under : (w d : ℕ) → w < 10 * d → 1024 * w / 10 + off w < 1024 * d
 under w d h = omega arith
 
-module _ (v : Float) (w d : ℕ) (h : Tenths v w) (D : d ≤ 2 ^ 53) where
+module _ {v : Float} {w : ℕ} (h : Tenths v w) (d : ℕ) (D : d ≤ 2 ^ 53) where
   pub tenths-below : lt v (num d) ≡ ltb w (10 * d)
-  tenths-below = below-whole v (1024 * w / 10 - off w) (1024 * w / 10 + off w) d h D w (10 * d) (under w d) (from w d)
+  tenths-below = below-whole (h .near) d D w (10 * d) (under w d) (from w d)
 
   pub tenths-above : lt (num d) v ≡ ltb (10 * d) w
-  tenths-above = above-whole v (1024 * w / 10 - off w) (1024 * w / 10 + off w) d h D (10 * d) w (past w d) (up-to w d)
+  tenths-above = above-whole (h .near) d D (10 * d) w (past w d) (up-to w d)
 
   pub tenths-up-to : le v (num d) ≡ leb w (10 * d)
-  tenths-up-to = up-to-whole v (1024 * w / 10 - off w) (1024 * w / 10 + off w) d h D w (10 * d) (up-to w d) (past w d)
+  tenths-up-to = up-to-whole (h .near) d D w (10 * d) (up-to w d) (past w d)
 
 -- rounded, halves away from zero
-pub tenths-away : (v : Float) (w : ℕ) → w ≤ 2 ^ 20 → Tenths v w → toUnsigned 64 (roundHalfAway v) ≡ (w + 5) / 10
-tenths-away v w W h = rounded-away v (1024 * w / 10 - off w) (1024 * w / 10 + off w) ((w + 5) / 10) h (omega arith) (low w) (high w)
+pub tenths-away : {v : Float} {w : ℕ} → Tenths v w → w ≤ 2 ^ 20 → toUnsigned 64 (roundHalfAway v) ≡ (w + 5) / 10
+tenths-away {v} {w} h W = rounded-away (h .near) ((w + 5) / 10) (omega arith, low w, high w)
   where
     low : (w : ℕ) → 1024 * ((w + 5) / 10) ≤ 1024 * w / 10 - off w + 512
     low w = cases (λ z. 1024 * ((w + 5) / 10) ≤ 1024 * w / 10 - z + 512) w (λ e. omega arith) (λ e. let g = over-five (w + 5) (2 * ((w + 5) / 10)) (omega arith) (omega arith) in omega arith)

@@ -16,78 +16,63 @@ use Rattle.rates.specs.Numbers.{gapS, settleS, trackerQuietS, keepS}
 use Rattle.rates.proofs.Near.{sub-at, int-value}
 use Rattle.rates.proofs.Opposed.{sub-under}
 use Rattle.rates.proofs.Values.{same-leb, le-values, le-negative, lt-infinity}
-use Rattle.rates.proofs.Between.{Lies, whole-lies, left-times-lies, below-whole}
-use Rattle.rates.proofs.Tenths.{Tenths, tenths, sum-tenths, less-tenths, tenths-below, tenths-above, tenths-up-to}
+use Rattle.rates.proofs.Between.{Lies, Factor, whole-lies, whole-factor, positive-factor, flipped, left-times-lies, below-whole}
+use Rattle.rates.proofs.Tenths.{Tenths, product-tenths, sum-tenths, less-tenths, tenths-below, tenths-above, tenths-up-to}
 use Rattle.rates.proofs.Rates.{three-tenths}
 
-gap-value : HasValue gapS false 3602879701896397 (2 ^ 55)
+gap-value : Factor gapS 3602879701896397 (2 ^ 55)
 unfolding round
-gap-value = (refl, refl)
+gap-value = record { over-zero = omega arith; value = (refl, refl) }
 
-gap-positive : T (P.positive gapS)
-gap-positive = P.positive-of-value gapS 3602879701896397 (2 ^ 55) gap-value (omega arith)
+settle-value : Factor settleS 5404319552844595 (2 ^ 54)
+unfolding round
+settle-value = record { over-zero = omega arith; value = (refl, refl) }
 
 -- any number is below infinity, which stands for a signal that never was
 never : (v : Float) → T (P.positive v) → lt v (inf false) ≡ true
 never v p = lt-infinity v (P.num v) (P.den v) (P.own-value v p)
 
 module _ (r : ℕ) (lo : lowestRate ≤ r) (hi : r ≤ highestRate) where
-  rate-value : HasValue (num r) false r 1
-  rate-value = int-value r (omega arith)
-
-  rate-positive : T (P.positive (num r))
-  rate-positive = P.positive-of-value (num r) r 1 rate-value (omega arith)
+  rate-lies : Lies (num r) (1024 * r) (1024 * r)
+  rate-lies = whole-lies r (omega arith) (omega arith)
 
   -- GAP_S * rate, and rate * GAP_S
   gap-tenths : Tenths (mul binary64 gapS (num r)) r
-  gap-tenths =
-      subst (λ (v : Float). Tenths v r)
-      (sym (P.mul-at binary64 gapS (num r) 3602879701896397 (2 ^ 55) r 1 gap-positive rate-positive (omega arith) (omega arith) gap-value rate-value))
-      (tenths (3602879701896397 * r) (2 ^ 55 * 1) r (omega arith) (omega arith) (omega arith) (omega arith) (omega arith) (omega arith))
+  gap-tenths = product-tenths gap-value r r (omega arith)
 
   late-tenths : Tenths (mul binary64 (num r) gapS) r
-  late-tenths =
-      subst (λ (v : Float). Tenths v r)
-      (sym (P.mul-at binary64 (num r) gapS r 1 3602879701896397 (2 ^ 55) rate-positive gap-positive (omega arith) (omega arith) rate-value gap-value))
-      (tenths (r * 3602879701896397) (1 * 2 ^ 55) r (omega arith) (omega arith) (omega arith) (omega arith) (omega arith) (omega arith))
+  late-tenths = subst (λ (v : Float). Tenths v r) (flipped gapS (num r) (positive-factor gap-value) (rate-lies .above-zero)) gap-tenths
 
   -- since_signal() > GAP_S * rate, where the signal was d samples ago, and where it never was
   pub gap-is : (d : ℕ) → d ≤ 2 ^ 41 → lt (mul binary64 gapS (num r)) (num d) ≡ ltb r (10 * d)
-  gap-is d D = tenths-below (mul binary64 gapS (num r)) r d gap-tenths (omega arith)
+  gap-is d D = tenths-below gap-tenths d (omega arith)
 
   pub gap-never : lt (mul binary64 gapS (num r)) (inf false) ≡ true
-  gap-never = never (mul binary64 gapS (num r)) (gap-tenths .above-zero)
+  gap-never = never (mul binary64 gapS (num r)) (gap-tenths .near .above-zero)
 
   -- d < SETTLE_S * rate
   pub settle-is : (d : ℕ) → d ≤ 2 ^ 41 → lt (num d) (mul binary64 settleS (num r)) ≡ ltb (10 * d) (3 * r)
-  settle-is d D = tenths-above (mul binary64 settleS (num r)) (3 * r) d (three-tenths r lo hi) (omega arith)
+  settle-is d D = tenths-above (three-tenths settle-value r lo hi) d (omega arith)
 
   -- at < tuned_at + SETTLE_S * rate
   pub settling-is : (t a : ℕ) → t ≤ 2 ^ 41 → a ≤ 2 ^ 41 → lt (num a) (add binary64 (num t) (mul binary64 settleS (num r))) ≡ ltb (10 * a) (10 * t + 3 * r)
-  settling-is t a M A =
-      tenths-above (add binary64 (num t) (mul binary64 settleS (num r))) (10 * t + 3 * r) a
-      (sum-tenths t (3 * r) (mul binary64 settleS (num r)) M (omega arith) (omega arith) (three-tenths r lo hi)) (omega arith)
+  settling-is t a M A = tenths-above (sum-tenths (three-tenths settle-value r lo hi) (omega arith) t M (omega arith)) a (omega arith)
 
   -- at >= frame_from + rate * GAP_S, and with frame_from -1
   pub late-is : (f a : ℕ) → f ≤ 2 ^ 41 → a ≤ 2 ^ 41 → le (add binary64 (num f) (mul binary64 (num r) gapS)) (num a) ≡ leb (10 * f + r) (10 * a)
-  late-is f a F A =
-      tenths-up-to (add binary64 (num f) (mul binary64 (num r) gapS)) (10 * f + r) a
-      (sum-tenths f r (mul binary64 (num r) gapS) F (omega arith) (omega arith) late-tenths) (omega arith)
+  late-is f a F A = tenths-up-to (sum-tenths late-tenths (omega arith) f F (omega arith)) a (omega arith)
 
   pub late-never : (a : ℕ) → a ≤ 2 ^ 41 → le (add binary64 (ofInt binary64 (negsuc 0)) (mul binary64 (num r) gapS)) (num a) ≡ leb r (10 * a + 10)
   late-never a A =
-      tenths-up-to (add binary64 (ofInt binary64 (negsuc 0)) (mul binary64 (num r) gapS)) (r - 10) a
-      (less-tenths r (mul binary64 (num r) gapS) (omega arith) (omega arith) late-tenths) (omega arith)
+      tenths-up-to (less-tenths late-tenths (omega arith) (omega arith)) a (omega arith)
       ∙ same-leb (r - 10) (10 * a) r (10 * a + 10) (λ h. omega arith) (λ h. omega arith)
 
   -- since_signal() > QUIET_S * rate
   quiet-lies : Lies (mul binary64 trackerQuietS (num r)) (1024 * (10 * r)) (1024 * (10 * r))
-  quiet-lies =
-      left-times-lies (num r) trackerQuietS (1024 * r) (1024 * r) 10 1 (whole-lies r (omega arith) (omega arith)) (omega arith) (omega arith) (int-value 10 (omega arith))
-      (1024 * (10 * r)) (1024 * (10 * r)) (omega arith) (omega arith) (omega arith) (omega arith) (omega arith)
+  quiet-lies = left-times-lies rate-lies (whole-factor 10 (omega arith) (omega arith)) (1024 * (10 * r)) (1024 * (10 * r)) (omega arith)
 
   pub quiet-is : (d : ℕ) → d ≤ 2 ^ 41 → lt (mul binary64 trackerQuietS (num r)) (num d) ≡ ltb (10 * r) d
-  quiet-is d D = below-whole (mul binary64 trackerQuietS (num r)) (1024 * (10 * r)) (1024 * (10 * r)) d quiet-lies (omega arith) (10 * r) d (λ h. omega arith) (λ h. omega arith)
+  quiet-is d D = below-whole quiet-lies d (omega arith) (10 * r) d (λ h. omega arith) (λ h. omega arith)
 
   pub quiet-never : lt (mul binary64 trackerQuietS (num r)) (inf false) ≡ true
   quiet-never = never (mul binary64 trackerQuietS (num r)) (quiet-lies .above-zero)
@@ -95,8 +80,9 @@ module _ (r : ℕ) (lo : lowestRate ≤ r) (hi : r ≤ highestRate) where
   -- at >= n - KEEP_S * rate
   keep-value : HasValue (mul binary64 keepS (num r)) false (60 * r) 1
   keep-value =
+      let k = whole-factor 60 (omega arith) (omega arith) in
       subst (λ (v : Float). HasValue v false (60 * r) 1)
-      (sym (P.mul-at binary64 keepS (num r) 60 1 r 1 (P.positive-of-value keepS 60 1 (int-value 60 (omega arith)) (omega arith)) rate-positive (omega arith) (omega arith) (int-value 60 (omega arith)) rate-value))
+      (sym (P.mul-at binary64 keepS (num r) 60 1 r 1 (positive-factor k) (rate-lies .above-zero) (omega arith) (omega arith) (k .value) (int-value r (omega arith))))
       (round-whole binary64 false (60 * r) (omega arith))
 
   pub kept-is : (n a : ℕ) → n ≤ 2 ^ 41 → a ≤ 2 ^ 41 → le (sub binary64 (num n) (mul binary64 keepS (num r))) (num a) ≡ leb n (a + 60 * r)
