@@ -1,7 +1,7 @@
 -- The sum of two values of opposite signs, the second the larger. Assumes nothing.
-use mathlib.Core.Path.{_≡_, refl, sym, ap, _∙_, subst}
+use mathlib.Core.Path.{_≡_, refl, sym, ap, _∙_}
 use mathlib.Core.Bool.{Bool, true, false, not, cond, true≢false}
-use Prim.Native.Nat.{ℕ, _+_, _-_, _*_, _≤_, _<_}
+use Prim.Native.Nat.{ℕ, _-_, _*_, _<_}
 use native.Mathlib.Nat.{mul-pos, mul-assoc, mul-comm, mul-right-comm, mul-sub, mul-lt-mul-of-pos-right}
 use borrow.Author.Tests.{lt-ltb}
 use lib.Dec.{ltb}

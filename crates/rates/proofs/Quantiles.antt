@@ -20,7 +20,7 @@ level-value = record { over-zero = omega arith; value = (refl, refl) }
 index-is : {q : Float} {a c : ℕ} → Factor q a c → (n l k : ℕ)
     → (0 < n) × (n ≤ 2 ^ 40) × (0 < l) × (l < 2 ^ 52) × (l * c ≤ 1024 * n * a) × (1024 * n * a ≤ (l + 1) * c) × (1024 * k ≤ l) × (l + 1 < 1024 * suc k) → indexAt q n ≡ k
 index-is f n l k s =
-    floored (times-lies (whole-lies n (s .0) (omega arith)) f l (l + 1) (s .2, omega arith, omega arith, s .4, s .5)) k (omega arith, s .6, s .7)
+    floored (times-lies (whole-lies n (omega arith)) f l (l + 1) (s .2, omega arith, omega arith, s .4, s .5)) k (omega arith, s .6, s .7)
 
 pub fifth-is : (n : ℕ) → n ≤ 2 ^ 40 → fifthOf n ≡ n / 5
 unfolding fifthOf ofInt round mul floor toUnsigned

@@ -2,7 +2,7 @@
 use mathlib.Core.Path.{_≡_, refl, sym, ap, _∙_, subst}
 use mathlib.Core.Bool.{Bool, true, false}
 use mathlib.Core.Logic.{inl, inr}
-use Prim.Native.Nat.{ℕ, suc, _+_, _-_, _*_, _/_, _^_, _≤_, _<_}
+use Prim.Native.Nat.{ℕ, _+_, _-_, _*_, _/_, _^_, _≤_, _<_}
 use native.Mathlib.Nat.{eq-or-lt-of-le}
 use native.Mathlib.Omega.{arith}
 use lib.Dec.{T, leb, ltb}
@@ -87,7 +87,7 @@ three-tenths k r lo hi = product-tenths k r (3 * r) (omega arith)
 
 module _ (r : ℕ) (lo : lowestRate ≤ r) (hi : r ≤ highestRate) where
   rate-lies : Lies (num r) (1024 * r) (1024 * r)
-  rate-lies = whole-lies r (omega arith) (omega arith)
+  rate-lies = whole-lies r (omega arith)
 
   nominal-lies : Lies (nominalOf r) (1024 * r / 100) ((1024 * r + 99) / 100)
   nominal-lies = quotient-lies r bitRate (1024 * r / 100) ((1024 * r + 99) / 100) (omega arith)

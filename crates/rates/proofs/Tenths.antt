@@ -13,7 +13,7 @@ use borrow.Author.Tests.{eqb-true, eqb-false}
 use Rattle.floats.specs.Number.{num}
 use Rattle.rates.specs.Rounding.{roundHalfAway}
 use Rattle.rates.proofs.Short.{short}
-use Rattle.rates.proofs.Between.{Lies, Factor, rounded, of-value, whole-factor, positive-factor, sum-lies, less-lies, below-whole, above-whole, up-to-whole, rounded-away}
+use Rattle.rates.proofs.Between.{Lies, Factor, rounded, of-value, whole-lies, whole-factor, positive-factor, plus-lies, less-lies, below-whole, above-whole, up-to-whole, rounded-away}
 
 -- how many 1,024ths it may be off
 abbrev pub off : ℕ → ℕ
@@ -61,7 +61,7 @@ tenths a c w C W M S above below =
     exactly : w % 5 ≡ 0 → Lies (round binary64 false a c) (1024 * w / 10 - 0) (1024 * w / 10 + 0)
     exactly e =
         let f = fifth e in
-        of-value (round binary64 false a c) (w / 5) 2 (1024 * w / 10 - 0) (1024 * w / 10 + 0) (omega arith) (omega arith)
+        of-value (round binary64 false a c) (w / 5) 2 (1024 * w / 10 - 0) (1024 * w / 10 + 0) (omega arith)
         (short a c (w / 5) C (omega arith) (omega arith) (up-to (w * c) (w / 5 * c) a f above) (down-to (w * c) (w / 5 * c) a f below)) (omega arith) (omega arith)
       where
         up-to : (x y a : ℕ) → x ≡ 5 * y → 2 ^ 54 * x ≤ 2 ^ 54 * (10 * a) + 10 * a → 2 ^ 54 * y ≤ 2 ^ 54 * (2 * a) + 2 * a
@@ -105,7 +105,7 @@ module _ {v : Float} {w : ℕ} (h : Tenths v w) (U : w ≤ 2 ^ 20) where
       record {
         near = subst (λ (z : ℕ). Lies (add binary64 (num t) v) z (1024 * (10 * t + w) / 10 + off (10 * t + w))) (low t w W)
             (subst (λ (z : ℕ). Lies (add binary64 (num t) v) (1024 * t + (1024 * w / 10 - off w)) z) (high t w)
-            (sum-lies (h .near) (omega arith) t M (omega arith)));
+            (plus-lies (whole-lies t (omega arith)) (h .near) (omega arith)));
       }
     where
       same : (t w : ℕ) → (10 * t + w) % 5 ≡ w % 5

@@ -3,7 +3,7 @@ use mathlib.Core.Path.{_≡_, refl, sym, ap, _∙_, subst}
 use mathlib.Core.Bool.{Bool, true, false}
 use Prim.Native.Nat.{ℕ, _+_, _-_, _*_, _^_, _≤_, _<_}
 use native.Mathlib.Omega.{arith}
-use lib.Dec.{T, leb, ltb}
+use lib.Dec.{leb, ltb}
 use lib.IntN.{negsuc}
 use lib.Ieee.{Float, inf, binary64, round, add, sub, mul, lt, le, ofInt}
 use lib.Ieee.Exact.{HasValue}
@@ -16,7 +16,7 @@ use Rattle.rates.specs.Numbers.{gapS, settleS, trackerQuietS, keepS}
 use Rattle.rates.proofs.Near.{sub-at, int-value}
 use Rattle.rates.proofs.Opposed.{sub-under}
 use Rattle.rates.proofs.Values.{same-leb, le-values, le-negative, lt-infinity}
-use Rattle.rates.proofs.Between.{Lies, Factor, whole-lies, whole-factor, positive-factor, flipped, left-times-lies, below-whole}
+use Rattle.rates.proofs.Between.{Lies, Factor, whole-lies, whole-factor, positive-factor, lies-positive, flipped, left-times-lies, below-whole}
 use Rattle.rates.proofs.Tenths.{Tenths, product-tenths, sum-tenths, less-tenths, tenths-below, tenths-above, tenths-up-to}
 use Rattle.rates.proofs.Rates.{three-tenths}
 
@@ -29,26 +29,26 @@ unfolding round
 settle-value = record { over-zero = omega arith; value = (refl, refl) }
 
 -- any number is below infinity, which stands for a signal that never was
-never : (v : Float) → T (P.positive v) → lt v (inf false) ≡ true
-never v p = lt-infinity v (P.num v) (P.den v) (P.own-value v p)
+never : (v : Float) → HasValue v false (P.num v) (P.den v) → lt v (inf false) ≡ true
+never v h = lt-infinity v (P.num v) (P.den v) h
 
 module _ (r : ℕ) (lo : lowestRate ≤ r) (hi : r ≤ highestRate) where
   rate-lies : Lies (num r) (1024 * r) (1024 * r)
-  rate-lies = whole-lies r (omega arith) (omega arith)
+  rate-lies = whole-lies r (omega arith)
 
   -- GAP_S * rate, and rate * GAP_S
   gap-tenths : Tenths (mul binary64 gapS (num r)) r
   gap-tenths = product-tenths gap-value r r (omega arith)
 
   late-tenths : Tenths (mul binary64 (num r) gapS) r
-  late-tenths = subst (λ (v : Float). Tenths v r) (flipped gapS (num r) (positive-factor gap-value) (rate-lies .above-zero)) gap-tenths
+  late-tenths = subst (λ (v : Float). Tenths v r) (flipped gapS (num r) (positive-factor gap-value) (lies-positive rate-lies (omega arith))) gap-tenths
 
   -- since_signal() > GAP_S * rate, where the signal was d samples ago, and where it never was
   pub gap-is : (d : ℕ) → d ≤ 2 ^ 41 → lt (mul binary64 gapS (num r)) (num d) ≡ ltb r (10 * d)
   gap-is d D = tenths-below gap-tenths d (omega arith)
 
   pub gap-never : lt (mul binary64 gapS (num r)) (inf false) ≡ true
-  gap-never = never (mul binary64 gapS (num r)) (gap-tenths .near .above-zero)
+  gap-never = never (mul binary64 gapS (num r)) (gap-tenths .near .own)
 
   -- d < SETTLE_S * rate
   pub settle-is : (d : ℕ) → d ≤ 2 ^ 41 → lt (num d) (mul binary64 settleS (num r)) ≡ ltb (10 * d) (3 * r)
@@ -75,14 +75,14 @@ module _ (r : ℕ) (lo : lowestRate ≤ r) (hi : r ≤ highestRate) where
   quiet-is d D = below-whole quiet-lies d (omega arith) (10 * r) d (λ h. omega arith) (λ h. omega arith)
 
   pub quiet-never : lt (mul binary64 trackerQuietS (num r)) (inf false) ≡ true
-  quiet-never = never (mul binary64 trackerQuietS (num r)) (quiet-lies .above-zero)
+  quiet-never = never (mul binary64 trackerQuietS (num r)) (quiet-lies .own)
 
   -- at >= n - KEEP_S * rate
   keep-value : HasValue (mul binary64 keepS (num r)) false (60 * r) 1
   keep-value =
       let k = whole-factor 60 (omega arith) (omega arith) in
       subst (λ (v : Float). HasValue v false (60 * r) 1)
-      (sym (P.mul-at binary64 keepS (num r) 60 1 r 1 (positive-factor k) (rate-lies .above-zero) (omega arith) (omega arith) (k .value) (int-value r (omega arith))))
+      (sym (P.mul-at binary64 keepS (num r) 60 1 r 1 (positive-factor k) (lies-positive rate-lies (omega arith)) (omega arith) (omega arith) (k .value) (int-value r (omega arith))))
       (round-whole binary64 false (60 * r) (omega arith))
 
   pub kept-is : (n a : ℕ) → n ≤ 2 ^ 41 → a ≤ 2 ^ 41 → le (sub binary64 (num n) (mul binary64 keepS (num r))) (num a) ≡ leb n (a + 60 * r)
