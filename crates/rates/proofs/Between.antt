@@ -1,5 +1,5 @@
 -- A float that lies between two fractions of 1,024: what rounding, products, quotients and sums keep of that, and what it says of a whole number that the float is rounded to or compared with.
--- A 1,024th is finer than the nearest miss of every test and rounding of specs/Rates but one, and coarse enough that such a fraction of a number up to 2^41 is a float. Assumes nothing.
+-- A 1,024th is finer than the nearest miss of every rounding and every comparison with a count of samples, and coarse enough that all 1,024ths up to 2^41 are floats. Assumes nothing.
 use mathlib.Core.Path.{_≡_, refl, sym, ap, _∙_, subst}
 use mathlib.Core.Bool.{Bool, true, false, true≢false}
 use Prim.Native.Nat.{ℕ, suc, _+_, _-_, _*_, _/_, _^_, _≤_, _<_}

@@ -1,6 +1,5 @@
--- The laws of `rates`: Near to Between are about floats in general, the others about the numbers of specs/.
+-- The laws of `rates`: floats in general first, from Near to Tenths, then the numbers of specs/.
 pub mod Near
-pub mod Later
 pub mod Values
 pub mod Opposed
 pub mod Between
@@ -9,3 +8,5 @@ pub mod Tenths
 pub mod Rates
 pub mod Quantiles
 pub mod Tracker
+pub mod Later
+pub mod Vectors

@@ -53,8 +53,9 @@ same-burst-value : Factor sameBurstS 5404319552844595 (2 ^ 54)
 unfolding round
 same-burst-value = record { over-zero = omega arith; value = (refl, refl) }
 
--- ---- the shortest burst: a float of 20 binary places below it is not reached by a burst that is too short
+-- ---- the shortest burst
 
+-- a float of 20 binary places that is below 0.3, and above (last - first) / rate of every burst that is too short
 abbrev top : Float
 top = round binary64 false 314572 (2 ^ 20)
 
@@ -146,6 +147,7 @@ module _ (r : ℕ) (lo : lowestRate ≤ r) (hi : r ≤ highestRate) where
   pub scan-due-is : (u : ℕ) → u ≤ 2 ^ 41 → scanDue r u ≡ leb r (2 * u)
   scan-due-is u U = up-to-whole (left-times-lies rate-lies step-value (512 * r) (512 * r) (omega arith)) u (omega arith) r (2 * u) (λ h. omega arith) (λ h. omega arith)
 
+  -- d / rate is monotone in d, and a sample too few leaves it at `top` or below
   pub long-enough-is : (d : ℕ) → d ≤ 2 ^ 41 → longEnough r d ≡ leb (3 * r) (10 * d)
   long-enough-is d D =
       ap (λ (x : Float). le (div binary64 minMs msPerS) x) (div-at binary64 (num d) (num r) d r (omega arith) (int-value d (omega arith)) (int-value r (omega arith)))

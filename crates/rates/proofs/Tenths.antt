@@ -15,10 +15,11 @@ use Rattle.rates.specs.Rounding.{roundHalfAway}
 use Rattle.rates.proofs.Short.{short}
 use Rattle.rates.proofs.Between.{Lies, Factor, rounded, of-value, whole-lies, whole-factor, positive-factor, plus-lies, less-lies, below-whole, above-whole, up-to-whole, rounded-away}
 
--- how many 1,024ths it may be off
+-- by how many 1,024ths it may differ from w / 10
 abbrev pub off : ℕ → ℕ
 off w = (w % 5 + 4) / 5
 
+-- v stands for w / 10
 pub record Tenths (v : Float) (w : ℕ) : Type 0 where
   pub near : Lies v (1024 * w / 10 - off w) (1024 * w / 10 + off w)
 
@@ -48,7 +49,7 @@ under-five : (w n : ℕ) → 0 < w % 5 → w ≤ 5 * n → w < 5 * n
 under-five w n h k = lt-of-le-ne k (missed w n h)
 
 -- a / c is w / 10 but for at most one part in 2^54
-pub tenths : (a c w : ℕ) → 0 < c → 10 ≤ w → w ≤ 2 ^ 20 → a < 2 ^ 20 * c → 2 ^ 54 * (w * c) ≤ 2 ^ 54 * (10 * a) + 10 * a → 2 ^ 54 * (10 * a) ≤ 2 ^ 54 * (w * c) + 10 * a → Tenths (round binary64 false a c) w
+tenths : (a c w : ℕ) → 0 < c → 10 ≤ w → w ≤ 2 ^ 20 → a < 2 ^ 20 * c → 2 ^ 54 * (w * c) ≤ 2 ^ 54 * (10 * a) + 10 * a → 2 ^ 54 * (10 * a) ≤ 2 ^ 54 * (w * c) + 10 * a → Tenths (round binary64 false a c) w
 tenths a c w C W M S above below =
     record { near = cases (λ z. Lies (round binary64 false a c) (1024 * w / 10 - z) (1024 * w / 10 + z)) w exactly nearly }
   where
@@ -74,13 +75,13 @@ tenths a c w C W M S above below =
     nearly _ =
         rounded a c (1024 * w / 10 - 1) (1024 * w / 10 + 1) C (omega arith)
         (low (w * c) a c ((1024 * w / 10 - 1) * c) (times (1024 * w / 10 - 1) w (omega arith)) S above)
-        (high (w * c) a c ((1024 * w / 10 + 1) * c) (times' (1024 * w / 10 + 1) w (omega arith)) S below)
+        (high (w * c) a c ((1024 * w / 10 + 1) * c) (times-over (1024 * w / 10 + 1) w (omega arith)) S below)
       where
         times : (t w : ℕ) → 10 * t + 10 ≤ 1024 * w → 10 * (t * c) + 10 * c ≤ 1024 * (w * c)
         times t w h = let m : (10 * t + 10) * c ≤ 1024 * w * c = mul-le-mul-right c h in omega arith
 
-        times' : (t w : ℕ) → 1024 * w + 1 ≤ 10 * t → 1024 * (w * c) + c ≤ 10 * (t * c)
-        times' t w h = let m : (1024 * w + 1) * c ≤ 10 * t * c = mul-le-mul-right c h in omega arith
+        times-over : (t w : ℕ) → 1024 * w + 1 ≤ 10 * t → 1024 * (w * c) + c ≤ 10 * (t * c)
+        times-over t w h = let m : (1024 * w + 1) * c ≤ 10 * t * c = mul-le-mul-right c h in omega arith
 
         low : (x a c y : ℕ) → 10 * y + 10 * c ≤ 1024 * x → a < 2 ^ 20 * c → 2 ^ 54 * x ≤ 2 ^ 54 * (10 * a) + 10 * a → y ≤ a * 1024
         low x a c y h s k = omega arith
