@@ -137,7 +137,7 @@ pub fn get_f64(s: &[u8], at: usize) -> f64
 }
 
 // z as u32 of the Rust: two's complement. `as` is undefined here at a negative number.
-fn bits_of_i32(z: i32) -> u32
+pub fn bits_of_i32(z: i32) -> u32
     ensures { λ r. ⌜ r ≡ signedBits 32 z ⌝ }
 {
     if z >= 0 {
@@ -147,7 +147,7 @@ fn bits_of_i32(z: i32) -> u32
 }
 
 // n as i32 of the Rust.
-fn i32_of_bits(n: u32) -> i32
+pub fn i32_of_bits(n: u32) -> i32
     ensures { λ r. ⌜ r ≡ signedOf 32 n ⌝ }
 {
     if n < 0x8000_0000 {
