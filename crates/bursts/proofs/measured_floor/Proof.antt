@@ -1,0 +1,33 @@
+-- `bursts::measured_floor` meets its contract. Assumes nothing.
+use borrow.Author.Needs.{needs}
+use mathlib.Core.Path.{sym, ap, _∙_}
+use native.Mathlib.Omega.{arith}
+use lib.ListN.{length}
+use lib.Ieee.{binary32}
+use Rattle.order.specs.Order.{kth}
+use Rattle.limits.proofs.Samples.{numbers}
+use Rattle.rates.proofs.Quantiles.{fifth-is}
+use Rattle.bursts.proofs.Constants.{silence-is}
+use Rattle.bursts.proofs.LevelLaws.{floor-none, floor-some}
+use Rattle.bursts.proofs.measured_floor.Statement.{statement}
+use Rattle.bursts.proofs.measured_floor.Tie as tie
+
+returns : tie.Need-returns
+returns c = silence-is ∙ sym (floor-none (c .before .before .args .dbm .now) (c .if1 .taken))
+
+cast-select32 : tie.Need-cast-select32
+cast-select32 c = search needs
+
+select32-requires : tie.Need-select32-requires
+select32-requires c κs =
+    let s = c .before .before in
+    (omega (arith, c .if1 .left), omega (arith, s .pre .0), numbers (s .args .dbm .now) (s .pre .1))
+
+returns-2 : tie.Need-returns-2
+returns-2 c =
+    let s = c .before .before .before in
+    let l = s .args .dbm .now in
+    c .select32 .ensures ∙ ap (kth binary32 l) (sym (fifth-is (length l) (omega (arith, s .pre .0)))) ∙ sym (floor-some l (omega (arith, c .before .if1 .left)))
+
+pub measured-floor-spec : {M : Type 1} → statement M
+measured-floor-spec = tie.close (tie.spec returns cast-select32 select32-requires returns-2)
