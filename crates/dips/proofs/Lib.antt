@@ -1,0 +1,4 @@
+pub mod Constants
+pub mod Compares
+pub mod DipLaws
+pub mod DipAnswers

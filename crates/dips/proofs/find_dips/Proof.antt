@@ -1,0 +1,87 @@
+-- `dips::find_dips` meets its contract. Assumes nothing.
+use mathlib.Core.Path.{_≡_, sym, _∙_}
+use native.Mathlib.Omega.{arith}
+use borrow.Author.Tests.{not-true, not-false}
+use Rattle.limits.proofs.Samples.{rate-low, rate-high}
+use Rattle.dips.proofs.DipAnswers.{dip-rate, dip-short, dip-long, dip-invalid, dip-nan, dip-done}
+use borrow.Author.Needs.{needs}
+use Rattle.dips.proofs.find_dips.Statement.{statement}
+use Rattle.dips.proofs.find_dips.Tie as tie
+
+rate-ok-requires : tie.Need-rate-ok-requires
+rate-ok-requires c κs = search needs
+
+returns : tie.Need-returns
+returns c =
+    let r = c .before .rate-ok in
+    let a = c .before .before .before .before .args in
+    dip-rate (a .seg .now) (a .rate) (a .level) (a .dips .now) (sym (r .ensures) ∙ not-true (r .result) (c .if1 .taken))
+
+returns-2 : tie.Need-returns-2
+returns-2 c =
+    let r = c .before .before .rate-ok in
+    let a = c .before .before .before .before .before .args in
+    dip-short (a .seg .now) (a .rate) (a .level) (a .dips .now) (sym (r .ensures) ∙ not-false (r .result) (c .before .if1 .left)) (c .if2 .taken)
+
+mul-if3 : tie.Need-mul-if3
+mul-if3 c = search needs
+
+returns-3 : tie.Need-returns-3
+returns-3 c =
+    let r = c .before .before .before .rate-ok in
+    let a = c .before .before .before .before .before .before .args in
+    dip-long (a .seg .now) (a .rate) (a .level) (a .dips .now) (sym (r .ensures) ∙ not-false (r .result) (c .before .before .if1 .left)) (c .before .if2 .left) (c .if3 .taken)
+
+all-dbm-requires : tie.Need-all-dbm-requires
+all-dbm-requires c κs = search needs
+
+returns-4 : tie.Need-returns-4
+returns-4 c =
+    let v = c .before .all-dbm in
+    let r = c .before .before .before .before .before .rate-ok in
+    let a = c .before .before .before .before .before .before .before .before .args in
+    dip-invalid (a .seg .now) (a .rate) (a .level) (a .dips .now) (sym (r .ensures) ∙ not-false (r .result) (c .before .before .before .before .if1 .left)) (c .before .before .before .if2 .left) (c .before .before .if3 .left)
+    (sym (v .ensures) ∙ not-true (v .result) (c .if4 .taken))
+
+returns-5 : tie.Need-returns-5
+returns-5 c =
+    let v = c .before .before .all-dbm in
+    let r = c .before .before .before .before .before .before .rate-ok in
+    let a = c .before .before .before .before .before .before .before .before .before .args in
+    dip-nan (a .seg .now) (a .rate) (a .level) (a .dips .now) (sym (r .ensures) ∙ not-false (r .result) (c .before .before .before .before .before .if1 .left)) (c .before .before .before .before .if2 .left) (c .before .before .before .if3 .left)
+    (sym (v .ensures) ∙ not-false (v .result) (c .before .if4 .left)) (c .if5 .taken)
+
+dips-into-requires : tie.Need-dips-into-requires
+dips-into-requires c κs =
+    let v = c .before .before .before .all-dbm in
+    let r = c .before .before .before .before .before .before .before .rate-ok in
+    let a = c .before .before .before .before .before .before .before .before .before .before .args in
+    let t = sym (r .ensures) ∙ not-false (r .result) (c .before .before .before .before .before .before .if1 .left) in
+    (rate-low (a .rate) t, rate-high (a .rate) t, c .before .before .before .before .if3 .left, sym (v .ensures) ∙ not-false (v .result) (c .before .before .if4 .left), c .before .before .before .before .before .if2 .left)
+
+same-length : tie.Need-same-length
+same-length c = search needs
+
+returns-6 : tie.Need-returns-6
+returns-6 c =
+    let v = c .before .before .before .before .before .before .all-dbm in
+    let r = c .before .before .before .before .before .before .before .before .before .before .rate-ok in
+    let a = c .before .before .before .before .before .before .before .before .before .before .before .before .before .args in
+    dip-done (a .seg .now) (a .rate) (a .level) (a .dips .now) (sym (r .ensures) ∙ not-false (r .result) (c .before .before .before .before .before .before .before .before .before .if1 .left)) (c .before .before .before .before .before .before .before .before .if2 .left) (c .before .before .before .before .before .before .before .if3 .left)
+    (sym (v .ensures) ∙ not-false (v .result) (c .before .before .before .before .before .if4 .left)) (c .before .before .dips-into .result) (c .before .before .dips-into .last .1 .1 .1 .0) (c .before .before .before .before .if5 .left) (c .before .before .dips-into .ensures .0)
+
+pub find-dips-spec : {M : Type 1} → statement M
+find-dips-spec =
+    tie.close
+    (tie.spec
+    rate-ok-requires
+    returns
+    returns-2
+    mul-if3
+    returns-3
+    all-dbm-requires
+    returns-4
+    returns-5
+    dips-into-requires
+    same-length
+    returns-6)

@@ -1,0 +1,99 @@
+-- `find_dips` of demod.rs: local minima deep under both sides, half a bit apart, refined to sub-sample. Assumes nothing.
+use Prim.Native.Nat.{ℕ, zero, suc, _+_, _-_, _*_, min}
+use mathlib.Core.Path.{_≡_}
+use mathlib.Core.Bool.{Bool, true, false, cond, not, _&&_, _||_}
+use mathlib.Core.List.{List, [], _∷_, _++_, map}
+use lib.Dec.{ltb}
+use lib.ListN.{length, drop, getD}
+use lib.Seq.{slice}
+use lib.Ieee.{Float, nan, binary64, add, sub, mul, div, le, lt, eq, ne, isNan}
+use Rattle.floats.specs.Fold.{maxOf, maxFrom}
+use Rattle.floats.specs.Number.{num, near}
+use Rattle.limits.specs.Limits.{badRate, short, long, badSample, badNumber, bufferS, scratch64}
+use Rattle.limits.specs.Samples.{rateOk, allDbm}
+use Rattle.rates.specs.Rates.{winOf, halfOf}
+use Rattle.dips.specs.Numbers.{dipDb, dimDb, lowestSide}
+use Rattle.dips.specs.declared.DipCount.{DipCount}
+use Rattle.dips.specs.declared.DipCount.the-variants.{Refused, Count}
+
+-- a.min(b), of numbers
+abbrev pub minOf : Float → Float → Float
+minOf a b = cond (lt b a) b a
+
+-- side_max: the highest of the 1.5 bits before i, and of those after it
+unfoldable pub leftOf : ℕ → List Float → ℕ → Float
+leftOf win seg i = maxFrom lowestSide (slice (i - win) i seg)
+
+unfoldable pub rightOf : ℕ → List Float → ℕ → Float
+rightOf win seg i = maxFrom lowestSide (slice (i + 1) (min (i + 1 + win) (length seg)) seg)
+
+-- strictly more than 6 dB under the lower side, and the higher side not more than 25 dB under the level
+unfoldable pub sides : Float → ℕ → List Float → ℕ → Bool
+unfolding leftOf rightOf
+sides level win seg i =
+    not (le (sub binary64 (minOf (leftOf win seg i) (rightOf win seg i)) dipDb) (getD seg i nan)
+    || lt (maxOf (leftOf win seg i) (rightOf win seg i)) (sub binary64 level dimDb))
+
+-- x at index k speaks against a minimum v at i: it is lower, or equal and earlier
+abbrev pub against : Float → ℕ → ℕ → Float → Bool
+against v i k x = lt x v || (eq x v && ltb k i)
+
+-- none of a list from index k on does
+unfoldable pub lowestOf : Float → ℕ → ℕ → List Float → Bool
+lowestOf v i k [] = true
+lowestOf v i k (x ∷ xs) = cond (against v i k x) false (lowestOf v i (suc k) xs)
+
+-- the lowest of those within the half window, and of equal ones the earliest
+unfoldable pub neighbours : ℕ → List Float → ℕ → Bool
+unfolding lowestOf
+neighbours half seg i = lowestOf (getD seg i nan) i (i - half) (slice (i - half) (min (i + half + 1) (length seg)) seg)
+
+unfoldable pub isDip : Float → ℕ → ℕ → List Float → ℕ → Bool
+unfolding sides neighbours
+isDip level win half seg i = sides level win seg i && neighbours half seg i
+
+-- the dips among the n indices from i on
+unfoldable pub indicesFrom : Float → ℕ → ℕ → List Float → ℕ → ℕ → List ℕ
+unfolding isDip
+indicesFrom level win half seg zero i = []
+indicesFrom level win half seg (suc n) i =
+    cond (isDip level win half seg i) (i ∷ indicesFrom level win half seg n (suc i)) (indicesFrom level win half seg n (suc i))
+
+-- of the indices 1 to length - 2
+unfoldable pub dipIndices : List Float → ℕ → Float → List ℕ
+unfolding indicesFrom
+dipIndices seg rate level = indicesFrom level (winOf rate) (halfOf rate) seg (length seg - 1 - 1) 1
+
+-- a dip's centre: the lowest place of the parabola through it and the samples beside it
+unfoldable pub centre : List Float → ℕ → Float
+centre seg i =
+    let a = getD seg (i - 1) nan in
+    let v = getD seg i nan in
+    let c = getD seg (i + 1) nan in
+    let denom = add binary64 (sub binary64 a (mul binary64 (num 2) v)) c in
+    add binary64 (num i) (cond (ne denom (num 0)) (div binary64 (mul binary64 (near 1 2) (sub binary64 a c)) denom) (num 0))
+
+unfoldable pub dipsOf : List Float → ℕ → Float → List Float
+unfolding dipIndices centre
+dipsOf seg rate level = map (centre seg) (dipIndices seg rate level)
+
+-- a list stands in the front of a slice, n long, and past it the slice is as it was
+pub record Written (found old : List Float) (n : ℕ) (now : List Float) : Type 0 where
+  pub count : n ≡ length found
+  pub holds : now ≡ found ++ drop n old
+
+-- what `find_dips` answers, and what it leaves in the slice lent for the dips
+unfoldable pub dipAnswer : List Float → ℕ → Float → ℕ → DipCount
+unfolding dipsOf
+dipAnswer seg rate level room =
+    cond (rateOk rate)
+    (cond (ltb room scratch64) (Refused short)
+    (cond (ltb (bufferS * rate) (length seg)) (Refused long)
+    (cond (allDbm seg)
+    (cond (isNan level) (Refused badNumber) (Count (length (dipsOf seg rate level))))
+    (Refused badSample))))
+    (Refused badRate)
+
+unfoldable pub dipsAfter : DipCount → List Float → List Float → List Float
+dipsAfter (Refused n) found old = old
+dipsAfter (Count n) found old = found ++ drop n old

@@ -1,0 +1,3 @@
+-- The definitions that the contracts of `dips` cite.
+pub mod Numbers
+pub mod Dips

@@ -1,0 +1,193 @@
+// The dips of a burst's envelope, at the phase reversals (demod.rs `find_dips`).
+ghost use mathlib.Core.Path.{_≡_};
+ghost use mathlib.Core.Bool.{true, not, _||_};
+ghost use Prim.Native.Nat.{_<_, _≤_, _+_, _-_, _*_, min};
+ghost use lib.ListN.{length, getD};
+ghost use lib.Seq.{slice};
+ghost use lib.Ieee.{nan, lt, le};
+ghost use Rattle.floats.specs.Fold.{maxFrom};
+ghost use Rattle.limits.specs.Limits.{lowestRate, highestRate, bufferS, mostSamples, scratch64};
+ghost use Rattle.limits.specs.Samples.{allDbm};
+ghost use Rattle.rates.specs.Rates.{winOf, halfOf};
+ghost use Rattle.dips.specs.Numbers.{lowestSide, mostDips};
+ghost use Rattle.dips.specs.Dips.{sides, against, neighbours, isDip, centre, dipsOf, Written, dipAnswer, dipsAfter};
+
+// A dip lies strictly more than DIP_DB under the lower side, and the higher side at most DIM_DB under the level.
+const DIP_DB: f64 = 6.0;
+
+const DIM_DB: f64 = 25.0;
+
+// No side has a lower level.
+const LOWEST_SIDE: f32 = -200.0;
+
+// What `find_dips` answers.
+pub enum DipCount {
+    Refused(u8),
+    Count(usize),
+}
+
+// i - n, and 0 below.
+pub fn back(i: usize, n: usize) -> usize
+    ensures { λ r. ⌜ r ≡ i - n ⌝ }
+{
+    if n < i { i - n } else { 0 }
+}
+
+pub fn least(a: usize, b: usize) -> usize
+    ensures { λ r. ⌜ r ≡ min a b ⌝ }
+{
+    if a < b { a } else { b }
+}
+
+// The highest sample from an index to another, that one not in.
+fn side_level(seg: &[f32], from: usize, to: usize) -> f32
+    requires { ⌜ (from ≤ to) × (to ≤ length (now seg)) ⌝ }
+    ensures { λ r. ⌜ r ≡ maxFrom lowestSide (slice from to (now (seg .entry))) ⌝ }
+{
+    let mut m = LOWEST_SIDE;
+    let mut i = from;
+    while i < to {
+        m = floats::max32(m, seg[i]);
+        i += 1;
+    }
+    m
+}
+
+// Dips are measured against the local envelope on each side (max over 1.5 bits). A real dip has a high level on both sides; this rejects the
+// rising and falling edges of the frame, and copes with the transmit power ramping during the first part of a frame.
+fn sides_high(seg: &[f32], win: usize, level: f64, i: usize) -> bool
+    requires { ⌜ (i < length (now seg)) × (length (now seg) ≤ mostSamples) × (win ≤ mostSamples) ⌝ }
+    ensures { λ r. ⌜ r ≡ sides level win (now (seg .entry)) i ⌝ }
+{
+    let v = std::num::f32_to_f64_with_nan(seg[i]);
+    let l = side_level(seg, back(i, win), i);
+    let left = std::num::f32_to_f64_with_nan(l);
+    let r = side_level(seg, i + 1, least(i + 1 + win, seg.len()));
+    let right = std::num::f32_to_f64_with_nan(r);
+    let shallow = v >= floats::pick64(right < left, right, left) - DIP_DB;
+    let dim = floats::pick64(left < right, right, left) < level - DIM_DB;
+    !(shallow | dim)
+}
+
+// Whether the samples beside i don't speak against a minimum there: most samples drop out here.
+fn beside_higher(seg: &[f32], i: usize) -> bool
+    requires { ⌜ (0 < i) × (i + 1 < length (now seg)) ⌝ }
+    ensures { λ r. ⌜ r ≡ not (le (getD (now (seg .entry)) (i - 1) nan) (getD (now (seg .entry)) i nan) || lt (getD (now (seg .entry)) (i + 1) nan) (getD (now (seg .entry)) i nan)) ⌝ }
+{
+    let v = seg[i];
+    let left = seg[i - 1] <= v;
+    let right = seg[i + 1] < v;
+    !(left | right)
+}
+
+// Whether a sample x at index k speaks against a minimum v at i.
+fn speaks_against(v: f32, i: usize, k: usize, x: f32) -> bool
+    ensures { λ r. ⌜ r ≡ against v i k x ⌝ }
+{
+    let lower = x < v;
+    let same = x == v;
+    let earlier = k < i;
+    lower | (same & earlier)
+}
+
+// The lowest of those within the half window, and of equal ones the earliest.
+fn neighbours_higher(seg: &[f32], half: usize, i: usize) -> bool
+    requires { ⌜ (i < length (now seg)) × (length (now seg) ≤ mostSamples) × (half ≤ mostSamples) ⌝ }
+    ensures { λ r. ⌜ r ≡ neighbours half (now (seg .entry)) i ⌝ }
+{
+    let v = seg[i];
+    let end = least(i + half + 1, seg.len());
+    let mut k = back(i, half);
+    while k < end {
+        if speaks_against(v, i, k, seg[k]) {
+            return false;
+        }
+        k += 1;
+    }
+    true
+}
+
+// The side levels cost most, so they come last.
+fn is_dip(seg: &[f32], win: usize, half: usize, level: f64, i: usize) -> bool
+    requires { ⌜ (0 < i) × (i + 1 < length (now seg)) × (length (now seg) ≤ mostSamples) × (win ≤ mostSamples) × (half ≤ mostSamples) × (0 < half) ⌝ }
+    ensures { λ r. ⌜ r ≡ isDip level win half (now (seg .entry)) i ⌝ }
+{
+    if beside_higher(seg, i) {
+        if neighbours_higher(seg, half, i) {
+            return sides_high(seg, win, level, i);
+        }
+    }
+    false
+}
+
+// The dip's place, refined to sub-sample.
+fn dip_centre(seg: &[f32], i: usize) -> f64
+    requires { ⌜ (0 < i) × (i + 1 < length (now seg)) × (length (now seg) ≤ mostSamples) ⌝ }
+    ensures { λ r. ⌜ r ≡ centre (now (seg .entry)) i ⌝ }
+{
+    let a = std::num::f32_to_f64_with_nan(seg[i - 1]);
+    let v = std::num::f32_to_f64_with_nan(seg[i]);
+    let c = std::num::f32_to_f64_with_nan(seg[i + 1]);
+    let denom = a - 2.0 * v + c;
+    floats::count_as_f64(i) + floats::pick64(denom != 0.0, 0.5 * (a - c) / denom, 0.0)
+}
+
+// 1.5 bits: round(nominal * 1.5), as a whole number.
+fn side_window(rate: u32) -> usize
+    requires { ⌜ (lowestRate ≤ rate) × (rate ≤ highestRate) ⌝ }
+    ensures { λ r. ⌜ (r ≡ winOf rate) × (r ≤ 60) ⌝ }
+{
+    ((3 * rate + 100) / 200) as usize
+}
+
+// 0.4 bits: round(nominal * 0.4), as a whole number.
+fn half_window(rate: u32) -> usize
+    requires { ⌜ (lowestRate ≤ rate) × (rate ≤ highestRate) ⌝ }
+    ensures { λ r. ⌜ (r ≡ halfOf rate) × (0 < r) × (r ≤ 16) × (bufferS * rate ≤ mostDips * (r + 1) + 2) ⌝ }
+{
+    ((2 * rate + 250) / 500) as usize
+}
+
+// The dips of valid samples into the front of a slice; a dip leaves no room for another in its half window.
+pub fn dips_into(seg: &[f32], rate: u32, level: f64, dips: &mut [f64]) -> usize
+    requires { ⌜ (lowestRate ≤ rate) × (rate ≤ highestRate) × (length (now seg) ≤ bufferS * rate) × (allDbm (now seg) ≡ true) × (scratch64 ≤ length (now dips)) ⌝ }
+    ensures { λ r. ⌜ Written (dipsOf (now (seg .entry)) rate level) (now (dips .entry)) r (now (dips .exit)) × (r ≤ mostDips) ⌝ }
+{
+    let win = side_window(rate);
+    let half = half_window(rate);
+    let mut n: usize = 0;
+    let mut i: usize = 1;
+    while i + 1 < seg.len() {
+        if is_dip(seg, win, half, level, i) {
+            dips[n] = dip_centre(seg, i);
+            n += 1;
+            i += half + 1;
+        } else {
+            i += 1;
+        }
+    }
+    n
+}
+
+// The dips of a burst, into the front of the slice lent for them (demod.rs `find_dips`).
+pub fn find_dips(seg: &[f32], rate: u32, level: f64, dips: &mut [f64]) -> DipCount
+    ensures { λ r. ⌜ (r ≡ dipAnswer (now (seg .entry)) rate level (length (now (dips .entry))))
+        × (now (dips .exit) ≡ dipsAfter r (dipsOf (now (seg .entry)) rate level) (now (dips .entry))) ⌝ }
+{
+    if !limits::rate_ok(rate) {
+        return DipCount::Refused(limits::BAD_RATE);
+    }
+    if dips.len() < limits::SCRATCH64 {
+        return DipCount::Refused(limits::SHORT);
+    }
+    if limits::BUFFER_S * (rate as usize) < seg.len() {
+        return DipCount::Refused(limits::LONG);
+    }
+    if !limits::all_dbm(seg) {
+        return DipCount::Refused(limits::BAD_SAMPLE);
+    }
+    if level != level {
+        return DipCount::Refused(limits::BAD_NUMBER);
+    }
+    DipCount::Count(dips_into(seg, rate, level, dips))
+}
