@@ -7,7 +7,7 @@ use lib.Dec.{ltb}
 use lib.ListN.{length}
 use lib.Ieee.{Float, ne, isNan}
 use borrow.Author.Tests.{lt-ltb, le-ltb}
-use Rattle.floats.proofs.Stores.{nan-is, no-nan-is}
+use Rattle.floats.proofs.Floors.{nan-is, no-nan-is}
 use Rattle.limits.specs.Limits.{badRate, short, long, badSample, badNumber, bufferS, scratch64}
 use Rattle.limits.specs.Samples.{rateOk, allDbm}
 use Rattle.dips.specs.Dips.{dipsOf, Written, dipAnswer, dipsAfter}

@@ -3,4 +3,3 @@ pub mod Number
 pub mod Floor
 pub mod Fold
 pub mod Trig
-pub mod Rates

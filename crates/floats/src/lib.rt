@@ -168,13 +168,6 @@ pub fn max32(a: f32, b: f32) -> f32
     pick32(a < b, b, a)
 }
 
-// f64::from(x) > threshold, at a NaN false (demod.rs find_bursts).
-pub fn loud(x: f32, threshold: f64) -> bool
-    ensures { λ r. ⌜ r ≡ lt threshold x ⌝ }
-{
-    widened(x) > threshold
-}
-
 // f64::abs
 pub fn abs64(x: f64) -> f64
     ensures { λ r. ⌜ r ≡ magnitude x ⌝ }

@@ -6,7 +6,7 @@ use native.Mathlib.Omega.{arith}
 use lib.ListN.{length, drop}
 use lib.Ieee.{Float}
 use Rattle.floats.specs.Fold.{maxFrom}
-use Rattle.floats.proofs.Stores.{max-step, max-end}
+use Rattle.floats.proofs.Folds.{max-step, max-end}
 use Rattle.bursts.proofs.Constants.{lowest-peak-is}
 use Rattle.bursts.proofs.peak.Statement.{statement}
 use Rattle.bursts.proofs.peak.Tie as tie
