@@ -1,0 +1,2 @@
+-- The definitions that the contracts of `bench` cite.
+pub mod Select
