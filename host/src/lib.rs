@@ -1,0 +1,15 @@
+//! The Rust beside the port: its answers, inputs for both sides, the comparison, the benchmark.
+//! All of it needs the Rust's text but the C function's wrapper.
+
+#[cfg(has_rust)]
+pub mod commands;
+#[cfg(has_rust)]
+pub mod limits;
+#[cfg(has_rust)]
+pub mod oracle;
+#[cfg(has_rust)]
+pub mod rust;
+#[cfg(has_rust)]
+pub mod text;
+#[cfg(has_rust)]
+pub mod trig;

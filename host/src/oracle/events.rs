@@ -1,0 +1,85 @@
+//! `events`: the receiver, call by call, with its state after each.
+
+use super::{line, record};
+use crate::limits;
+use crate::rust::receiver::{ReceiverEvent, SigfoxReceiver};
+use crate::text::{Input, hex_bytes, hex64};
+
+/// A receiver that refuses what 01 refuses.
+pub struct Receiver {
+    rate: u32,
+    inner: SigfoxReceiver,
+}
+
+impl Receiver {
+    pub fn new(rate: u32) -> Self {
+        // the buffer of a rate that every call refuses stays small
+        let inner = SigfoxReceiver::new(if limits::rate(rate).is_ok() { rate } else { 0 });
+        Self { rate, inner }
+    }
+
+    pub fn push(&mut self, dbm: &[f32]) -> Result<Vec<ReceiverEvent>, u8> {
+        limits::rate(self.rate)?;
+        limits::sample_count(dbm.len(), self.rate)?;
+        limits::samples(dbm)?;
+        limits::waiting(self.inner.pending.len())?;
+        limits::stream(self.inner.base + self.inner.len + dbm.len())?;
+        Ok(self.inner.push(dbm))
+    }
+
+    pub fn push_raw(&mut self, raw: &[u8]) -> Result<Vec<ReceiverEvent>, u8> {
+        limits::rate(self.rate)?;
+        limits::sample_count(raw.len(), self.rate)?;
+        limits::waiting(self.inner.pending.len())?;
+        limits::stream(self.inner.base + self.inner.len + raw.len())?;
+        Ok(self.inner.push_raw(raw))
+    }
+
+    pub fn flush(&mut self) -> Result<Vec<ReceiverEvent>, u8> {
+        limits::rate(self.rate)?;
+        Ok(self.inner.flush())
+    }
+
+    fn state(&self) -> String {
+        let r = &self.inner;
+        let mut text = format!("S {} {} {} {}", r.len, r.base, r.since_scan, r.seen.len());
+        for start in &r.seen {
+            text += &format!(" {start}");
+        }
+        text += &format!(" {}", r.pending.len());
+        for p in &r.pending {
+            let m = &p.message;
+            text += &format!(" {:08x}:{}:{}", m.device_id.0, m.counter, hex64(p.last));
+        }
+        text
+    }
+}
+
+pub fn stream(input: &mut Input, out: &mut String) -> Option<()> {
+    let mut receiver = Receiver::new(input.u32()?);
+    let mut index = 0;
+    while !input.is_empty() {
+        let (name, events) = match input.u8()? {
+            0 => ("push", receiver.push(&input.f32s()?)),
+            1 => ("push_raw", receiver.push_raw(input.bytes()?)),
+            2 => ("flush", receiver.flush()),
+            call => panic!("events has no call {call}"),
+        };
+        line(out, events.map(|events| answer(index, name, &events, &receiver)));
+        index += 1;
+    }
+    Some(())
+}
+
+fn answer(index: usize, name: &str, events: &[ReceiverEvent], receiver: &Receiver) -> String {
+    let mut text = format!("C {index} {name} {}\n", events.len());
+    for event in events {
+        let record = match event {
+            ReceiverEvent::Frame(d) => record::received(d),
+            ReceiverEvent::Message(m) => record::message(m),
+        };
+        text += &hex_bytes(&record);
+        text += "\n";
+    }
+    text + &receiver.state()
+}

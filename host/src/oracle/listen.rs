@@ -1,0 +1,96 @@
+//! `listen`: 01's program, the tracker and the receiver on one stream of 16-byte records.
+
+use super::events::Receiver;
+use super::tracker::Tracker;
+use crate::rust::receiver::{ReceiverEvent, SigfoxMessage};
+use crate::text::{hex_bytes, or_dash};
+
+const RATE: u32 = 1000;
+const STEP_HZ: f64 = 122.070_312_5;
+const RECORD: usize = 16;
+
+struct Listener {
+    receiver: Receiver,
+    tracker: Option<Tracker>,
+    samples: usize,
+    frames: usize,
+    messages: usize,
+    out: String,
+}
+
+pub fn lines(input: &[u8]) -> String {
+    let mut l = Listener {
+        receiver: Receiver::new(RATE),
+        tracker: None,
+        samples: 0,
+        frames: 0,
+        messages: 0,
+        out: String::new(),
+    };
+    let (records, rest) = input.as_chunks::<RECORD>();
+    if let Err(n) = l.run(records) {
+        return l.out + &format!("R {n}\n");
+    }
+    let end = format!("E {} {} {} {}\n", l.samples, l.frames, l.messages, rest.len());
+    l.out + &end
+}
+
+impl Listener {
+    fn run(&mut self, records: &[[u8; RECORD]]) -> Result<(), u8> {
+        for r in records {
+            let cfo = u16::from_le_bytes([r[8], r[9]]);
+            let freq = u32::from_le_bytes([r[10], r[11], r[12], r[13]]);
+            self.record(&r[..8], cfo, freq)?;
+        }
+        let events = self.receiver.flush()?;
+        self.emit(&events);
+        Ok(())
+    }
+
+    fn record(&mut self, raw: &[u8], cfo: u16, freq: u32) -> Result<(), u8> {
+        let tracker = match &mut self.tracker {
+            Some(tracker) => tracker,
+            none => none.insert(Tracker::new(RATE, freq, STEP_HZ)?),
+        };
+        let dbm: Vec<f32> = raw.iter().map(|&r| -f32::from(r) / 2.0).collect();
+        tracker.tuned(freq)?;
+        tracker.samples(&dbm)?;
+        tracker.cfo(&[cfo])?;
+        if let Some(hz) = tracker.inner.next_tuning() {
+            self.out += &format!("T {hz}\n");
+        }
+        let events = self.receiver.push_raw(raw)?;
+        self.samples += raw.len();
+        self.emit(&events);
+        Ok(())
+    }
+
+    fn emit(&mut self, events: &[ReceiverEvent]) {
+        for event in events {
+            match event {
+                ReceiverEvent::Frame(_) => self.frames += 1,
+                ReceiverEvent::Message(m) => {
+                    self.messages += 1;
+                    let line = self.message(m);
+                    self.out += &line;
+                }
+            }
+        }
+    }
+
+    fn message(&self, m: &SigfoxMessage) -> String {
+        let mask: u32 = m.ranks.iter().map(|&rank| 1 << rank).sum();
+        let payload = Some(hex_bytes(&m.payload)).filter(|p| !p.is_empty());
+        let hz = self
+            .tracker
+            .as_ref()
+            .and_then(|t| t.inner.frame1(&m.frames, m.downlink));
+        format!(
+            "M {:08x} {} {mask} {} {}\n",
+            m.device_id.0,
+            m.counter,
+            or_dash(payload),
+            or_dash(hz)
+        )
+    }
+}
