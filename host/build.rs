@@ -126,8 +126,11 @@ fn main() {
         fs::write(out.join("rust.rs"), text).expect("OUT_DIR can be written");
         println!("cargo::rustc-cfg=has_rust");
     }
+    let libraries = root.join("target/staticlib");
+    fs::create_dir_all(&libraries).expect("target/ can be written");
+    println!("cargo::rerun-if-changed={}", libraries.display());
     for name in ["record", "bench"] {
-        link(&root.join("target/staticlib"), name);
+        link(&libraries, name);
     }
 }
 
@@ -148,7 +151,6 @@ fn module(folder: &Path, name: &str) -> String {
 /// Links the static library NAME where it stands.
 fn link(folder: &Path, name: &str) {
     let archive = folder.join(format!("lib{name}.a"));
-    println!("cargo::rerun-if-changed={}", archive.display());
     if archive.is_file() {
         println!("cargo::rustc-link-search=native={}", folder.display());
         println!("cargo::rustc-link-lib=static={name}");

@@ -4,11 +4,17 @@
 #[cfg(has_rust)]
 pub mod commands;
 #[cfg(has_rust)]
+mod compare;
+#[cfg(has_rust)]
+pub mod generate;
+#[cfg(has_rust)]
 pub mod limits;
 #[cfg(has_rust)]
 pub mod oracle;
 #[cfg(has_rust)]
 pub mod rust;
+#[cfg(has_rust)]
+mod sample;
 #[cfg(has_rust)]
 pub mod text;
 #[cfg(has_rust)]

@@ -1,0 +1,132 @@
+//! Inputs of `burst`.
+
+use super::put::Put;
+use super::rng::Rng;
+use super::signal::{self, Air, Shape};
+use super::uplink::Uplink;
+use super::{Case, case, cut};
+use crate::rust::demod::{Burst, BurstOptions, find_bursts, noise_floor};
+
+fn of(label: impl Into<String>, rate: u32, t0: f64, b: &Burst, dbm: &[f32]) -> Case {
+    let put = Put::new().u32(rate).f64(t0).u64(b.start as u64).u64(b.end as u64);
+    case(label, put.f32(b.peak_dbm).f32(b.floor_dbm).f32s(dbm))
+}
+
+pub fn directed() -> Vec<Case> {
+    let uplink = Uplink::new(2, 0x00ab_cdef, 0x321, 2, true, &[0xca, 0xfe]);
+    let envelope = Shape::clean(-60.0).envelope(&uplink.bits(0, 16), 1000);
+    let mut air = Air::quiet(1000, envelope.len() + 300, -110.0);
+    air.send(150, &envelope);
+    let dbm = air.samples();
+    let burst = Burst {
+        start: 150,
+        end: 150 + envelope.len(),
+        peak_dbm: -60.0,
+        floor_dbm: -110.0,
+    };
+    let mut cases = vec![of("a frame", 1000, 0.0, &burst, &dbm)];
+    let last = dbm.len();
+    let most = 1 << 40;
+    for (start, end) in [
+        (0, last),
+        (0, last + 500),
+        (20, last),
+        (21, burst.end),
+        (130, burst.end),
+        (170, burst.end),
+        (190, burst.end),
+        (150, burst.end - 40),
+        (150, burst.end - 500),
+        (150, 150),
+        (150, 0),
+        (last, last),
+        (last + 19, last + 30),
+        (last + 5000, last + 6000),
+        (0, most),
+        (most, most),
+        (most + 1, 0),
+        (0, most + 1),
+        (usize::MAX, usize::MAX),
+    ] {
+        cases.push(of(
+            format!("from {start} to {end}"),
+            1000,
+            12.5,
+            &Burst { start, end, ..burst },
+            &dbm,
+        ));
+    }
+    for t0 in [0.1, -0.0, 1e9, -1e9, 1e9 + 0.001, f64::NAN, f64::INFINITY] {
+        cases.push(of(format!("t0 {t0}"), 1000, t0, &burst, &dbm));
+    }
+    for v in [
+        -0.0,
+        0.0,
+        -200.0,
+        100.0,
+        100.5,
+        -201.0,
+        f32::INFINITY,
+        f32::NEG_INFINITY,
+        f32::NAN,
+    ] {
+        cases.push(of(
+            format!("peak {v}"),
+            1000,
+            0.0,
+            &Burst { peak_dbm: v, ..burst },
+            &dbm,
+        ));
+        cases.push(of(
+            format!("floor {v}"),
+            1000,
+            0.0,
+            &Burst { floor_dbm: v, ..burst },
+            &dbm,
+        ));
+    }
+    refused(&mut cases, &burst, dbm);
+    cases
+}
+
+fn refused(cases: &mut Vec<Case>, burst: &Burst, dbm: Vec<f32>) {
+    for rate in [0, 199, 4001] {
+        cases.push(of(format!("rate {rate}"), rate, f64::NAN, burst, &dbm));
+    }
+    cases.push(of("no samples", 1000, 0.0, burst, &[]));
+    let mut bad = dbm;
+    bad[0] = f32::NAN;
+    cases.push(of(
+        "a sample outside the burst that is none",
+        1000,
+        f64::NAN,
+        burst,
+        &bad,
+    ));
+    bad.resize(12_001, -100.0);
+    cases.push(of("12 s and one more", 1000, f64::NAN, burst, &bad));
+}
+
+pub fn random(rng: &mut Rng) -> Case {
+    let rate = signal::rate(rng);
+    let most = rng.pick(&[2, 3, 3, 4]) * rate as usize;
+    let samples = rng.range(most / 2, most);
+    let dbm = signal::scene(rng, rate, samples).samples();
+    let found = find_bursts(&dbm, rate, &BurstOptions::default(), noise_floor(&dbm));
+    let mut burst = Burst {
+        start: rng.below(samples),
+        end: rng.below(samples + 100),
+        peak_dbm: rng.real(-100.0, 0.0) as f32,
+        floor_dbm: -100.0,
+    };
+    if !found.is_empty() && rng.chance(0.9) {
+        burst = rng.pick(&found);
+        let pad = rate as usize / 50;
+        if rng.chance(0.5) {
+            burst.start = (burst.start + rng.below(2 * pad + 1)).saturating_sub(pad);
+            burst.end = (burst.end + rng.below(2 * pad + 1)).saturating_sub(pad);
+        }
+    }
+    let whole = of("a scene", rate, rng.real(-1e3, 1e6), &burst, &dbm);
+    if rng.chance(0.01) { cut(rng, whole) } else { whole }
+}

@@ -1,0 +1,87 @@
+//! Inputs of `capture`.
+
+use super::put::Put;
+use super::rng::Rng;
+use super::signal::{self, Air, Shape};
+use super::uplink::Uplink;
+use super::{Case, case, cut};
+
+fn of(label: impl Into<String>, rate: u32, t0: f64, floor: Option<f32>, dbm: &[f32]) -> Case {
+    let put = Put::new().u32(rate).f64(t0).u8(floor.is_none().into());
+    case(label, put.f32(floor.unwrap_or(f32::NAN)).f32s(dbm))
+}
+
+/// Frames of all ranks one after the other, the first from the first sample on.
+fn three(rate: u32) -> Vec<f32> {
+    let uplink = Uplink::new(0, 0x00ab_cdef, 0x321, 3, true, &[]);
+    let envelopes = [0, 1, 2].map(|rank| Shape::clean(-60.0).envelope(&uplink.bits(rank, 16), rate));
+    let gap = rate as usize / 2;
+    let length = envelopes.iter().map(Vec::len).sum::<usize>();
+    let mut air = Air::quiet(rate, length + 3 * gap, -110.0);
+    let mut at = 0;
+    for envelope in &envelopes {
+        air.send(at, envelope);
+        at += envelope.len() + gap;
+    }
+    air.samples()
+}
+
+pub fn directed() -> Vec<Case> {
+    let mut cases = vec![];
+    for rate in [200, 250, 1000] {
+        cases.push(of(
+            format!("three frames at {rate}"),
+            rate,
+            0.0,
+            Some(-110.0),
+            &three(rate),
+        ));
+        cases.push(of(format!("measured floor at {rate}"), rate, 1e9, None, &three(rate)));
+    }
+    let dbm = three(400);
+    for floor in [-75.0, -74.99, -200.0, 100.0, -200.5, 100.5, f32::NAN] {
+        cases.push(of(format!("floor {floor}"), 400, 0.25, Some(floor), &dbm));
+    }
+    for t0 in [-1e9, 1e9, -0.0, 1e9 + 0.001, f64::NAN, f64::NEG_INFINITY] {
+        cases.push(of(format!("t0 {t0}"), 400, t0, None, &dbm));
+    }
+    for rate in [0, 199, 4001] {
+        cases.push(of(format!("rate {rate}"), rate, f64::NAN, None, &dbm));
+    }
+    let mut bad = dbm;
+    bad[7] = f32::NAN;
+    cases.push(of("a sample that is none", 400, f64::NAN, None, &bad));
+    bad.resize(4801, -100.0);
+    cases.push(of("12 s and one more", 400, f64::NAN, None, &bad));
+    cases.push(of("no samples", 400, 0.0, None, &[]));
+    cases.push(of("no samples, given floor", 400, 0.0, Some(-100.0), &[]));
+    cases.push(of("as many bursts as can be", 200, 0.0, Some(-110.0), &most_bursts()));
+    cases
+}
+
+/// 35 bursts of 61 samples at 200/s, 9 quiet ones between them, with dips that make bits.
+fn most_bursts() -> Vec<f32> {
+    let burst: Vec<f32> = (0..61).map(|i| if i % 4 == 2 { -90.0 } else { -60.0 }).collect();
+    let mut dbm = vec![];
+    while dbm.len() + burst.len() <= 2400 {
+        dbm.extend(&burst);
+        dbm.extend([-110.0; 9]);
+    }
+    dbm.truncate(2400);
+    dbm
+}
+
+pub fn random(rng: &mut Rng) -> Case {
+    let rate = signal::rate(rng);
+    let most = rng.pick(&[2, 3, 4, 8, 12]) * rate as usize;
+    let samples = rng.range(most / 2, most);
+    let air = signal::scene(rng, rate, samples);
+    let dbm = if rng.chance(0.5) {
+        air.samples()
+    } else {
+        signal::from_raw(&air.raw())
+    };
+    let floor = rng.chance(0.3).then(|| rng.real(-130.0, -80.0) as f32);
+    let whole = of("a scene", rate, rng.real(-1e3, 1e6), floor, &dbm);
+    if rng.chance(0.01) { cut(rng, whole) } else { whole }
+}

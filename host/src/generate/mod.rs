@@ -1,0 +1,141 @@
+//! Inputs for both sides, of every format: directed edges first, then as many random ones as wanted.
+
+mod bits;
+mod burst;
+mod burstbits;
+mod bursts;
+mod capture;
+mod dips;
+mod misc;
+mod put;
+mod rng;
+mod signal;
+mod uplink;
+
+use put::Put;
+use rng::Rng;
+
+/// One input, and what it shows.
+pub struct Case {
+    pub label: String,
+    pub bytes: Vec<u8>,
+    /// It ends in the middle, so nothing can follow it in a run
+    pub short: bool,
+}
+
+pub struct Format {
+    pub name: &'static str,
+    /// A case is a whole run, since it starts with a header
+    pub stream: bool,
+    pub directed: fn() -> Vec<Case>,
+    pub random: fn(&mut Rng) -> Case,
+    /// The run that the gate replays, where it isn't a choice of the cases
+    pub sample: Option<fn() -> Case>,
+}
+
+pub const FORMATS: &[Format] = &[
+    Format {
+        name: "bits",
+        stream: false,
+        directed: bits::directed,
+        random: bits::random,
+        sample: None,
+    },
+    Format {
+        name: "bursts",
+        stream: false,
+        directed: bursts::directed,
+        random: bursts::random,
+        sample: None,
+    },
+    Format {
+        name: "dips",
+        stream: false,
+        directed: dips::directed,
+        random: dips::random,
+        sample: None,
+    },
+    Format {
+        name: "burstbits",
+        stream: false,
+        directed: burstbits::directed,
+        random: burstbits::random,
+        sample: None,
+    },
+    Format {
+        name: "burst",
+        stream: false,
+        directed: burst::directed,
+        random: burst::random,
+        sample: None,
+    },
+    Format {
+        name: "capture",
+        stream: false,
+        directed: capture::directed,
+        random: capture::random,
+        sample: None,
+    },
+    Format {
+        name: "misc",
+        stream: false,
+        directed: misc::directed,
+        random: misc::random,
+        sample: None,
+    },
+];
+
+pub fn format(name: &str) -> Option<&'static Format> {
+    FORMATS.iter().find(|f| f.name == name)
+}
+
+impl Format {
+    /// The directed cases, then `count` random ones.
+    pub fn cases(&self, seed: u64, count: usize) -> Vec<Case> {
+        let mut cases = (self.directed)();
+        for index in 0..count {
+            cases.push((self.random)(&mut Rng::of_case(self.name, seed, index)));
+        }
+        cases
+    }
+}
+
+fn case(label: impl Into<String>, put: Put) -> Case {
+    Case {
+        label: label.into(),
+        bytes: put.0,
+        short: false,
+    }
+}
+
+/// The case cut somewhere in its middle.
+fn cut(rng: &mut Rng, case: Case) -> Case {
+    let length = rng.range(1, case.bytes.len() - 1);
+    Case {
+        label: format!("{}, cut", case.label),
+        bytes: case.bytes[..length].to_vec(),
+        short: true,
+    }
+}
+
+#[cfg(test)]
+mod tests {
+    use super::*;
+    use crate::rust::demod::burst_bits;
+    use crate::rust::frame::decode_uplink_bits;
+
+    /// The generator would show little if its frames didn't get through.
+    #[test]
+    fn most_frames_decode() {
+        for rate in signal::RATES {
+            let mut rng = Rng::new(rate.into());
+            let mut right = 0;
+            for _ in 0..200 {
+                let bits = burst_bits(&dips::frame(&mut rng, rate), rate);
+                let frame = bits.and_then(|b| decode_uplink_bits(&b.bits));
+                right += usize::from(frame.is_some_and(|f| f.crc_ok));
+            }
+            assert!(right > 90, "{rate}: {right} of 200");
+        }
+    }
+}
