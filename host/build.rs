@@ -120,11 +120,14 @@ fn main() {
     println!("cargo::rustc-check-cfg=cfg(has_rust, has_record, has_bench)");
     let source = env::var("BARSHUNET_RUST").map_or_else(|_| root.join("../shared/docs/src"), PathBuf::from);
     let modules = source.join("host/crates/sigfox/src");
-    println!("cargo::rerun-if-changed={}", modules.display());
     if modules.is_dir() {
+        println!("cargo::rerun-if-changed={}", modules.display());
         let text: String = MODULES.iter().map(|m| module(&modules, m)).collect();
         fs::write(out.join("rust.rs"), text).expect("OUT_DIR can be written");
         println!("cargo::rustc-cfg=has_rust");
+    } else {
+        // a file that is never there: the next build looks again
+        println!("cargo::rerun-if-changed=the-rust-is-not-at-hand");
     }
     let libraries = root.join("target/staticlib");
     fs::create_dir_all(&libraries).expect("target/ can be written");

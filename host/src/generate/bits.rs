@@ -167,5 +167,5 @@ pub fn random(rng: &mut Rng) -> Case {
         }
         return self::bytes("a bit byte over 1", &bytes);
     }
-    if rng.chance(0.01) { cut(rng, whole) } else { whole }
+    if rng.chance(0.01) { cut(rng, 0, whole) } else { whole }
 }

@@ -128,5 +128,5 @@ pub fn random(rng: &mut Rng) -> Case {
         }
     }
     let whole = of("a scene", rate, rng.real(-1e3, 1e6), &burst, &dbm);
-    if rng.chance(0.01) { cut(rng, whole) } else { whole }
+    if rng.chance(0.01) { cut(rng, 0, whole) } else { whole }
 }

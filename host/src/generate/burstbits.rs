@@ -163,5 +163,5 @@ pub fn random(rng: &mut Rng) -> Case {
     let most = 12 * rate as usize;
     let seg = &seg[..seg.len().min(most)];
     let whole = of(label, rate, seg);
-    if rng.chance(0.01) { cut(rng, whole) } else { whole }
+    if rng.chance(0.01) { cut(rng, 0, whole) } else { whole }
 }

@@ -201,5 +201,5 @@ pub fn random(rng: &mut Rng) -> Case {
         dbm[at] = rng.pick(&[f32::NAN, 101.0, -201.0]);
     }
     let whole = ask.of(label, &dbm);
-    if rng.chance(0.01) { cut(rng, whole) } else { whole }
+    if rng.chance(0.01) { cut(rng, 0, whole) } else { whole }
 }

@@ -83,5 +83,5 @@ pub fn random(rng: &mut Rng) -> Case {
     };
     let floor = rng.chance(0.3).then(|| rng.real(-130.0, -80.0) as f32);
     let whole = of("a scene", rate, rng.real(-1e3, 1e6), floor, &dbm);
-    if rng.chance(0.01) { cut(rng, whole) } else { whole }
+    if rng.chance(0.01) { cut(rng, 0, whole) } else { whole }
 }

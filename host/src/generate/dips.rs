@@ -153,7 +153,7 @@ pub fn random(rng: &mut Rng) -> Case {
     };
     let level = rng.real(-70.0, -20.0);
     let whole = of(label, rate, level, &seg);
-    if rng.chance(0.01) { cut(rng, whole) } else { whole }
+    if rng.chance(0.01) { cut(rng, 0, whole) } else { whole }
 }
 
 fn walk(rng: &mut Rng, level: &mut f64) -> f32 {

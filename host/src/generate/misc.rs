@@ -183,7 +183,7 @@ pub fn random(rng: &mut Rng) -> Case {
         }
     };
     let whole = case(format!("call {number}"), put);
-    if rng.chance(0.01) { cut(rng, whole) } else { whole }
+    if rng.chance(0.01) { cut(rng, 0, whole) } else { whole }
 }
 
 fn convolution(rng: &mut Rng, put: Put) -> Put {

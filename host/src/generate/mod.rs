@@ -1,15 +1,19 @@
 //! Inputs for both sides, of every format: directed edges first, then as many random ones as wanted.
 
+mod band;
 mod bits;
 mod burst;
 mod burstbits;
 mod bursts;
 mod capture;
 mod dips;
+mod events;
+mod listen;
 mod misc;
 mod put;
 mod rng;
 mod signal;
+mod tracker;
 mod uplink;
 
 use put::Put;
@@ -40,6 +44,13 @@ pub const FORMATS: &[Format] = &[
         directed: bits::directed,
         random: bits::random,
         sample: None,
+    },
+    Format {
+        name: "events",
+        stream: true,
+        directed: events::directed,
+        random: events::random,
+        sample: Some(events::sample),
     },
     Format {
         name: "bursts",
@@ -77,6 +88,20 @@ pub const FORMATS: &[Format] = &[
         sample: None,
     },
     Format {
+        name: "tracker",
+        stream: true,
+        directed: tracker::directed,
+        random: tracker::random,
+        sample: Some(tracker::sample),
+    },
+    Format {
+        name: "listen",
+        stream: true,
+        directed: listen::directed,
+        random: listen::random,
+        sample: Some(listen::sample),
+    },
+    Format {
         name: "misc",
         stream: false,
         directed: misc::directed,
@@ -108,9 +133,9 @@ fn case(label: impl Into<String>, put: Put) -> Case {
     }
 }
 
-/// The case cut somewhere in its middle.
-fn cut(rng: &mut Rng, case: Case) -> Case {
-    let length = rng.range(1, case.bytes.len() - 1);
+/// The case cut somewhere in its middle, after its header.
+fn cut(rng: &mut Rng, header: usize, case: Case) -> Case {
+    let length = rng.range(header + 1, case.bytes.len() - 1);
     Case {
         label: format!("{}, cut", case.label),
         bytes: case.bytes[..length].to_vec(),

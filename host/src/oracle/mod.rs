@@ -10,7 +10,7 @@ mod events;
 mod listen;
 mod misc;
 pub mod record;
-mod tracker;
+pub mod tracker;
 
 use crate::limits;
 use crate::rust::frequency::FrameSpan;
