@@ -5,6 +5,8 @@
 pub mod commands;
 #[cfg(has_rust)]
 mod compare;
+#[cfg(has_record)]
+pub mod decode;
 #[cfg(has_rust)]
 pub mod generate;
 #[cfg(has_rust)]

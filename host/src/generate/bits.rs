@@ -146,7 +146,7 @@ pub fn random(rng: &mut Rng) -> Case {
             "frame type, then random bits".to_string()
         }
         errors => {
-            let errors = (errors as usize).saturating_sub(5);
+            let errors = errors.saturating_sub(5);
             let from = if rng.chance(0.8) { 32 } else { 0 };
             for _ in 0..errors {
                 damage(rng, &mut bits, from);
