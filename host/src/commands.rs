@@ -3,12 +3,13 @@
 use std::io::{self, Read, Write};
 use std::process::ExitCode;
 
-use crate::{compare, generate, oracle, sample};
+use crate::{bench, compare, generate, oracle, sample};
 
 const USAGE: &str = "usage: oracle NAME
        gen NAME [--seed N] [--cases N] [--case K]
        compare NAME.. [--seed N] [--cases N]
-       sample NAME..";
+       sample NAME..
+       bench [WORD..]";
 
 /// What the flags say, or their defaults.
 struct Flags {
@@ -34,6 +35,7 @@ fn command(words: &[&str], flags: &[&str]) -> Result<ExitCode, String> {
         ["gen", name] => print_inputs(name, &flags),
         ["compare", names @ ..] if !names.is_empty() => compare::compare(names, flags.seed, flags.cases),
         ["sample", names @ ..] if !names.is_empty() => sample::write(names),
+        ["bench", words @ ..] => bench::run(words),
         _ => Err(USAGE.to_string()),
     }
 }

@@ -2,6 +2,8 @@
 //! All of it needs the Rust's text but the C function's wrapper.
 
 #[cfg(has_rust)]
+mod bench;
+#[cfg(has_rust)]
 pub mod commands;
 #[cfg(has_rust)]
 mod compare;

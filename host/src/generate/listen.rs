@@ -36,7 +36,7 @@ pub fn random(rng: &mut Rng) -> Case {
 }
 
 /// Devices on a band and a receiver that tunes where it is told; a stubborn one tunes elsewhere at times.
-fn stream(rng: &mut Rng, seconds: usize, stubborn: f64) -> Case {
+pub fn stream(rng: &mut Rng, seconds: usize, stubborn: f64) -> Case {
     let band = Band::random(rng, RATE, seconds * RATE as usize, BASE, STEP_HZ);
     let mut receiver = Receiver::new(RATE, BASE, STEP_HZ);
     let mut put = Put::new();

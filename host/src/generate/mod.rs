@@ -9,6 +9,7 @@ mod capture;
 mod dips;
 mod events;
 mod listen;
+pub mod load;
 mod misc;
 mod put;
 mod rng;

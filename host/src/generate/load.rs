@@ -1,0 +1,70 @@
+//! Inputs for the benchmark: minutes of air with devices, and bits that can't be repaired.
+
+use super::events::Calls;
+use super::put::Put;
+use super::rng::Rng;
+use super::signal::{self, Air};
+use super::uplink::{Uplink, damage};
+use super::{listen, signal::from_raw};
+
+/// A run of one program.
+pub struct Load {
+    pub label: &'static str,
+    pub name: &'static str,
+    pub bytes: Vec<u8>,
+}
+
+pub fn loads() -> Vec<Load> {
+    vec![
+        Load {
+            label: "listen, 600 s",
+            name: "listen",
+            bytes: listen::stream(&mut Rng::new(1), 600, 0.0).bytes,
+        },
+        events("events, 120 s at 1,000/s in 8s", 1000, 120, 8),
+        events("events, 300 s at 1,000/s in seconds", 1000, 300, 1000),
+        events("events, 120 s at 4,000/s in seconds", 4000, 120, 4000),
+        Load {
+            label: "bits, 500 beyond repair",
+            name: "bits",
+            bytes: beyond_repair(500).iter().fold(Put::new(), put_bits).0,
+        },
+    ]
+}
+
+/// Raw pushes of n samples, from scenes of 30 s one after the other.
+fn events(label: &'static str, rate: u32, seconds: usize, n: usize) -> Load {
+    let mut rng = Rng::new(u64::from(rate));
+    let scenes = (0..seconds / 30).map(|_| signal::scene(&mut rng, rate, 30 * rate as usize));
+    let raw: Vec<u8> = scenes.flat_map(|air: Air| air.raw()).collect();
+    let calls = raw.chunks(n).fold(Calls::new(rate), Calls::push_raw);
+    Load {
+        label,
+        name: "events",
+        bytes: calls.flush().case(label).bytes,
+    }
+}
+
+fn put_bits(put: Put, bits: &Vec<bool>) -> Put {
+    put.u16(bits.len() as u16).bits(bits)
+}
+
+/// Frames of the longest class with six damages: every repair is tried in vain, or nearly always.
+pub fn beyond_repair(count: usize) -> Vec<Vec<bool>> {
+    let mut rng = Rng::new(4);
+    let mut frame = || {
+        let rest = rng.bytes(14);
+        let uplink = Uplink::new(4, rng.next() as u32, rng.next() as u16, 0, false, &rest);
+        let mut bits = uplink.bits(rng.below(3), 16);
+        for _ in 0..6 {
+            damage(&mut rng, &mut bits, 32);
+        }
+        bits
+    };
+    (0..count).map(|_| frame()).collect()
+}
+
+/// 12 s of samples, half dB apart as raw ones are.
+pub fn samples(rate: u32) -> Vec<f32> {
+    from_raw(&signal::scene(&mut Rng::new(12), rate, 12 * rate as usize).raw())
+}
