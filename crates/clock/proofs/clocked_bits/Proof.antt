@@ -1,0 +1,105 @@
+-- `clock::clocked_bits` meets its contract. Assumes nothing.
+use mir.ValLaws.{toZ-ofZ}
+use Rattle.rates.specs.Rates.{nominalOf}
+use Rattle.clock.specs.Clock.{place}
+use Rattle.clock.proofs.BitLaws.{ppm-fits}
+use Prim.Native.Nat.{ℕ, max}
+use lib.Ieee.{Float}
+use mathlib.Core.Path.{_≡_, refl, sym, ap, _∙_}
+use native.Mathlib.Omega.{arith}
+use lib.ListN.{length}
+use lib.IntN.{ℤ}
+use mir.Syntax.{w32}
+use mir.Val.{toZ, ofZ}
+use Rattle.clock.specs.Clock.{lost}
+use Rattle.clock.specs.Bits.{clocked, ppmOf}
+use Rattle.clock.specs.Walk.{places}
+use Rattle.clock.proofs.BitLaws.{tells-none, clock-few, clock-lost, clock-bits}
+use borrow.Author.Needs.{needs}
+use Rattle.clock.proofs.clocked_bits.Statement.{statement}
+use Rattle.clock.proofs.clocked_bits.Tie as tie
+
+returns : tie.Need-returns
+returns c =
+    let a = c .before .before .before .before .args in
+    tells-none (a .rate) _ (a .bits .now) (clock-few (a .rate) (a .seg .now) (a .level) (places (a .points .now) (a .c .count)) (a .c) (c .if1 .taken))
+
+end-index-requires : tie.Need-end-index-requires
+end-index-requires c κs = search needs
+
+is-lost-requires : tie.Need-is-lost-requires
+is-lost-requires c κs = search needs
+
+returns-2 : tie.Need-returns-2
+returns-2 c =
+    let a = c .before .before .before .before .before .before .before .args in
+    tells-none (a .rate) _ (a .bits .now) (clock-lost (a .rate) (a .seg .now) (a .level) (places (a .points .now) (a .c .count)) (a .c) (c .before .before .before .if1 .left)
+    (ap lost (sym (c .before .before .end-index .ensures)) ∙ sym (c .before .is-lost .ensures) ∙ c .if2 .taken))
+
+place-of-requires : tie.Need-place-of-requires
+place-of-requires c κs = sym (c .before .is-lost .ensures) ∙ c .if2 .left
+
+greatest-requires : tie.Need-greatest-requires
+greatest-requires c κs = search needs
+
+sub-count : tie.Need-sub-count
+sub-count c =
+    let s = c .before .before .before .before .before .before .before .before .before in
+    let o = s .pre .4 .order (omega (arith, c .before .before .before .before .before .if1 .left)) in
+    omega (arith, o, c .greatest .ensures)
+
+add-count : tie.Need-add-count
+add-count c =
+    let s = c .before .before .before .before .before .before .before .before .before in
+    let o = s .pre .4 .low (omega (arith, c .before .before .before .before .before .if1 .left)) in
+    omega (arith, o, c .greatest .ensures, c .before .place-of .ensures .1)
+
+least-requires : tie.Need-least-requires
+least-requires c κs = search needs
+
+write-bits-requires : tie.Need-write-bits-requires
+write-bits-requires c κs =
+    let s = c .before .before .before .before .before .before .before .before .before .before .before in
+    let h = c .before .before .before .before .before .before .before .if1 .left in
+    let o = s .pre .4 .order (omega (arith, h)) in
+    let l = s .pre .4 .low (omega (arith, h)) in
+    (s .pre .2, omega (arith, c .before .least .ensures), omega (arith, c .before .least .ensures), omega (arith, c .before .least .ensures, s .pre .3), omega (arith, o, l))
+
+nominal-of-requires : tie.Need-nominal-of-requires
+nominal-of-requires c κs = search needs
+
+ppm-of-requires : tie.Need-ppm-of-requires
+ppm-of-requires c κs = search needs
+
+same-length : tie.Need-same-length
+same-length c = search needs
+
+returns-3 : tie.Need-returns-3
+returns-3 c =
+    let s = c .before .before .before .before .before .before .before .before .before .before .before .before .before .before .before .before in
+    let a = s .args in
+    let k = c .before .before .before .before .before .before .before .before .before .before .before .end-index in
+    let p : toZ w32 (ofZ w32 (c .ppm-of .result)) ≡ ppmOf (a .c .period) (nominalOf (a .rate)) =
+    ap (λ (z : ℤ). toZ w32 (ofZ w32 z)) (c .ppm-of .ensures ∙ ap (ppmOf (a .c .period)) (c .before .nominal-of .ensures)) ∙ toZ-ofZ w32 _ (ppm-fits (a .c .period) (nominalOf (a .rate))) in
+    clock-bits (a .rate) (a .seg .now) (a .level) (places (a .points .now) (a .c .count)) (a .c) (k .result) (c .before .before .before .before .before .before .before .greatest .result) _ (c .before .before .before .before .before .before .least .result) _ (a .bits .now) _
+    (c .before .before .before .before .before .before .before .before .before .before .before .before .if1 .left) (k .ensures) (sym (c .before .before .before .before .before .before .before .before .before .before .is-lost .ensures) ∙ c .before .before .before .before .before .before .before .before .before .if2 .left) (c .before .before .before .before .before .before .before .greatest .ensures ∙ ap (max (a .c .last)) (c .before .before .before .before .before .before .before .before .place-of .ensures .0)) refl (c .before .before .before .before .before .before .least .ensures)
+    p (s .pre .4) (c .before .before .before .before .write-bits .ensures)
+
+pub clocked-bits-spec : {M : Type 1} → statement M
+clocked-bits-spec =
+    tie.close
+    (tie.spec
+    returns
+    end-index-requires
+    is-lost-requires
+    returns-2
+    place-of-requires
+    greatest-requires
+    sub-count
+    add-count
+    least-requires
+    write-bits-requires
+    nominal-of-requires
+    ppm-of-requires
+    same-length
+    returns-3)

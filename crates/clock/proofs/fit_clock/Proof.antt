@@ -1,0 +1,123 @@
+-- `clock::fit_clock` meets its contract. The invariant: the clock so far, over the dips left, ends as the whole does, and the places of its points stand in front. Assumes nothing.
+use borrow.Author.Needs.{needs}
+use mathlib.Core.Path.{_≡_, refl, sym, _∙_}
+use Prim.Native.Nat.{ℕ, _+_, _-_, _≤_, _<_}
+use native.Mathlib.Omega.{arith}
+use lib.ListN.{length}
+use Rattle.clock.proofs.FitLaws.{joined-point, FitAt, fit-start, fit-end, fit-lost, fit-skipped, fit-joined}
+use Rattle.clock.proofs.fit_clock.Statement.{statement}
+use Rattle.clock.proofs.fit_clock.Tie as tie
+
+abbrev Inv-loop : tie.InvT-loop
+Inv-loop dips₀ n clock₀ i₀ dips clock i = (i ≤ n) × FitAt clock₀ n dips₀ dips clock i
+
+abbrev μ-loop : tie.MeasureT-loop
+μ-loop dips₀ n clock₀ i₀ dips clock i = n - i
+
+loop-holds : tie.Need-loop-holds Inv-loop μ-loop
+loop-holds c = (omega arith, fit-start (c .before .args .start) (c .before .args .n) (c .before .args .dips .now) (c .before .pre .2))
+
+mul-track : tie.Need-mul-track Inv-loop μ-loop
+mul-track c = omega (arith, c .before .loop .inv .0, c .before .before .before .pre .1)
+
+slice-read-track : tie.Need-slice-read-track Inv-loop μ-loop
+slice-read-track c = omega (arith, c .before .before .loop .inv .1 .size, c .before .loop-test .taken, c .before .before .before .before .pre .0)
+
+track-requires : tie.Need-track-requires Inv-loop μ-loop
+track-requires c κs = omega (arith, c .before .before .loop .inv .1 .few, c .before .loop-test .taken, c .before .before .before .before .pre .1)
+
+enum-told : tie.Need-enum-told Inv-loop μ-loop
+enum-told c = search needs
+
+same-length : tie.Need-same-length Inv-loop μ-loop
+same-length c = c .before .before .before .before .before .loop .inv .1 .size
+
+returns : tie.Need-returns Inv-loop μ-loop
+returns c =
+    let l = c .before .before .before .before .before in
+    let a = l .before .before .args in
+    fit-lost (a .start) (a .n) (a .dips .now) (l .loop .dips) (l .loop .clock) (l .loop .i) (l .loop .inv .1) (c .before .before .before .before .loop-test .taken) (omega (arith, l .loop .inv .1 .size, l .before .before .pre .0))
+    (c .before .before .track .result) (c .before .before .track .ensures) (c .enum-told .given .1)
+
+enum-told-2 : tie.Need-enum-told-2 Inv-loop μ-loop
+enum-told-2 c = search needs
+
+add-i : tie.Need-add-i Inv-loop μ-loop
+add-i c = omega (arith, c .before .before .before .before .loop-test .taken, c .before .before .before .before .before .before .before .pre .1)
+
+loop-less : tie.Need-loop-less Inv-loop μ-loop
+loop-less c = omega (arith, c .before .before .before .before .loop-test .taken)
+
+loop-again : tie.Need-loop-again Inv-loop μ-loop
+loop-again c =
+    let l = c .before .before .before .before .before in
+    let a = l .before .before .args in (
+      omega (arith, c .before .before .before .before .loop-test .taken),
+      fit-skipped (a .start) (a .n) (a .dips .now) (l .loop .dips) (l .loop .clock) (l .loop .i) (l .loop .inv .1) (c .before .before .before .before .loop-test .taken) (omega (arith, l .loop .inv .1 .size, l .before .before .pre .0))
+          (c .before .before .track .result) (c .before .before .track .ensures) (c .enum-told2 .given .1),
+    )
+
+enum-known-next : tie.Need-enum-known-next Inv-loop μ-loop
+enum-known-next c = search needs
+
+count-as-f64-requires : tie.Need-count-as-f64-requires Inv-loop μ-loop
+count-as-f64-requires c κs =
+    let p = joined-point (c .before .before .before .before .before .before .loop .clock) (c .before .next .given .0 .0) _ (sym (c .before .before .before .track .ensures) ∙ c .before .next .given .1) in
+    omega (arith, p .small)
+
+mul-dips : tie.Need-mul-dips Inv-loop μ-loop
+mul-dips c = omega (arith, c .before .before .before .before .before .before .before .loop .inv .1 .few, c .before .before .before .before .before .before .loop-test .taken, c .before .before .before .before .before .before .before .before .before .pre .1)
+
+slice-write-dips : tie.Need-slice-write-dips Inv-loop μ-loop
+slice-write-dips c = omega (arith, c .before .before .before .before .before .before .before .loop .inv .1 .few, c .before .before .before .before .before .before .before .loop .inv .1 .size, c .before .before .before .before .before .before .loop-test .taken, c .before .before .before .before .before .before .before .before .before .pre .0)
+
+add-i-2 : tie.Need-add-i-2 Inv-loop μ-loop
+add-i-2 c = omega (arith, c .before .before .before .before .before .before .loop-test .taken, c .before .before .before .before .before .before .before .before .before .pre .1)
+
+loop-less-2 : tie.Need-loop-less-2 Inv-loop μ-loop
+loop-less-2 c = omega (arith, c .before .before .before .before .before .before .loop-test .taken)
+
+loop-again-2 : tie.Need-loop-again-2 Inv-loop μ-loop
+loop-again-2 c =
+    let l = c .before .before .before .before .before .before .before in
+    let a = l .before .before .args in (
+      omega (arith, c .before .before .before .before .before .before .loop-test .taken),
+      fit-joined (a .start) (a .n) (a .dips .now) (l .loop .dips) (l .loop .clock) (l .loop .i) (l .loop .inv .1) (c .before .before .before .before .before .before .loop-test .taken) (omega (arith, l .loop .inv .1 .size, l .before .before .pre .0))
+          (c .before .before .before .before .track .result) (c .before .before .before .before .track .ensures) (c .before .before .next .given .0 .0) (c .count-as-f64 .result) (c .before .before .next .given .1) (c .count-as-f64 .ensures),
+    )
+
+same-length-2 : tie.Need-same-length-2 Inv-loop μ-loop
+same-length-2 c = c .before .loop .inv .1 .size
+
+returns-2 : tie.Need-returns-2 Inv-loop μ-loop
+returns-2 c =
+    let l = c .before in
+    let a = l .before .before .args in
+    fit-end (a .start) (a .n) (a .dips .now) (l .loop .dips) (l .loop .clock) (l .loop .i) (l .loop .inv .1) (omega (arith, l .loop .inv .0, c .loop-test .left))
+
+pub fit-clock-spec : {M : Type 1} → statement M
+fit-clock-spec =
+    tie.close
+    (tie.spec
+    Inv-loop
+    μ-loop
+    loop-holds
+    mul-track
+    slice-read-track
+    track-requires
+    enum-told
+    same-length
+    returns
+    enum-told-2
+    add-i
+    loop-less
+    loop-again
+    enum-known-next
+    count-as-f64-requires
+    mul-dips
+    slice-write-dips
+    add-i-2
+    loop-less-2
+    loop-again-2
+    same-length-2
+    returns-2)

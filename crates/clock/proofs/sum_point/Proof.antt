@@ -1,0 +1,21 @@
+-- `clock::sum_point` meets its contract. Assumes nothing.
+use Rattle.clock.specs.Clock.{summed}
+use borrow.Author.Needs.{needs}
+use Rattle.clock.proofs.sum_point.Statement.{statement}
+use Rattle.clock.proofs.sum_point.Tie as tie
+
+place-of-requires : tie.Need-place-of-requires
+place-of-requires c κs = search needs
+
+add-t11 : tie.Need-add-t11
+add-t11 c = search needs
+
+pick-place-requires : tie.Need-pick-place-requires
+pick-place-requires c κs = search needs
+
+returns : tie.Need-returns
+unfolding summed
+returns c = rw (c .pick-place .ensures, c .before .before .before .before .before .before .before .place-of .ensures .0)
+
+pub sum-point-spec : {M : Type 1} → statement M
+sum-point-spec = tie.close (tie.spec place-of-requires add-t11 pick-place-requires returns)

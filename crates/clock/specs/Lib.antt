@@ -1,0 +1,6 @@
+-- The definitions that the contracts of `clock` cite.
+pub mod Numbers
+pub mod Clock
+pub mod Bits
+pub mod Tracked
+pub mod Walk
