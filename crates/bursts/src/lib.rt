@@ -82,7 +82,7 @@ pub fn measured_floor(dbm: &[f32]) -> f32
     if dbm.len() == 0 {
         return SILENCE;
     }
-    order::select32(dbm, (dbm.len() / FLOOR_PART) as u32)
+    order::select32(dbm, dbm.len() / FLOOR_PART)
 }
 
 // The value at 0.2 of the sorted samples, and SILENCE of none (demod.rs `noise_floor`).

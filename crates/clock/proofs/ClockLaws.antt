@@ -14,7 +14,7 @@ use lib.Ieee.{Float, nan, binary64, add, lt, ne, isNan}
 use borrow.Author.Tests.{ltb-false, le-leb, lt-leb}
 use Rattle.floats.specs.Number.{num}
 use Rattle.floats.specs.Trig.{sine, cosine}
-use Rattle.floats.proofs.Stores.{nan-is, no-nan-is}
+use Rattle.floats.proofs.Floors.{nan-is, no-nan-is}
 use Rattle.clock.specs.declared.Clock.{Clock}
 use Rattle.clock.specs.declared.Step.{Step}
 use Rattle.clock.specs.declared.Step.the-variants.{Lost, Skipped, Joined}

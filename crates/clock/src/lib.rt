@@ -335,7 +335,7 @@ fn level_of(seg: &[f32]) -> f32
     requires { ⌜ (0 < length (now seg)) × (length (now seg) ≤ mostSamples) × (allDbm (now seg) ≡ true) ⌝ }
     ensures { λ r. ⌜ r ≡ quantile levelQuantile (now (seg .entry)) ⌝ }
 {
-    order::select32(seg, (LEVEL_TENTHS * seg.len() / 10) as u32)
+    order::select32(seg, LEVEL_TENTHS * seg.len() / 10)
 }
 
 fn greatest(a: usize, b: usize) -> usize

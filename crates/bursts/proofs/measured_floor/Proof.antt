@@ -15,9 +15,6 @@ use Rattle.bursts.proofs.measured_floor.Tie as tie
 returns : tie.Need-returns
 returns c = silence-is ∙ sym (floor-none (c .before .before .args .dbm .now) (c .if1 .taken))
 
-cast-select32 : tie.Need-cast-select32
-cast-select32 c = search needs
-
 select32-requires : tie.Need-select32-requires
 select32-requires c κs =
     let s = c .before .before in
@@ -30,4 +27,4 @@ returns-2 c =
     c .select32 .ensures ∙ ap (kth binary32 l) (sym (fifth-is (length l) (omega (arith, s .pre .0)))) ∙ sym (floor-some l (omega (arith, c .before .if1 .left)))
 
 pub measured-floor-spec : {M : Type 1} → statement M
-measured-floor-spec = tie.close (tie.spec returns cast-select32 select32-requires returns-2)
+measured-floor-spec = tie.close (tie.spec returns select32-requires returns-2)

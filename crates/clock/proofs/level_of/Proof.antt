@@ -15,9 +15,6 @@ use Rattle.clock.proofs.level_of.Tie as tie
 mul-select32 : tie.Need-mul-select32
 mul-select32 c = search needs
 
-cast-select32 : tie.Need-cast-select32
-cast-select32 c = search needs
-
 select32-requires : tie.Need-select32-requires
 select32-requires c κs =
     let s = c .before in
@@ -31,4 +28,4 @@ returns c =
     c .select32 .ensures ∙ ap (kth binary32 l) (sym (nine-tenths-is (length l) (omega (arith, s .pre .1))))
 
 pub level-of-spec : {M : Type 1} → statement M
-level-of-spec = tie.close (tie.spec mul-select32 cast-select32 select32-requires returns)
+level-of-spec = tie.close (tie.spec mul-select32 select32-requires returns)
