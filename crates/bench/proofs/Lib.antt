@@ -1,1 +1,2 @@
+-- The laws of `bench`.
 pub mod Numbers

@@ -1,4 +1,5 @@
 -- How a search for one element of the sorted list stands: a range of numbers, and a rank among the elements in it.
+-- Only contracts of `order`'s private functions cite this; what `select32` and `select64` promise is in Order and Sorted.
 use mathlib.Core.Path.{_≡_}
 use mathlib.Core.List.{List}
 use Prim.Native.Nat.{ℕ, zero, suc, _+_, _-_, _*_, _<_, min}
@@ -7,7 +8,7 @@ use Rattle.order.specs.declared.Range.{Range}
 use Rattle.order.specs.declared.Bin.{Bin}
 use Rattle.order.specs.Sorted.{below}
 
--- the histogram's bins: enough for two rounds on half-dB levels, few enough for the nearest cache
+-- the bins of a cut: half-dB levels are told apart in one or two rounds, and the counts fit the nearest cache
 abbrev pub bins : ℕ
 bins = 2048
 

@@ -9,8 +9,6 @@ use Rattle.bench.specs.Select.{numbers}
 use Rattle.bench.proofs.Numbers.{turn, end}
 use Rattle.bench.proofs.all_numbers32.Statement.{statement}
 use Rattle.bench.proofs.all_numbers32.Tie as tie
-use Rattle.bench.proofs.all_numbers32.Reads as reads
-use Rattle.bench.proofs.all_numbers32.Lts as lts
 
 abbrev Inv-loop : tie.InvT-loop
 Inv-loop xs ok₀ i₀ ok i = (i ≤ length xs) × (ok && numbers (drop i xs) ≡ numbers xs)

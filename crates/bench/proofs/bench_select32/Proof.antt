@@ -6,10 +6,6 @@ use Rattle.bench.proofs.Numbers.{none-nan, past, too-long, no-number, a
 use borrow.Author.Needs.{needs}
 use Rattle.bench.proofs.bench_select32.Statement.{statement}
 use Rattle.bench.proofs.bench_select32.Tie as tie
-use Rattle.bench.proofs.bench_select32.Reads as reads
-use Rattle.bench.proofs.bench_select32.Lts as lts
-use Rattle.bench.proofs.all_numbers32.Reads as all-numbers32-reads
-use Rattle.order.proofs.select32.Reads as select32-reads
 
 returns : tie.Need-returns
 returns c = past binary32 (c .before .before .args .xs .now) (c .before .before .args .k) (c .if1 .taken)

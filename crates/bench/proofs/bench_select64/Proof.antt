@@ -6,10 +6,6 @@ use Rattle.bench.proofs.Numbers.{none-nan, past, too-long, no-number, a
 use borrow.Author.Needs.{needs}
 use Rattle.bench.proofs.bench_select64.Statement.{statement}
 use Rattle.bench.proofs.bench_select64.Tie as tie
-use Rattle.bench.proofs.bench_select64.Reads as reads
-use Rattle.bench.proofs.bench_select64.Lts as lts
-use Rattle.bench.proofs.all_numbers64.Reads as all-numbers64-reads
-use Rattle.order.proofs.select64.Reads as select64-reads
 
 returns : tie.Need-returns
 returns c = past binary64 (c .before .before .args .xs .now) (c .before .before .args .k) (c .if1 .taken)

@@ -1,18 +1,14 @@
 -- `order::bounds32` meets its contract. Assumes nothing.
-use mathlib.Core.Path.{_≡_, refl}
 use mathlib.Core.Logic.{⊎-elim}
-use Prim.Native.Nat.{ℕ, _+_, _-_, _≤_, _<_, _^_}
+use Prim.Native.Nat.{_-_, _^_}
 use native.Mathlib.Omega.{arith}
 use borrow.Author.Needs.{needs}
-use lib.ListN.{length, take}
+use lib.ListN.{length}
 use lib.Ieee.{nan, binary32}
 use Rattle.order.specs.Order.{key}
 use Rattle.order.proofs.Bounds.{Passed, none-passed, pass, ordered, tight}
 use Rattle.order.proofs.bounds32.Statement.{statement}
 use Rattle.order.proofs.bounds32.Tie as tie
-use Rattle.order.proofs.bounds32.Reads as reads
-use Rattle.order.proofs.bounds32.Lts as lts
-use Rattle.order.proofs.offset32.Reads as offset32-reads
 
 abbrev Inv-loop : tie.InvT-loop
 Inv-loop xs r lo span least₀ most₀ i₀ least most i = Passed (key binary32) xs lo span least most i

@@ -1,18 +1,14 @@
 -- `order::bounds64` meets its contract. Assumes nothing.
-use mathlib.Core.Path.{_≡_, refl}
 use mathlib.Core.Logic.{⊎-elim}
-use Prim.Native.Nat.{ℕ, _+_, _-_, _≤_, _<_, _^_}
+use Prim.Native.Nat.{_-_, _^_}
 use native.Mathlib.Omega.{arith}
 use borrow.Author.Needs.{needs}
-use lib.ListN.{length, take}
+use lib.ListN.{length}
 use lib.Ieee.{nan, binary64}
 use Rattle.order.specs.Order.{key}
 use Rattle.order.proofs.Bounds.{Passed, none-passed, pass, ordered, tight}
 use Rattle.order.proofs.bounds64.Statement.{statement}
 use Rattle.order.proofs.bounds64.Tie as tie
-use Rattle.order.proofs.bounds64.Reads as reads
-use Rattle.order.proofs.bounds64.Lts as lts
-use Rattle.order.proofs.offset64.Reads as offset64-reads
 
 abbrev Inv-loop : tie.InvT-loop
 Inv-loop xs r lo span least₀ most₀ i₀ least most i = Passed (key binary64) xs lo span least most i

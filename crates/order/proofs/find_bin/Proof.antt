@@ -1,14 +1,11 @@
 -- `order::find_bin` meets its contract. Assumes nothing.
 use mathlib.Core.Path.{_≡_}
-use Prim.Native.Nat.{ℕ, _+_, _-_, _≤_, _<_}
+use Prim.Native.Nat.{_+_, _-_, _<_}
 use native.Mathlib.Omega.{arith}
-use borrow.Author.Needs.{needs}
 use Rattle.order.specs.Search.{bins, total}
 use Rattle.order.proofs.Cut.{total-none, goes-on}
 use Rattle.order.proofs.find_bin.Statement.{statement}
 use Rattle.order.proofs.find_bin.Tie as tie
-use Rattle.order.proofs.find_bin.Reads as reads
-use Rattle.order.proofs.find_bin.Lts as lts
 
 abbrev Inv-loop : tie.InvT-loop
 Inv-loop counts k at₀ rank₀ at rank = (at < bins) × (total counts at + rank ≡ k)
@@ -16,31 +13,24 @@ Inv-loop counts k at₀ rank₀ at rank = (at < bins) × (total counts at + rank
 abbrev μ-loop : tie.MeasureT-loop
 μ-loop counts k at₀ rank₀ at rank = bins - at
 
--- src/lib.rt:53:5
 loop-holds : tie.Need-loop-holds Inv-loop μ-loop
 loop-holds c = (omega arith, total-none (c .args .counts .now) (c .args .k))
 
--- src/lib.rt:54:20
 mul-here : tie.Need-mul-here Inv-loop μ-loop
 mul-here c = omega arith
 
--- src/lib.rt:54:20
 element-copy-out-here : tie.Need-element-copy-out-here Inv-loop μ-loop
 element-copy-out-here c = c .loop .inv .0
 
--- src/lib.rt:56:13
 returns : tie.Need-returns Inv-loop μ-loop
-returns c = (c .before .before .loop .inv .0, c .before .before .loop .inv .1, c .if1 .taken)
+returns c = (c .before .before .loop .inv .0, c .before .before .loop .inv .1, omega (arith, c .if1 .taken))
 
--- src/lib.rt:59:9
 add-at : tie.Need-add-at Inv-loop μ-loop
 add-at c = omega arith
 
--- src/lib.rt:53:5
 loop-less : tie.Need-loop-less Inv-loop μ-loop
 loop-less c = omega arith
 
--- src/lib.rt:53:5
 loop-again : tie.Need-loop-again Inv-loop μ-loop
 loop-again c =
     let l = c .before .before .loop in

@@ -13,12 +13,6 @@ use Rattle.order.proofs.Bins.{none-counted}
 use borrow.Author.Needs.{needs}
 use Rattle.order.proofs.narrow32.Statement.{statement}
 use Rattle.order.proofs.narrow32.Tie as tie
-use Rattle.order.proofs.narrow32.Reads as reads
-use Rattle.order.proofs.narrow32.Lts as lts
-use Rattle.order.proofs.count32.Reads as count32-reads
-use Rattle.order.proofs.find_bin.Reads as find-bin-reads
-use Rattle.order.proofs.part_of.Reads as part-of-reads
-use Rattle.order.proofs.shift_of.Reads as shift-of-reads
 
 shift-of-requires : tie.Need-shift-of-requires
 shift-of-requires c κs = search needs

@@ -17,41 +17,32 @@ kept c = shl-kept (c .args .b .at) (c .args .shift) (2 ^ 64) (omega (arith, c .p
 whole : (c : lts.Start reads.Pre reads.Post) → (1 * 2 ^ c .args .shift) % 2 ^ 64 ≡ 2 ^ c .args .shift
 whole c = one-kept (c .args .shift) 64 (c .pre .0)
 
--- src/lib.rt:65:33
 cast-step : tie.Need-cast-step
 cast-step c = search needs
 
--- src/lib.rt:65:16
 shl-step : tie.Need-shl-step
 shl-step c = search needs
 
--- src/lib.rt:66:16
 sub-rest : tie.Need-sub-rest
 sub-rest c = search needs
 
--- src/lib.rt:67:26
 cast-width : tie.Need-cast-width
 cast-width c = search needs
 
--- src/lib.rt:67:18
 shl-width : tie.Need-shl-width
 shl-width c = search needs
 
--- src/lib.rt:67:17
 sub-width : tie.Need-sub-width
 sub-width c = omega (arith, whole c, pow-pos (c .args .shift))
 
--- src/lib.rt:69:13
 add-t18 : tie.Need-add-t18
 add-t18 c = search needs
 
--- src/lib.rt:61:1
 returns : tie.Need-returns
 returns c =
     let a = c .before .args in
     part-is (a .r) (a .b) (2 ^ a .shift) _ _ (omega (arith, kept (c .before))) (omega (arith, kept (c .before), c .if1 .taken, whole (c .before)))
 
--- src/lib.rt:61:1
 returns-2 : tie.Need-returns-2
 returns-2 c =
     let a = c .before .args in

@@ -1,7 +1,6 @@
 -- `order::shift_of` meets its contract. Assumes nothing.
-use Prim.Native.Nat.{ℕ, _+_, _-_, _≤_, _<_, _^_}
+use Prim.Native.Nat.{_-_, _≤_, _<_, _^_}
 use native.Mathlib.Omega.{arith}
-use borrow.Author.Needs.{needs}
 use Rattle.order.proofs.Shifts.{shift-lt, shift-next, shift-enough}
 use Rattle.order.proofs.shift_of.Statement.{statement}
 use Rattle.order.proofs.shift_of.Tie as tie
@@ -14,34 +13,27 @@ Inv-loop span shift₀ shift = 2 ^ shift ≤ span
 abbrev μ-loop : tie.MeasureT-loop
 μ-loop span shift₀ shift = 64 - shift
 
--- src/lib.rt:40:5
 loop-holds : tie.Need-loop-holds Inv-loop μ-loop
 loop-holds c = omega arith
 
 few : (c : lts.At-loop reads.Pre reads.Post Inv-loop μ-loop) → c .loop .shift < 64
 few c = shift-lt (c .before .args .span) (c .loop .shift) 64 (c .loop .inv) (omega arith)
 
--- src/lib.rt:40:34
 cast-loop : tie.Need-cast-loop Inv-loop μ-loop
 cast-loop c = omega (arith, few c)
 
--- src/lib.rt:40:26
 shr-loop : tie.Need-shr-loop Inv-loop μ-loop
 shr-loop c = few c
 
--- src/lib.rt:41:9
 add-shift : tie.Need-add-shift Inv-loop μ-loop
 add-shift c = omega (arith, few (c .before))
 
--- src/lib.rt:40:5
 loop-less : tie.Need-loop-less Inv-loop μ-loop
 loop-less c = omega (arith, few (c .before))
 
--- src/lib.rt:40:5
 loop-again : tie.Need-loop-again Inv-loop μ-loop
 loop-again c = shift-next (c .before .before .args .span) (c .before .loop .shift) (c .loop-test .taken)
 
--- src/lib.rt:35:1
 returns : tie.Need-returns Inv-loop μ-loop
 returns c = (shift-enough (c .before .before .args .span) (c .before .loop .shift) (c .loop-test .left), c .before .loop .inv)
 
