@@ -32,6 +32,7 @@ const REPLACEMENTS: &[(&str, &str, &str)] = &[
     // what must be compared is reachable
     ("demod", "\nfn round(", "\npub fn round("),
     ("demod", "\nfn find_dips(", "\npub fn find_dips("),
+    ("frequency", "\nfn median(", "\npub fn median("),
     (
         "receiver",
         "\nstruct Pending {\n    message",

@@ -52,8 +52,30 @@ pub fn directed() -> Vec<Case> {
     for rank in 0..3 {
         single_damages(&mut cases, rank);
     }
+    overlaps(&mut cases);
     refused(&mut cases);
     cases
+}
+
+/// Two frame types that share bits, where only the second has a right frame: the first decides.
+fn overlaps(cases: &mut Vec<Case>) {
+    let frames: Vec<Vec<bool>> = uplinks(0)
+        .iter()
+        .flat_map(|u| [0, 1, 2].map(|rank| u.frame(rank)))
+        .collect();
+    for first in &frames {
+        for second in &frames {
+            for apart in 1..FRAME_TYPE_BITS {
+                let joined = [&first[..apart], second].concat();
+                if joined[..FRAME_TYPE_BITS] == first[..FRAME_TYPE_BITS] {
+                    let short = [&Uplink::preamble(8), &joined[..]].concat();
+                    cases.push(of(format!("types {apart} apart"), &short));
+                    let long = [&short[..], &[true; 70]].concat();
+                    cases.push(of(format!("types {apart} apart, long"), &long));
+                }
+            }
+        }
+    }
 }
 
 /// Bodies that end early, exactly, or late.

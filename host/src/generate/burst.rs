@@ -85,8 +85,43 @@ pub fn directed() -> Vec<Case> {
             &dbm,
         ));
     }
+    for rate in [325, 375, 425, 500] {
+        pads(&mut cases, rate);
+    }
     refused(&mut cases, &burst, dbm);
     cases
+}
+
+/// A frame that ends in ones on air that stays loud: where the padding ends decides how many there are.
+fn pads(cases: &mut Vec<Case>, rate: u32) {
+    let ends_in_ones = |device: &u32| {
+        let frame = Uplink::new(0, *device, 1, 0, false, &[]).frame(0);
+        frame.ends_with(&[true, true, true])
+    };
+    let device = (0..).find(ends_in_ones).expect("some CRC ends so");
+    let bits = Uplink::new(0, device, 1, 0, false, &[]).bits(0, 16);
+    let envelope = Shape::clean(-60.0).envelope(&bits, rate);
+    let pad = rate as usize / 50;
+    let mut air = Air::quiet(rate, envelope.len() + 200, -60.0);
+    air.background(0, -110.0);
+    air.background(100 + envelope.len() / 2, -60.0);
+    air.dbm[100..100 + envelope.len()].copy_from_slice(&envelope);
+    let per_bit = rate as usize / 100;
+    for back in 0..5 * per_bit {
+        let burst = Burst {
+            start: 100,
+            end: 100 + envelope.len() - pad - back,
+            peak_dbm: -60.0,
+            floor_dbm: -110.0,
+        };
+        cases.push(of(
+            format!("padding at {rate}, {back} back"),
+            rate,
+            0.0,
+            &burst,
+            &air.samples(),
+        ));
+    }
 }
 
 fn refused(cases: &mut Vec<Case>, burst: &Burst, dbm: Vec<f32>) {
@@ -127,6 +162,7 @@ pub fn random(rng: &mut Rng) -> Case {
             burst.end = (burst.end + rng.below(2 * pad + 1)).saturating_sub(pad);
         }
     }
-    let whole = of("a scene", rate, rng.real(-1e3, 1e6), &burst, &dbm);
+    let t0 = if rng.chance(0.5) { 0.0 } else { rng.real(-1e3, 1e6) };
+    let whole = of("a scene", rate, t0, &burst, &dbm);
     if rng.chance(0.01) { cut(rng, 0, whole) } else { whole }
 }

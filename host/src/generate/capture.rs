@@ -82,6 +82,7 @@ pub fn random(rng: &mut Rng) -> Case {
         signal::from_raw(&air.raw())
     };
     let floor = rng.chance(0.3).then(|| rng.real(-130.0, -80.0) as f32);
-    let whole = of("a scene", rate, rng.real(-1e3, 1e6), floor, &dbm);
+    let t0 = if rng.chance(0.5) { 0.0 } else { rng.real(-1e3, 1e6) };
+    let whole = of("a scene", rate, t0, floor, &dbm);
     if rng.chance(0.01) { cut(rng, 0, whole) } else { whole }
 }

@@ -123,15 +123,15 @@ fn scans(cases: &mut Vec<Case>) {
                 .case(format!("{early} after the frame")),
         );
     }
-    for tail in [60, 61] {
-        let air = frames(201, 1000 + 290 + tail, &[(0, 1000)]);
-        let dbm = air.samples();
-        cases.push(
-            Calls::new(201)
-                .push(&dbm)
-                .flush()
-                .case(format!("{tail} after the frame at 201")),
-        );
+    for rate in [201, 202, 203, 205, 207, 3999] {
+        let r = rate as usize;
+        let start = 3 * r;
+        let end = start + envelope(&two_bytes(1), 0, rate, -60.0).len();
+        for tail in 3 * r / 10 - 1..=3 * r / 10 + 2 {
+            let dbm = frames(rate, end + tail, &[(0, start)]).samples();
+            let calls = Calls::new(rate).push(&dbm).push(&[-110.0]).flush();
+            cases.push(calls.case(format!("{tail} after the frame at {rate}")));
+        }
     }
     let running = frames(1000, 4000, &[(0, 1000)]).samples();
     let calls = Calls::new(1000).push(&running[..1800]).flush().push(&running[1800..]);
@@ -156,13 +156,16 @@ fn starts(cases: &mut Vec<Case>) {
         let calls = Calls::new(1000).pushes(1000, &air.samples());
         cases.push(calls.flush().case(format!("a frame heard after a drop, from {at}")));
     }
-    for lead in [59, 60, 61, 62] {
-        let mut air = Air::quiet(201, 4000, -110.0);
-        air.background(7 * 201, -120.0);
-        air.send(1005 - lead, &vec![-100.0; lead]);
-        air.send(1005, &envelope(&two_bytes(1), 0, 201, -60.0));
-        let calls = Calls::new(201).pushes(101, &air.samples());
-        cases.push(calls.flush().case(format!("a start that moves by {lead} at 201")));
+    for rate in [200, 201, 203, 207, 1000] {
+        let r = rate as usize;
+        for lead in 3 * r / 10 - 1..=3 * r / 10 + 2 {
+            let mut air = Air::quiet(rate, 20 * r, -110.0);
+            air.background(7 * r, -120.0);
+            air.send(5 * r - lead, &vec![-100.0; lead]);
+            air.send(5 * r, &envelope(&two_bytes(1), 0, rate, -60.0));
+            let calls = Calls::new(rate).pushes(r.div_ceil(2), &air.samples());
+            cases.push(calls.flush().case(format!("a start that moves by {lead} at {rate}")));
+        }
     }
     let mut long = Air::quiet(400, 16_000, -110.0);
     long.send(1000, &[-60.0; 9000]);

@@ -1,11 +1,11 @@
 //! Inputs for the benchmark: minutes of air with devices, and bits that can't be repaired.
 
 use super::events::Calls;
+use super::listen;
 use super::put::Put;
 use super::rng::Rng;
 use super::signal::{self, Air};
 use super::uplink::{Uplink, damage};
-use super::{listen, signal::from_raw};
 
 /// A run of one program.
 pub struct Load {
@@ -65,6 +65,28 @@ pub fn beyond_repair(count: usize) -> Vec<Vec<bool>> {
 }
 
 /// 12 s of samples, half dB apart as raw ones are.
+#[cfg(has_bench)]
 pub fn samples(rate: u32) -> Vec<f32> {
-    from_raw(&signal::scene(&mut Rng::new(12), rate, 12 * rate as usize).raw())
+    signal::from_raw(&twelve_seconds(rate).raw())
+}
+
+/// 12 s of samples of any value.
+#[cfg(has_bench)]
+pub fn fine_samples(rate: u32) -> Vec<f32> {
+    let mut air = twelve_seconds(rate);
+    air.noise(&mut Rng::new(5), 2.0);
+    air.samples()
+}
+
+#[cfg(has_bench)]
+fn twelve_seconds(rate: u32) -> Air {
+    signal::scene(&mut Rng::new(12), rate, 12 * rate as usize)
+}
+
+/// Frequencies as the tracker reads them.
+#[cfg(has_bench)]
+pub fn readings(n: usize) -> Vec<f64> {
+    let mut rng = Rng::new(6);
+    let mut reading = || 868_130_000.0 + f64::from(rng.range(0, 150) as u16) * 122.070_312_5 / 0.93;
+    (0..n).map(|_| reading()).collect()
 }

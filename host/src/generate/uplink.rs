@@ -58,8 +58,12 @@ impl Uplink {
 
     /// The frame behind a preamble of so many bits.
     pub fn bits(&self, rank: usize, preamble: usize) -> Vec<bool> {
-        let alternating = (0..preamble).rev().map(|i| i % 2 == 1);
-        alternating.chain(self.frame(rank)).collect()
+        [Self::preamble(preamble), self.frame(rank)].concat()
+    }
+
+    /// So many bits that alternate, the last one 0.
+    pub fn preamble(bits: usize) -> Vec<bool> {
+        (0..bits).rev().map(|i| i % 2 == 1).collect()
     }
 }
 
