@@ -24,29 +24,44 @@ fn select64(xs: &[f64], k: usize) -> f64 {
 }
 
 pub fn rows() -> Vec<Row> {
-    let half_db = [1000, 4000].map(|rate| floor_row("half dB apart", load::samples(rate)));
+    let half_db = [1000, 4000].map(|rate| floor_row("half dB", load::samples(rate)));
     let fine = [1000, 4000].map(|rate| floor_row("any", load::fine_samples(rate)));
     let medians = [25, 250, 7500].map(median_row);
     half_db.into_iter().chain(fine).chain(medians).collect()
 }
 
 fn floor_row(kind: &str, dbm: Vec<f32>) -> Row {
-    let (n, same) = (dbm.len(), dbm.clone());
-    assert_eq!(select32(&dbm, n / 5), noise_floor(&dbm));
-    Row {
-        label: format!("noise_floor of {n} samples, {kind}"),
-        rust: Box::new(move || drop(black_box(noise_floor(black_box(&dbm))))),
-        port: Some(Box::new(move || drop(black_box(select32(black_box(&same), n / 5))))),
-    }
+    let k = dbm.len() / 5;
+    assert_eq!(select32(&dbm, k), noise_floor(&dbm));
+    row(
+        format!("noise_floor of {}, {kind}", dbm.len()),
+        dbm,
+        noise_floor,
+        move |dbm| select32(dbm, k),
+    )
 }
 
 fn median_row(n: usize) -> Row {
     let hz = load::readings(n);
-    let same = hz.clone();
     assert_eq!(select64(&hz, n / 2), median(&hz));
+    row(format!("median of {n}"), hz, median, move |hz| select64(hz, n / 2))
+}
+
+/// One list, so many times.
+const TIMES: usize = 100;
+
+fn row<T: Clone + 'static, A: 'static>(
+    label: String,
+    list: Vec<T>,
+    rust: impl Fn(&[T]) -> A + 'static,
+    port: impl Fn(&[T]) -> A + 'static,
+) -> Row {
+    let same = list.clone();
     Row {
-        label: format!("median of {n} readings"),
-        rust: Box::new(move || drop(black_box(median(black_box(&hz))))),
-        port: Some(Box::new(move || drop(black_box(select64(black_box(&same), n / 2))))),
+        label: format!("{TIMES} times {label}"),
+        rust: Box::new(move || (0..TIMES).for_each(|_| drop(black_box(rust(black_box(&list)))))),
+        port: Some(Box::new(move || {
+            (0..TIMES).for_each(|_| drop(black_box(port(black_box(&same)))))
+        })),
     }
 }

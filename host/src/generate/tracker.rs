@@ -122,13 +122,14 @@ fn readings(cases: &mut Vec<Case>) {
     }
 }
 
-/// Gaps around a tenth of a second and around 10 s, at every rate; levels around 15 dB; a loud first sample.
+/// Gaps around a tenth of a second, and around 10 s after a retune, at every rate; levels around 15 dB; a loud first sample.
 fn gaps(cases: &mut Vec<Case>) {
     for rate in RATES.into_iter().chain([203, 205, 207, 995]) {
         let r = rate as usize;
         for quiet in [r / 10 - 1, r / 10, r / 10 + 1] {
             let calls = Calls::new(rate, BASE, STEP_HZ).level(5, QUIET).level(r / 2, LOUD);
             let calls = calls
+                .readings(r / 16, 9)
                 .level(quiet, QUIET)
                 .next()
                 .level(r / 2, LOUD)
@@ -143,6 +144,9 @@ fn gaps(cases: &mut Vec<Case>) {
                 .level(5, QUIET);
             let calls = calls
                 .level(r / 2, LOUD)
+                .readings(r / 16, 9)
+                .next()
+                .tuned(BASE + 51_181)
                 .level(quiet - 1, QUIET)
                 .next()
                 .level(1, QUIET)
