@@ -38,6 +38,8 @@ pub fn directed() -> Vec<Case> {
     }
     points(&mut cases);
     ends(&mut cases);
+    boundaries(&mut cases);
+    half_ppm(&mut cases);
     counts(&mut cases);
     for rate in RATES {
         frames(&mut cases, rate);
@@ -87,6 +89,39 @@ fn ends(cases: &mut Vec<Case>) {
     cases.push(of("a level of zero", 1000, &low));
     low.iter_mut().for_each(|v| *v = -v.abs());
     cases.push(of("a level of minus zero", 1000, &low));
+}
+
+/// A signal that ends on a bit's boundary of a period that binary numbers don't hold: `samples` for so many `bits`.
+fn boundaries(cases: &mut Vec<Case>) {
+    for (rate, bits, samples) in [
+        (333, 3, 10),
+        (233, 3, 7),
+        (367, 3, 11),
+        (275, 4, 11),
+        (229, 7, 16),
+        (350, 2, 7),
+    ] {
+        for count in [8, 11, 16] {
+            for first in [3, 10] {
+                let places: Vec<usize> = (0..count).map(|i| first + i * samples).collect();
+                for end in (1..=8).map(|m| places[count - 1] + m * samples + 1) {
+                    let seg = comb(end, &places);
+                    cases.push(of(format!("{samples} samples for {bits} bits, end {end}"), rate, &seg));
+                }
+            }
+        }
+    }
+}
+
+/// Clocks whose error is a whole number of ppm and a half.
+fn half_ppm(cases: &mut Vec<Case>) {
+    for (rate, bits) in [(1000, 64), (2000, 32), (2000, 160), (4000, 16), (4000, 80)] {
+        let step = rate as usize / 100 * bits;
+        for step in [step - 1, step + 1] {
+            let seg = comb(step * 9 + 50, &every(step, 9));
+            cases.push(of(format!("a dip every {step} at {rate}"), rate, &seg));
+        }
+    }
 }
 
 /// More bits than are handed over.

@@ -245,6 +245,15 @@ fn closings(cases: &mut Vec<Case>) {
             .pushes(1, &dbm[end - 5..]);
         cases.push(calls.case(format!("10 s after a frame at {rate}")));
     }
+    for rate in [200, 201, 300, 1000] {
+        for start in rounded_starts(rate) {
+            let end = start + 10 * rate as usize;
+            let dbm = frames(rate, end + 2, &[(0, start)]).samples();
+            let calls = Calls::new(rate).pushes(rate as usize, &dbm[..end - 2]);
+            let calls = calls.pushes(1, &dbm[end - 2..]);
+            cases.push(calls.case(format!("10 s as rounded, from {start} at {rate}")));
+        }
+    }
     let dbm = frames(1000, 12_000, &[(0, 1000)]).samples();
     let calls = Calls::new(1000)
         .push(&dbm[..11_000])
@@ -252,6 +261,18 @@ fn closings(cases: &mut Vec<Case>) {
         .push(&dbm[11_000..11_001])
         .push(&[]);
     cases.push(calls.case("an empty push closes too"));
+}
+
+/// Starts from which 10 s, as the Rust subtracts them, are over 10, and where a sum would say otherwise.
+fn rounded_starts(rate: u32) -> Vec<usize> {
+    let seconds = |samples: usize| samples as f64 / f64::from(rate);
+    let ten = 10 * rate as usize;
+    let over = |start: usize| seconds(start + ten) - seconds(start) > 10.0;
+    let sum_over = |start: usize| seconds(start + ten) > seconds(start) + 10.0;
+    let starts = || rate as usize..2 * rate as usize;
+    let early = starts().filter(|&s| over(s)).take(2);
+    let parted = starts().filter(|&s| over(s) != sum_over(s)).take(2);
+    early.chain(parted).collect()
 }
 
 /// A weak frame is heard only after the background sank, so a later frame is taken before it.

@@ -303,6 +303,21 @@ fn frames(cases: &mut Vec<Case>) {
             .frame_frequency(3, time, end);
     }
     cases.push(calls.case("frames of a stretch"));
+    // a reading at each sample, and rates whose 0.3 s end in half a sample
+    for rate in [205, 215, 1005, 3995] {
+        let mut calls = Calls::new(rate, BASE, TENS);
+        for i in 0..120 {
+            calls = calls.level(1, QUIET).readings(1, i);
+        }
+        for i in 0..100 {
+            let time = f64::from(i) / f64::from(rate) - 0.3;
+            let end = f64::from(i + 20) / f64::from(rate);
+            calls = calls
+                .frame_frequency(1, time, end)
+                .frame_frequency(1, time + 0.3, end + 0.3);
+        }
+        cases.push(calls.case(format!("a reading at each sample at {rate}")));
+    }
 }
 
 /// Frames 2 and 3 around 9, 12 and 15 kHz apart; offsets around 10 kHz; a retune between them.
