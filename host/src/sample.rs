@@ -7,8 +7,9 @@ use crate::compare::{program_name, root};
 use crate::generate::{self, Case, Format};
 use crate::oracle;
 
-/// The most bytes of a sample, in and out.
-const MOST: usize = 150_000;
+/// The most bytes of a sample, in and out: so much for the smallest cases, so much for a choice of the others.
+const SMALL: usize = 100_000;
+const OTHERS: usize = 50_000;
 /// Larger cases are left to the comparison.
 const MOST_CASE: usize = 16_000;
 const SEED: u64 = 1;
@@ -38,18 +39,40 @@ fn input(format: &Format) -> Vec<u8> {
     if let Some(sample) = format.sample {
         return sample().bytes;
     }
-    let cases: Vec<Case> = format.cases(SEED, RANDOM).into_iter().filter(fits).collect();
+    let cases = format.cases(SEED, RANDOM);
     let (short, whole): (Vec<&Case>, Vec<&Case>) = cases.iter().partition(|c| c.short);
-    let size = |c: &Case| {
-        let lines = oracle::lines(format.name, &c.bytes).expect("every generated format has an oracle");
-        c.bytes.len().max(lines.len())
+    let size = |case: &Case| {
+        let lines = oracle::lines(format.name, &case.bytes).expect("every generated format has an oracle");
+        case.bytes.len().max(lines.len())
     };
-    let total: usize = whole.iter().map(|c| size(c)).sum();
-    let every = total / MOST + 1;
-    let chosen = whole.into_iter().step_by(every).chain(short.into_iter().take(1));
-    chosen.flat_map(|c| &c.bytes).copied().collect()
+    let sizes: Vec<usize> = whole.iter().map(|c| size(c)).collect();
+    let chosen = choose(&sizes);
+    let whole = whole
+        .into_iter()
+        .zip(chosen)
+        .filter(|&(_, chosen)| chosen)
+        .map(|(case, _)| case);
+    let bytes = whole.chain(short.into_iter().take(1)).flat_map(|c| &c.bytes);
+    bytes.copied().collect()
 }
 
-fn fits(case: &Case) -> bool {
-    case.bytes.len() <= MOST_CASE
+/// Which cases, by their sizes, are taken: the smallest, then every so many of the others.
+fn choose(sizes: &[usize]) -> Vec<bool> {
+    let mut order: Vec<usize> = (0..sizes.len()).filter(|&i| sizes[i] <= MOST_CASE).collect();
+    order.sort_by_key(|&i| sizes[i]);
+    let mut sum = 0;
+    let smallest = order.iter().take_while(|&&i| {
+        sum += sizes[i];
+        sum <= SMALL
+    });
+    let count = smallest.count();
+    let mut others = order.split_off(count);
+    others.sort_unstable();
+    let total: usize = others.iter().map(|&i| sizes[i]).sum();
+    let every = total / OTHERS + 1;
+    let mut chosen = vec![false; sizes.len()];
+    for i in order.into_iter().chain(others.into_iter().step_by(every)) {
+        chosen[i] = true;
+    }
+    chosen
 }

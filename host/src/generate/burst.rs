@@ -12,10 +12,13 @@ fn of(label: impl Into<String>, rate: u32, t0: f64, b: &Burst, dbm: &[f32]) -> C
     case(label, put.f32(b.peak_dbm).f32(b.floor_dbm).f32s(dbm))
 }
 
+/// The rate of the directed cases: low, so that they stay small.
+const RATE: u32 = 300;
+
 pub fn directed() -> Vec<Case> {
     let uplink = Uplink::new(2, 0x00ab_cdef, 0x321, 2, true, &[0xca, 0xfe]);
-    let envelope = Shape::clean(-60.0).envelope(&uplink.bits(0, 16), 1000);
-    let mut air = Air::quiet(1000, envelope.len() + 300, -110.0);
+    let envelope = Shape::clean(-60.0).envelope(&uplink.bits(0, 16), RATE);
+    let mut air = Air::quiet(RATE, envelope.len() + 300, -110.0);
     air.send(150, &envelope);
     let dbm = air.samples();
     let burst = Burst {
@@ -24,7 +27,7 @@ pub fn directed() -> Vec<Case> {
         peak_dbm: -60.0,
         floor_dbm: -110.0,
     };
-    let mut cases = vec![of("a frame", 1000, 0.0, &burst, &dbm)];
+    let mut cases = vec![of("a frame", RATE, 0.0, &burst, &dbm)];
     let last = dbm.len();
     let most = 1 << 40;
     for (start, end) in [
@@ -44,51 +47,30 @@ pub fn directed() -> Vec<Case> {
         (last + 5000, last + 6000),
         (0, most),
         (most, most),
-        (most + 1, 0),
-        (0, most + 1),
-        (usize::MAX, usize::MAX),
     ] {
         cases.push(of(
             format!("from {start} to {end}"),
-            1000,
+            RATE,
             12.5,
             &Burst { start, end, ..burst },
             &dbm,
         ));
     }
-    for t0 in [0.1, -0.0, 1e9, -1e9, 1e9 + 0.001, f64::NAN, f64::INFINITY] {
-        cases.push(of(format!("t0 {t0}"), 1000, t0, &burst, &dbm));
+    for t0 in [0.1, -0.0, 1e9, -1e9] {
+        cases.push(of(format!("t0 {t0}"), RATE, t0, &burst, &dbm));
     }
-    for v in [
-        -0.0,
-        0.0,
-        -200.0,
-        100.0,
-        100.5,
-        -201.0,
-        f32::INFINITY,
-        f32::NEG_INFINITY,
-        f32::NAN,
-    ] {
-        cases.push(of(
-            format!("peak {v}"),
-            1000,
-            0.0,
-            &Burst { peak_dbm: v, ..burst },
-            &dbm,
-        ));
-        cases.push(of(
-            format!("floor {v}"),
-            1000,
-            0.0,
-            &Burst { floor_dbm: v, ..burst },
-            &dbm,
-        ));
+    for v in [-0.0, -200.0, 100.0, f32::INFINITY, f32::NEG_INFINITY] {
+        let burst = Burst { peak_dbm: v, ..burst };
+        cases.push(of(format!("peak {v}"), RATE, 0.0, &burst, &dbm));
+    }
+    for v in [-0.0, -200.0, 100.0] {
+        let burst = Burst { floor_dbm: v, ..burst };
+        cases.push(of(format!("floor {v}"), RATE, 0.0, &burst, &dbm));
     }
     for rate in [325, 375, 425, 500] {
         pads(&mut cases, rate);
     }
-    refused(&mut cases, &burst, dbm);
+    refused(&mut cases, &burst);
     cases
 }
 
@@ -124,22 +106,30 @@ fn pads(cases: &mut Vec<Case>, rate: u32) {
     }
 }
 
-fn refused(cases: &mut Vec<Case>, burst: &Burst, dbm: Vec<f32>) {
+/// Short lists, since what is refused doesn't depend on them.
+fn refused(cases: &mut Vec<Case>, burst: &Burst) {
+    let mut dbm = vec![-100.0; 20];
+    cases.push(of("few samples", RATE, 0.0, burst, &dbm));
     for rate in [0, 199, 4001] {
         cases.push(of(format!("rate {rate}"), rate, f64::NAN, burst, &dbm));
     }
-    cases.push(of("no samples", 1000, 0.0, burst, &[]));
-    let mut bad = dbm;
-    bad[0] = f32::NAN;
-    cases.push(of(
-        "a sample outside the burst that is none",
-        1000,
-        f64::NAN,
-        burst,
-        &bad,
-    ));
-    bad.resize(12_001, -100.0);
-    cases.push(of("12 s and one more", 1000, f64::NAN, burst, &bad));
+    for (start, end) in [((1 << 40) + 1, 0), (0, (1 << 40) + 1), (usize::MAX, usize::MAX)] {
+        let burst = Burst { start, end, ..*burst };
+        cases.push(of(format!("from {start} to {end}"), RATE, 0.0, &burst, &dbm));
+    }
+    for t0 in [1e9 + 0.001, -1e9 - 0.001, f64::NAN, f64::INFINITY] {
+        cases.push(of(format!("t0 {t0}"), RATE, t0, burst, &dbm));
+    }
+    for v in [100.5, -200.5, f32::INFINITY, f32::NEG_INFINITY, f32::NAN] {
+        let (peak, floor) = (Burst { peak_dbm: v, ..*burst }, Burst { floor_dbm: v, ..*burst });
+        cases.push(of(format!("peak {v}"), RATE, 0.0, &peak, &dbm));
+        cases.push(of(format!("floor {v}"), RATE, 0.0, &floor, &dbm));
+    }
+    dbm[0] = f32::NAN;
+    cases.push(of("a sample outside the burst", RATE, f64::NAN, burst, &dbm));
+    dbm.resize(2401, -100.0);
+    cases.push(of("12 s and one more", 200, f64::NAN, burst, &dbm));
+    cases.push(of("no samples", RATE, 0.0, burst, &[]));
 }
 
 pub fn random(rng: &mut Rng) -> Case {
