@@ -27,7 +27,10 @@ pub fn loads() -> Vec<Load> {
         Load {
             label: "bits, 500 beyond repair",
             name: "bits",
-            bytes: beyond_repair(500).iter().fold(Put::new(), put_bits).0,
+            bytes: beyond_repair(500)
+                .iter()
+                .fold(Put::new(), |put, bits| put.u16(bits.len() as u16).bits(bits))
+                .0,
         },
     ]
 }
@@ -43,10 +46,6 @@ fn events(label: &'static str, rate: u32, seconds: usize, n: usize) -> Load {
         name: "events",
         bytes: calls.flush().case(label).bytes,
     }
-}
-
-fn put_bits(put: Put, bits: &Vec<bool>) -> Put {
-    put.u16(bits.len() as u16).bits(bits)
 }
 
 /// Frames of the longest class with six damages: every repair is tried in vain, or nearly always.
