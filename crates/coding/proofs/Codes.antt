@@ -64,6 +64,32 @@ deconvolve-take zero r s l = refl
 deconvolve-take (suc n) r s [] = refl
 deconvolve-take (suc n) r s (b ∷ l) = ap (λ (x : List Bool). plus b (tap r s) ∷ x) (deconvolve-take n r (shift s (plus b (tap r s))) l)
 
+-- ---- a plain list, bit by bit
+
+pub deconvolve-at : (r : ℕ) (s : State) (l : List Bool) (j : ℕ) → j < length l
+    → getD (deconvolved r s l) j false ≡ plus (getD l j false) (tap r (stateAfter s (take j (deconvolved r s l))))
+unfolding deconvolved stateAfter
+deconvolve-at r s [] j h = absurd (omega arith)
+deconvolve-at r s (b ∷ l) zero h = refl
+deconvolve-at r s (b ∷ l) (suc j) h = deconvolve-at r (shift s (plus b (tap r s))) l j (omega arith)
+
+pub deconvolve-drop : (n r : ℕ) (s : State) (l : List Bool) → drop n (deconvolved r s l) ≡ deconvolved r (stateAfter s (take n (deconvolved r s l))) (drop n l)
+unfolding deconvolved stateAfter
+deconvolve-drop zero r s l = refl
+deconvolve-drop (suc n) r s [] = refl
+deconvolve-drop (suc n) r s (b ∷ l) = deconvolve-drop n r (shift s (plus b (tap r s))) l
+
+pub state-next : (s : State) (l : List Bool) (j : ℕ) → j < length l → stateAfter s (take (suc j) l) ≡ shift (stateAfter s (take j l)) (getD l j false)
+unfolding stateAfter
+state-next s [] j h = absurd (omega arith)
+state-next s (a ∷ l) zero h = refl
+state-next s (a ∷ l) (suc j) h = state-next (shift s a) l j (omega arith)
+
+pub state-append : (s : State) (a b : List Bool) → stateAfter s (a ++ b) ≡ stateAfter (stateAfter s a) b
+unfolding stateAfter
+state-append s [] b = refl
+state-append s (x ∷ a) b = state-append (shift s x) a b
+
 -- ---- one bit, as the code adds
 
 module _ (r b p q : ℕ) where

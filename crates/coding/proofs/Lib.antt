@@ -3,5 +3,6 @@ pub mod Digits
 pub mod Division
 pub mod Quotient
 pub mod BitLaws
+pub mod Values
 pub mod Codes
 pub mod Causes
