@@ -1,0 +1,4 @@
+-- The laws that the proofs of `record` and of the crates above it cite.
+pub mod PartLaws
+pub mod DecodingLaws
+pub mod RecordLaws

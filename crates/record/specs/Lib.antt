@@ -1,0 +1,5 @@
+-- The definitions that the contracts of `record` cite.
+pub mod Record
+pub mod Decoding
+pub mod Readers
+pub mod Same

@@ -1,0 +1,127 @@
+// The fields of a record, each by its reader (01's table).
+ghost use mathlib.Core.Path.{_≡_};
+ghost use Prim.Native.Nat.{_≤_, _<_};
+ghost use lib.ListN.{length};
+ghost use Rattle.limits.specs.Limits.{recordSize};
+ghost use Rattle.record.specs.Readers.{kindOf, rankOf, flagsOf, payloadLenOf, authLenOf, repairOf, placeOf, deviceOf, counterOf, ppmOf, rssiOf, timeOf, endOf, startOf, spanRankOf, spanTimeOf, spanEndOf};
+
+pub fn kind_of(r: &[u8]) -> u8
+    requires { ⌜ recordSize ≤ length (now r) ⌝ }
+    ensures { λ x. ⌜ x ≡ kindOf (now (r .entry)) ⌝ }
+{
+    r[0]
+}
+
+// The rank of a frame, the mask of a message.
+pub fn rank_of(r: &[u8]) -> u8
+    requires { ⌜ recordSize ≤ length (now r) ⌝ }
+    ensures { λ x. ⌜ x ≡ rankOf (now (r .entry)) ⌝ }
+{
+    r[1]
+}
+
+pub fn flags_of(r: &[u8]) -> u8
+    requires { ⌜ recordSize ≤ length (now r) ⌝ }
+    ensures { λ x. ⌜ x ≡ flagsOf (now (r .entry)) ⌝ }
+{
+    r[2]
+}
+
+pub fn payload_len_of(r: &[u8]) -> u8
+    requires { ⌜ recordSize ≤ length (now r) ⌝ }
+    ensures { λ x. ⌜ x ≡ payloadLenOf (now (r .entry)) ⌝ }
+{
+    r[3]
+}
+
+pub fn auth_len_of(r: &[u8]) -> u8
+    requires { ⌜ recordSize ≤ length (now r) ⌝ }
+    ensures { λ x. ⌜ x ≡ authLenOf (now (r .entry)) ⌝ }
+{
+    r[4]
+}
+
+pub fn repair_of(r: &[u8]) -> u8
+    requires { ⌜ recordSize ≤ length (now r) ⌝ }
+    ensures { λ x. ⌜ x ≡ repairOf (now (r .entry)) ⌝ }
+{
+    r[5]
+}
+
+pub fn place_of(r: &[u8]) -> u16
+    requires { ⌜ recordSize ≤ length (now r) ⌝ }
+    ensures { λ x. ⌜ x ≡ placeOf (now (r .entry)) ⌝ }
+{
+    endian::get_u16(r, 6)
+}
+
+pub fn device_of(r: &[u8]) -> u32
+    requires { ⌜ recordSize ≤ length (now r) ⌝ }
+    ensures { λ x. ⌜ x ≡ deviceOf (now (r .entry)) ⌝ }
+{
+    endian::get_u32(r, 8)
+}
+
+pub fn counter_of(r: &[u8]) -> u16
+    requires { ⌜ recordSize ≤ length (now r) ⌝ }
+    ensures { λ x. ⌜ x ≡ counterOf (now (r .entry)) ⌝ }
+{
+    endian::get_u16(r, 12)
+}
+
+pub fn ppm_of(r: &[u8]) -> i32
+    requires { ⌜ recordSize ≤ length (now r) ⌝ }
+    ensures { λ x. ⌜ x ≡ ppmOf (now (r .entry)) ⌝ }
+{
+    endian::get_i32(r, 36)
+}
+
+pub fn rssi_of(r: &[u8]) -> f32
+    requires { ⌜ recordSize ≤ length (now r) ⌝ }
+    ensures { λ x. ⌜ x ≡ rssiOf (now (r .entry)) ⌝ }
+{
+    endian::get_f32(r, 40)
+}
+
+pub fn time_of(r: &[u8]) -> f64
+    requires { ⌜ recordSize ≤ length (now r) ⌝ }
+    ensures { λ x. ⌜ x ≡ timeOf (now (r .entry)) ⌝ }
+{
+    endian::get_f64(r, 48)
+}
+
+// The end of a frame, the first-frame end of a message.
+pub fn end_of(r: &[u8]) -> f64
+    requires { ⌜ recordSize ≤ length (now r) ⌝ }
+    ensures { λ x. ⌜ x ≡ endOf (now (r .entry)) ⌝ }
+{
+    endian::get_f64(r, 56)
+}
+
+pub fn start_of(r: &[u8]) -> u64
+    requires { ⌜ recordSize ≤ length (now r) ⌝ }
+    ensures { λ x. ⌜ x ≡ startOf (now (r .entry)) ⌝ }
+{
+    endian::get_u64(r, 112)
+}
+
+pub fn span_rank_of(r: &[u8], i: usize) -> u8
+    requires { ⌜ (recordSize ≤ length (now r)) × (i < 3) ⌝ }
+    ensures { λ x. ⌜ x ≡ spanRankOf (now (r .entry)) i ⌝ }
+{
+    r[44 + i]
+}
+
+pub fn span_time_of(r: &[u8], i: usize) -> f64
+    requires { ⌜ (recordSize ≤ length (now r)) × (i < 3) ⌝ }
+    ensures { λ x. ⌜ x ≡ spanTimeOf (now (r .entry)) i ⌝ }
+{
+    endian::get_f64(r, 64 + 16 * i)
+}
+
+pub fn span_end_of(r: &[u8], i: usize) -> f64
+    requires { ⌜ (recordSize ≤ length (now r)) × (i < 3) ⌝ }
+    ensures { λ x. ⌜ x ≡ spanEndOf (now (r .entry)) i ⌝ }
+{
+    endian::get_f64(r, 72 + 16 * i)
+}
