@@ -1,0 +1,3 @@
+-- The laws that the proofs of `cfo` share.
+pub mod Constants
+pub mod Signs
