@@ -1,8 +1,7 @@
 -- P2: register 7FF is 2047, 800 is −2048, FFF is −1. P3: bandwidth code 0A (hex), 100 bit/s: step 122.0703125; the streamer's 50,000 bit/s gives the same. Assumes nothing.
 use mathlib.Core.Path.{_≡_, refl}
-use mathlib.Core.Bool.{false}
 use lib.IntN.{pos, negsuc}
-use lib.Ieee.{binary64, fin, round, div, mul, lt, ofInt}
+use lib.Ieee.{round, div, mul, lt, ofInt}
 use Rattle.floats.specs.Floor.{floor}
 use Rattle.floats.specs.Number.{near}
 use Rattle.cfo.specs.declared.StepHz.the-variants.{Hz, Refused}

@@ -1,0 +1,5 @@
+-- The laws that the proofs of `lists` and of the crates above share.
+pub mod Every
+pub mod Lasts
+pub mod Gather
+pub mod Appending

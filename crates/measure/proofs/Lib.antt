@@ -1,0 +1,4 @@
+-- The laws that the proofs of `measure` share.
+pub mod Constants
+pub mod Frames
+pub mod Framed

@@ -1,0 +1,4 @@
+-- The definitions that the contracts of `measure` cite.
+pub mod Measured
+pub mod Gathered
+pub mod Edges

@@ -1,0 +1,2 @@
+-- The definitions that the contracts of `retain` cite.
+pub mod Retain

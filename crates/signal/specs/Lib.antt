@@ -1,0 +1,4 @@
+-- The definitions that the contracts of `signal` cite.
+pub mod Seconds
+pub mod Heard
+pub mod Order

@@ -1,0 +1,3 @@
+-- The definitions that the contracts of `tuning` cite.
+pub mod Steps
+pub mod Ranges
