@@ -6,12 +6,16 @@ use Prim.Native.Nat.{ℕ, zero, suc, _+_, _-_, _*_, _/_, _%_, _≤_, _<_}
 use native.Mathlib.Numerals.{add-one}
 use native.Mathlib.Omega.{arith}
 use lib.ListN.{length, getD, drop, set}
-use lib.Seq.{sets, set-out, drop-cons, drop-length}
+use lib.Seq.{sets, set-out, drop-cons, drop-length, length-take-le}
 use lib.Ieee.{Format, Float, binary32, binary64, eq, ofBits, ofInt, round}
 use Rattle.floats.specs.Number.{num}
 use Rattle.endian.specs.Bytes.{bitsOf, floatAt}
 use Rattle.replay.specs.Floats.{floatsFrom}
 use Rattle.replay.specs.Text.{plainBits, hexDigit, hexText}
+use Rattle.replay.specs.Front.{Front}
+
+pub front : {A : Type 0} (n : ℕ) (xs : List A) → n ≤ length xs → Front n xs
+front n xs h = (h, sym (length-take-le n xs h))
 
 -- the zero of the code, by its pattern
 pub zero32-is : ofBits binary32 0 ≡ num 0

@@ -8,12 +8,39 @@ ghost use lib.Seq.{sets};
 ghost use lib.Ieee.{binary32, binary64};
 ghost use Rattle.replay.specs.Text.{plainBits, hexDigit, hexText};
 ghost use Rattle.replay.specs.Floats.{floatsFrom};
+ghost use Rattle.replay.specs.Front.{Front};
 
-// A number read from standard input: all of its bytes, only some of them, or none, where the input had ended.
-pub enum Field {
-    Value(u64),
+// A proved loop has to end, and nothing says that the input does: the most cases of a run.
+pub const MOST_CASES: u64 = 0x1_0000_0000_0000;
+
+// The first bytes of a case: all of them, only some, or none, where the input had ended.
+pub enum Head {
+    Whole,
     Cut,
     End,
+}
+
+// A list read: whether the input had all of it, and how many elements at the front of the slice are its own.
+pub struct Kept {
+    pub whole: bool,
+    pub count: usize,
+}
+
+// The next bytes of standard input, where a case starts.
+pub fn read_head(bytes: &mut [u8]) -> Head {
+    let n = io::read_full(STDIN_FILENO, bytes);
+    if n == bytes.len() {
+        return Head::Whole;
+    }
+    if n == 0 {
+        return Head::End;
+    }
+    Head::Cut
+}
+
+// The next bytes of standard input, inside a case; false where it ends first.
+pub fn read_part(bytes: &mut [u8]) -> bool {
+    io::read_full(STDIN_FILENO, bytes) == bytes.len()
 }
 
 // The next n bytes of standard input into the front of a slice; how many there were.
@@ -22,21 +49,6 @@ fn fetch(bytes: &mut [u8], n: usize) -> usize
     ensures { λ _. ⌜ length (now (bytes .exit)) ≡ length (now (bytes .entry)) ⌝ }
 {
     io::read_full(STDIN_FILENO, &mut bytes[..n])
-}
-
-// The next k bytes of standard input, least significant first.
-pub fn read_number(k: usize) -> Field
-    requires { ⌜ k ≤ 8 ⌝ }
-{
-    let mut bytes = [0u8; 8];
-    let n = fetch(&mut bytes, k);
-    if n == k {
-        return Field::Value(endian::get_u64(&bytes, 0));
-    }
-    if n == 0 {
-        return Field::End;
-    }
-    Field::Cut
 }
 
 fn least(a: usize, b: usize) -> usize
@@ -75,32 +87,71 @@ fn read_chunk(n: usize, out: &mut [f32], at: usize) -> bool
     true
 }
 
-// The next `count` floats of standard input: those for which `out` has a place are kept there. False where the input ends first.
-pub fn read_f32s(count: u32, out: &mut [f32]) -> bool
-    ensures { λ _. ⌜ length (now (out .exit)) ≡ length (now (out .entry)) ⌝ }
+// The next `end` floats of standard input: those for which `out` has a place are kept there.
+fn read_n_f32s(end: usize, out: &mut [f32]) -> Kept
+    requires { ⌜ end < 0x100000000 ⌝ }
+    ensures { λ r. ⌜ Front (r .count) (now (out .exit)) ⌝ }
 {
-    let end = count as usize;
     let mut at: usize = 0;
     while at < end {
         let n = least(end - at, 1024);
         if !read_chunk(n, out, at) {
-            return false;
+            return Kept {
+                whole: false,
+                count: 0,
+            };
         }
         at += n;
     }
-    true
+    Kept {
+        whole: true,
+        count: least(end, out.len()),
+    }
 }
 
-// The next `count` bytes of standard input: those for which `out` has a place are kept there. False where the input ends first.
-pub fn read_bytes(count: u32, out: &mut [u8]) -> bool
-    ensures { λ _. ⌜ length (now (out .exit)) ≡ length (now (out .entry)) ⌝ }
+// The next `end` bytes of standard input: those for which `out` has a place are kept there.
+pub fn read_n_bytes(end: usize, out: &mut [u8]) -> Kept
+    ensures { λ r. ⌜ Front (r .count) (now (out .exit)) ⌝ }
 {
-    let end = count as usize;
     let kept = least(end, out.len());
     if fetch(out, kept) < kept {
-        return false;
+        return Kept {
+            whole: false,
+            count: 0,
+        };
     }
-    skip(end - kept)
+    Kept {
+        whole: skip(end - kept),
+        count: kept,
+    }
+}
+
+// A count, and that many floats, in standard input.
+pub fn read_f32s(out: &mut [f32]) -> Kept
+    ensures { λ r. ⌜ Front (r .count) (now (out .exit)) ⌝ }
+{
+    let mut count = [0u8; 4];
+    if !read_part(&mut count) {
+        return Kept {
+            whole: false,
+            count: 0,
+        };
+    }
+    read_n_f32s(endian::get_u32(&count, 0) as usize, out)
+}
+
+// A count, and that many bytes, in standard input.
+pub fn read_bytes(out: &mut [u8]) -> Kept
+    ensures { λ r. ⌜ Front (r .count) (now (out .exit)) ⌝ }
+{
+    let mut count = [0u8; 4];
+    if !read_part(&mut count) {
+        return Kept {
+            whole: false,
+            count: 0,
+        };
+    }
+    read_n_bytes(endian::get_u32(&count, 0) as usize, out)
 }
 
 // Reads over the next n bytes; false where the input ends first.
@@ -165,12 +216,16 @@ pub fn print_number(n: u64) {
     io::print_decimal(STDOUT_FILENO, n);
 }
 
+pub fn print_hex(n: u64, width: usize) {
+    io::print_hex(STDOUT_FILENO, n, width);
+}
+
 pub fn print_f32(x: f32) {
-    io::print_hex(STDOUT_FILENO, plain32(x) as u64, 8);
+    print_hex(plain32(x) as u64, 8);
 }
 
 pub fn print_f64(x: f64) {
-    io::print_hex(STDOUT_FILENO, plain64(x), 16);
+    print_hex(plain64(x), 16);
 }
 
 // A signed number in decimal, from its two's complement.
@@ -191,6 +246,18 @@ pub fn print_front(text: &[u8], n: usize)
     print(&text[..n]);
 }
 
+// Bits as digits 0 and 1, 1,024 at most, as many as `n` says.
+pub fn print_digits(bits: &[u8], n: usize) {
+    let mut text = [0u8; 1024];
+    let end = least(least(n, bits.len()), 1024);
+    let mut i: usize = 0;
+    while i < end {
+        text[i] = 48 + bits[i] % 2;
+        i += 1;
+    }
+    print_front(&text, end);
+}
+
 // Bytes as hexadecimal digits, 120 at most.
 pub fn print_bytes(bytes: &[u8])
     requires { ⌜ length (now bytes) ≤ 120 ⌝ }
@@ -201,11 +268,23 @@ pub fn print_bytes(bytes: &[u8])
     print_front(&text, end);
 }
 
-// The line of a refused call.
-pub fn print_refusal(n: u8) {
+// The end of a line; true, as there may be a case after it.
+pub fn print_end() -> bool {
+    print(b"\n");
+    true
+}
+
+// The line of a refused call; the run goes on.
+pub fn print_refusal(n: u8) -> bool {
     print(b"R ");
     print_number(n as u64);
-    print(b"\n");
+    print_end()
+}
+
+// The line where there is no answer.
+pub fn print_none() -> bool {
+    print(b"none\n");
+    true
 }
 
 // The last line where the input ends inside a case; false, as there is no case after it.

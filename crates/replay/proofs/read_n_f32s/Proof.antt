@@ -1,16 +1,17 @@
-use borrow.Author.Needs.{needs}
-use mathlib.Core.Path.{_≡_}
 use Prim.Native.Nat.{_-_, _≤_}
+use mathlib.Core.Path.{_≡_}
 use native.Mathlib.Omega.{arith}
 use lib.ListN.{length}
-use Rattle.replay.proofs.read_f32s.Statement.{statement}
-use Rattle.replay.proofs.read_f32s.Tie as tie
+use Rattle.replay.proofs.Turns.{front}
+use borrow.Author.Needs.{needs}
+use Rattle.replay.proofs.read_n_f32s.Statement.{statement}
+use Rattle.replay.proofs.read_n_f32s.Tie as tie
 
 abbrev Inv-loop : tie.InvT-loop
-Inv-loop count out₀ end at₀ out at = (at ≤ end) × (length out ≡ length out₀)
+Inv-loop end out₀ at₀ out at = (at ≤ end) × (length out ≡ length out₀)
 
 abbrev μ-loop : tie.MeasureT-loop
-μ-loop count out₀ end at₀ out at = end - at
+μ-loop end out₀ at₀ out at = end - at
 
 loop-holds : tie.Need-loop-holds Inv-loop μ-loop
 loop-holds c = search needs
@@ -39,14 +40,17 @@ loop-less c = omega (arith, c .before .before .before .before .before .least .en
 loop-again : tie.Need-loop-again Inv-loop μ-loop
 loop-again c = search needs
 
+least-requires-2 : tie.Need-least-requires-2 Inv-loop μ-loop
+least-requires-2 c κs = search needs
+
 same-length-2 : tie.Need-same-length-2 Inv-loop μ-loop
 same-length-2 c = search needs
 
 returns-2 : tie.Need-returns-2 Inv-loop μ-loop
-returns-2 c = search needs
+returns-2 c = front _ _ (omega arith)
 
-pub read-f32s-spec : {M : Type 1} → statement M
-read-f32s-spec =
+pub read-n-f32s-spec : {M : Type 1} → statement M
+read-n-f32s-spec =
     tie.close
     (tie.spec
     Inv-loop
@@ -60,5 +64,6 @@ read-f32s-spec =
     add-at
     loop-less
     loop-again
+    least-requires-2
     same-length-2
     returns-2)
