@@ -154,6 +154,46 @@ pub fn read_bytes(out: &mut [u8]) -> Kept
     read_n_bytes(endian::get_u32(&count, 0) as usize, out)
 }
 
+// The next `end` 16-bit numbers of standard input: those for which `out` has a place are kept there.
+fn read_n_u16s(end: usize, out: &mut [u16]) -> Kept
+    ensures { λ r. ⌜ Front (r .count) (now (out .exit)) ⌝ }
+{
+    let mut i: usize = 0;
+    while i < end {
+        let mut two = [0u8; 2];
+        if !read_part(&mut two) {
+            return Kept {
+                whole: false,
+                count: 0,
+            };
+        }
+        if i < out.len() {
+            out[i] = endian::get_u16(&two, 0);
+            i += 1;
+        } else {
+            i += 1;
+        }
+    }
+    Kept {
+        whole: true,
+        count: least(end, out.len()),
+    }
+}
+
+// A count, and that many 16-bit numbers, in standard input.
+pub fn read_u16s(out: &mut [u16]) -> Kept
+    ensures { λ r. ⌜ Front (r .count) (now (out .exit)) ⌝ }
+{
+    let mut count = [0u8; 4];
+    if !read_part(&mut count) {
+        return Kept {
+            whole: false,
+            count: 0,
+        };
+    }
+    read_n_u16s(endian::get_u32(&count, 0) as usize, out)
+}
+
 // Reads over the next n bytes; false where the input ends first.
 fn skip(n: usize) -> bool {
     let mut left = n;
@@ -258,14 +298,12 @@ pub fn print_digits(bits: &[u8], n: usize) {
     print_front(&text, end);
 }
 
-// Bytes as hexadecimal digits, 120 at most.
-pub fn print_bytes(bytes: &[u8])
-    requires { ⌜ length (now bytes) ≤ 120 ⌝ }
-{
+// Bytes as hexadecimal digits, 120 at most, as many as `n` says.
+pub fn print_bytes(bytes: &[u8], n: usize) {
     let mut text = [0u8; 240];
-    let end = 2 * bytes.len();
-    hex_text(bytes, &mut text);
-    print_front(&text, end);
+    let end = least(least(n, bytes.len()), 120);
+    hex_text(&bytes[..end], &mut text);
+    print_front(&text, 2 * end);
 }
 
 // The end of a line; true, as there may be a case after it.
