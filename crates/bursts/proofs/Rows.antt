@@ -16,7 +16,7 @@ use Rattle.bursts.specs.Found.{burstsFrom}
 use Rattle.bursts.specs.declared.BurstOptions.{BurstOptions}
 use Rattle.bursts.specs.declared.Burst.{Burst}
 use Rattle.bursts.specs.declared.NextBurst.{NextBurst}
-use Rattle.bursts.specs.declared.NextBurst.the-variants.{Nothing, Found}
+use Rattle.bursts.specs.declared.NextBurst.the-variants.{Refused, Nothing, Found}
 use Rattle.bursts.proofs.ClusterLaws.{left}
 use Rattle.bursts.proofs.SearchLaws.{from-start}
 
@@ -148,3 +148,16 @@ module _ (dbm : List Float) (rate : ℕ) (o : BurstOptions) (floor : Float) wher
           let f : Nothing ≡ Found c = rw (le-leb 0 (c .start) (omega arith)) at q in
           let z : _≡_ {A = ℕ} 0 1 = cc in
           absurd (omega arith)
+
+  -- no search is refused
+  pub found-refused : (n from i : ℕ) → Refused n ≡ firstFrom from (burstsFrom dbm rate o floor i) → ⊥
+  unfolding firstFrom
+  found-refused n from i e = go (burstsFrom dbm rate o floor i) e
+    where
+      go : (bs : List Burst) → Refused n ≡ firstFrom from bs → ⊥
+      go [] q = let z : _≡_ {A = ℕ} 0 1 = cc in omega arith
+      go (c ∷ cs) q = here (leb from (c .start)) (go cs) q
+        where
+          here : (t : Bool) → (Refused n ≡ firstFrom from cs → ⊥) → Refused n ≡ cond t (Found c) (firstFrom from cs) → ⊥
+          here true f q = let z : _≡_ {A = ℕ} 0 1 = cc in omega arith
+          here false f q = f q
