@@ -1,0 +1,3 @@
+pub mod Constants
+pub mod FrameLaws
+pub mod BurstAnswers

@@ -1,0 +1,2 @@
+-- The definitions that the contracts of `demod` cite.
+pub mod Decode

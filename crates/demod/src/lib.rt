@@ -1,0 +1,181 @@
+// Bursts to frames (demod.rs `decode_burst`).
+ghost use mathlib.Core.Path.{_≡_};
+ghost use mathlib.Core.Bool.{true};
+ghost use Prim.Native.Nat.{_≤_, _*_, max};
+ghost use lib.ListN.{length};
+ghost use Rattle.limits.specs.Limits.{lowestRate, highestRate, bufferS, scratch64, longestStream};
+ghost use Rattle.limits.specs.Samples.{allDbm};
+ghost use Rattle.rates.specs.Rates.{padOf};
+ghost use Rattle.clock.specs.Bits.{outcome};
+ghost use Rattle.demod.specs.Decode.{without, timeAt, withBurst, heardIn, decodeBurst, timeOk, burstOk, decodeAnswer, Free};
+
+pub struct DecodedFrame {
+    pub frame: frame::UplinkFrame,
+    // Start and end of the burst, in seconds.
+    pub time: f64,
+    pub end: f64,
+    pub rssi: f32,
+    pub clock_error_ppm: i32,
+}
+
+// What `decode_burst` answers: all zero besides the outcome where there is no frame.
+pub struct BurstFrame {
+    pub outcome: frame::Outcome,
+    pub decoded: DecodedFrame,
+}
+
+// An answer with no frame.
+fn no_frame(outcome: frame::Outcome) -> BurstFrame
+    ensures { λ r. ⌜ r ≡ without outcome ⌝ }
+{
+    let d = frame::without_frame(outcome);
+    let f = d.frame;
+    BurstFrame {
+        outcome,
+        decoded: DecodedFrame {
+            frame: f,
+            time: 0.0,
+            end: 0.0,
+            rssi: 0.0,
+            clock_error_ppm: 0,
+        },
+    }
+}
+
+// What was decoded, with the burst's times, its level and the clock's error.
+fn heard(d: frame::DecodedUplink, time: f64, end: f64, rssi: f32, ppm: i32) -> BurstFrame
+    ensures { λ r. ⌜ r ≡ withBurst time end rssi ppm d ⌝ }
+{
+    let outcome = d.outcome;
+    let f = d.frame;
+    match outcome {
+        frame::Outcome::Refused(_) => no_frame(frame::Outcome::Nothing),
+        frame::Outcome::Nothing => no_frame(frame::Outcome::Nothing),
+        frame::Outcome::Frame => BurstFrame {
+            outcome: frame::Outcome::Frame,
+            decoded: DecodedFrame {
+                frame: f,
+                time,
+                end,
+                rssi,
+                clock_error_ppm: ppm,
+            },
+        },
+    }
+}
+
+// The frame in a segment whose samples are valid. Decoding reads no bit past the 215th, so the first 1,024 serve.
+fn decode_segment(
+    seg: &[f32],
+    rate: u32,
+    scratch: &mut [f64],
+    time: f64,
+    end: f64,
+    rssi: f32,
+) -> BurstFrame
+    requires { ⌜ (lowestRate ≤ rate) × (rate ≤ highestRate) × (length (now seg) ≤ bufferS * rate) × (allDbm (now seg) ≡ true) × (scratch64 ≤ length (now scratch)) ⌝ }
+    ensures { λ r. ⌜ r ≡ heardIn rate time end rssi (outcome (now (seg .entry)) rate) ⌝ }
+{
+    let mut bits = [0u8; 1024];
+    match clock::bits_of(seg, rate, &mut bits, scratch) {
+        clock::BurstBits::Refused(_) => no_frame(frame::Outcome::Nothing),
+        clock::BurstBits::Nothing => no_frame(frame::Outcome::Nothing),
+        clock::BurstBits::Bits(count, _, ppm, _, _) => {
+            let len = dips::least(count, limits::MOST_BITS);
+            heard(frame::decode_bits(&bits[..len]), time, end, rssi, ppm)
+        }
+    }
+}
+
+// 0.02 s on both sides: round(rate * 0.02), as a whole number.
+fn margin(rate: u32) -> usize
+    requires { ⌜ (lowestRate ≤ rate) × (rate ≤ highestRate) ⌝ }
+    ensures { λ r. ⌜ (r ≡ padOf rate) × (r ≤ 80) ⌝ }
+{
+    ((rate + 25) / 50) as usize
+}
+
+fn greatest(a: usize, b: usize) -> usize
+    ensures { λ r. ⌜ r ≡ max a b ⌝ }
+{
+    if a < b { b } else { a }
+}
+
+// t0 + i / rate
+fn time_at(t0: f64, rate: u32, i: usize) -> f64
+    requires { ⌜ i ≤ longestStream ⌝ }
+    ensures { λ r. ⌜ r ≡ timeAt t0 rate i ⌝ }
+{
+    t0 + floats::count_as_f64(i) / (rate as f64)
+}
+
+// The frame in a burst of valid samples, with its margins, clamped to the samples.
+pub fn decode_within(
+    dbm: &[f32],
+    rate: u32,
+    burst: bursts::Burst,
+    t0: f64,
+    scratch: &mut [f64],
+) -> BurstFrame
+    requires { ⌜ (lowestRate ≤ rate) × (rate ≤ highestRate) × (length (now dbm) ≤ bufferS * rate) × (allDbm (now dbm) ≡ true) × (burst .start ≤ longestStream) × (burst .end ≤ longestStream) × (scratch64 ≤ length (now scratch)) ⌝ }
+    ensures { λ r. ⌜ r ≡ decodeBurst (now (dbm .entry)) rate burst t0 ⌝ }
+{
+    let pad = margin(rate);
+    let from = dips::least(dips::back(burst.start, pad), dbm.len());
+    let to = greatest(from, dips::least(burst.end + pad, dbm.len()));
+    let time = time_at(t0, rate, burst.start);
+    let end = time_at(t0, rate, burst.end);
+    decode_segment(&dbm[from..to], rate, scratch, time, end, burst.peak_dbm)
+}
+
+fn time_ok(t: f64) -> bool
+    ensures { λ r. ⌜ r ≡ timeOk t ⌝ }
+{
+    let early = t >= -limits::FARTHEST_S;
+    let late = t <= limits::FARTHEST_S;
+    early & late
+}
+
+// Whether cause 9 does not apply.
+fn burst_ok(burst: bursts::Burst, t0: f64) -> bool
+    ensures { λ r. ⌜ r ≡ burstOk burst t0 ⌝ }
+{
+    let start = (burst.start as u64) <= limits::LONGEST_STREAM;
+    let end = (burst.end as u64) <= limits::LONGEST_STREAM;
+    let time = time_ok(t0);
+    let floor = limits::is_dbm(burst.floor_dbm);
+    let peak = burst.peak_dbm != burst.peak_dbm;
+    start & (end & (time & (floor & !peak)))
+}
+
+// The frame in a burst that is given (demod.rs `decode_burst`).
+pub fn decode_burst(
+    dbm: &[f32],
+    rate: u32,
+    burst: bursts::Burst,
+    t0: f64,
+    scratch32: &mut [f32],
+    scratch64: &mut [f64],
+) -> BurstFrame
+    ensures { λ r. ⌜ (r ≡ decodeAnswer (now (dbm .entry)) rate burst t0 (length (now (scratch32 .entry))) (length (now (scratch64 .entry))))
+        × Free (r .outcome) (now (scratch32 .entry)) (now (scratch32 .exit)) × Free (r .outcome) (now (scratch64 .entry)) (now (scratch64 .exit)) ⌝ }
+{
+    if !limits::rate_ok(rate) {
+        return no_frame(frame::Outcome::Refused(limits::BAD_RATE));
+    }
+    let narrow = scratch32.len() < limits::BUFFER_S * (rate as usize);
+    let short = scratch64.len() < limits::SCRATCH64;
+    if narrow | short {
+        return no_frame(frame::Outcome::Refused(limits::SHORT));
+    }
+    if limits::BUFFER_S * (rate as usize) < dbm.len() {
+        return no_frame(frame::Outcome::Refused(limits::LONG));
+    }
+    if !limits::all_dbm(dbm) {
+        return no_frame(frame::Outcome::Refused(limits::BAD_SAMPLE));
+    }
+    if !burst_ok(burst, t0) {
+        return no_frame(frame::Outcome::Refused(limits::BAD_NUMBER));
+    }
+    decode_within(dbm, rate, burst, t0, scratch64)
+}
