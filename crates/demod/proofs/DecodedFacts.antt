@@ -1,17 +1,18 @@
--- What every frame of a burst obeys: its rank is at most 2, its payload at most 12 bytes and its authentication at most 5. Assumes nothing.
-use mathlib.Core.Path.{_≡_, refl}
+-- What every frame of a burst obeys: its rank is at most 2, its payload at most 12 bytes and its authentication at most 5, in 12 and 5 places. Assumes nothing.
+use mathlib.Core.Path.{_≡_, refl, _∙_}
 use mathlib.Core.Bool.{Bool, true, false, cond}
 use mathlib.Core.List.{List, [], _∷_, map}
-use Prim.Native.Nat.{ℕ, zero, suc, _+_, _*_, _≤_}
+use Prim.Native.Nat.{ℕ, zero, suc, _+_, _-_, _*_, _≤_}
+use native.Mathlib.Omega.{arith}
 use lib.Dec.{leb, lit≤}
-use lib.ListN.{length, take, drop}
+use lib.ListN.{length, take, drop, replicate, length-append, length-take, length-replicate}
 use lib.Ieee.{Float}
 use Rattle.rates.specs.Rates.{nominalOf}
 use Rattle.coding.specs.Bits.{odd, value}
 use Rattle.coding.specs.Convolution.{fresh, deconvolved}
 use Rattle.frame.specs.Kinds.{syncSize, kinds, kindOf}
-use Rattle.frame.specs.Sizes.{mostPayload, mostAuth, bodyBytes}
-use Rattle.frame.specs.Fields.{li, toBytes, frameFrom}
+use Rattle.frame.specs.Sizes.{headerSize, mostPayload, mostAuth, payloadSize, authSize, bodyBytes}
+use Rattle.frame.specs.Fields.{li, toBytes, padded, frameFrom}
 use Rattle.frame.specs.Repairs.{repaired, repairs, firstOf}
 use Rattle.frame.specs.Decode.{blankFrame, nothing, found, passes, parseBody, decodeBody, decideAt, firstStart, starts, searchFrom, decodeUplink}
 use Rattle.frame.specs.declared.kinds.FrameKind.{FrameKind}
@@ -34,9 +35,15 @@ pub record Lawful (f : UplinkFrame) : Type 0 where
   pub rank : f .rank ≤ 2
   pub payload : f .«payload_len» ≤ mostPayload
   pub auth : f .«auth_len» ≤ mostAuth
+  pub payload-places : length (f .payload) ≡ mostPayload
+  pub auth-places : length (f .auth) ≡ mostAuth
 
 blank : Lawful blankFrame
-blank = record { rank = lit≤ tt; payload = lit≤ tt; auth = lit≤ tt }
+blank = record { rank = lit≤ tt; payload = lit≤ tt; auth = lit≤ tt; payload-places = refl; auth-places = refl }
+
+places : (n k : ℕ) (l : List ℕ) → k ≤ n → length (padded n (take k l)) ≡ n
+places n k l h =
+    length-append (take k l) (replicate (n - length (take k l)) 0) ∙ omega (arith, length-take k l, length-replicate {A = ℕ} (n - length (take k l)) 0)
 
 parsed : (kind : FrameKind) (how : Repair) (body : List Bool) → kind .rank ≤ 2 → kind .class ≤ 4 → Lawful (parseBody kind how body .frame)
 unfolding parseBody frameFrom
@@ -45,10 +52,14 @@ parsed kind how body r c = go (leb (8 * bodyBytes (kind .class)) (length (repair
     go : (t : Bool) → Lawful ((cond t (found (frameFrom kind how (toBytes (bodyBytes (kind .class)) (deconvolved (kind .rank) fresh (repaired how body))))) nothing) .frame)
     go true =
         let bytes = toBytes (bodyBytes (kind .class)) (deconvolved (kind .rank) fresh (repaired how body)) in
+        let p = payload-most (kind .class) (li bytes) c in
+        let a = auth-most (kind .class) (li bytes) (li-lt (bodyBytes (kind .class)) (deconvolved (kind .rank) fresh (repaired how body))) in
         record {
           rank = r;
-          payload = payload-most (kind .class) (li bytes) c;
-          auth = auth-most (kind .class) (li bytes) (li-lt (bodyBytes (kind .class)) (deconvolved (kind .rank) fresh (repaired how body)));
+          payload = p;
+          auth = a;
+          payload-places = places mostPayload (payloadSize (kind .class) (li bytes)) (drop headerSize bytes) p;
+          auth-places = places mostAuth (authSize (kind .class) (li bytes)) (drop (headerSize + payloadSize (kind .class) (li bytes)) bytes) a;
         }
     go false = blank
 

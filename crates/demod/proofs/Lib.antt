@@ -3,3 +3,5 @@ pub mod FrameLaws
 pub mod BurstAnswers
 pub mod DecodedFacts
 pub mod NumberFacts
+pub mod CaptureLaws
+pub mod CaptureAnswers

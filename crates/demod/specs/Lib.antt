@@ -1,2 +1,3 @@
 -- The definitions that the contracts of `demod` cite.
 pub mod Decode
+pub mod Capture

@@ -1,13 +1,20 @@
-// Bursts to frames (demod.rs `decode_burst`).
+// Bursts to frames (demod.rs `decode_burst`, `decode_capture`).
 ghost use mathlib.Core.Path.{_≡_};
 ghost use mathlib.Core.Bool.{true};
-ghost use Prim.Native.Nat.{_≤_, _*_, max};
-ghost use lib.ListN.{length};
-ghost use Rattle.limits.specs.Limits.{lowestRate, highestRate, bufferS, scratch64, longestStream};
+ghost use mathlib.Core.List.{_++_};
+ghost use Prim.Native.Nat.{_≤_, _+_, _*_, max};
+ghost use lib.ListN.{length, drop};
+ghost use lib.Seq.{sets};
+ghost use Rattle.limits.specs.Limits.{lowestRate, highestRate, bufferS, scratch64, mostSamples, longestStream, recordSize, eventsSize};
 ghost use Rattle.limits.specs.Samples.{allDbm};
 ghost use Rattle.rates.specs.Rates.{padOf};
+ghost use Rattle.record.specs.Record.{frameRecord};
+ghost use Rattle.bursts.specs.Levels.{noiseFloor};
 ghost use Rattle.clock.specs.Bits.{outcome};
-ghost use Rattle.demod.specs.Decode.{without, timeAt, withBurst, heardIn, decodeBurst, timeOk, burstOk, decodeAnswer, Free};
+ghost use Rattle.demod.specs.Decode.{without, timeAt, withBurst, heardIn, decodeBurst, timeOk, burstOk, decodeAnswer};
+ghost use Rattle.demod.specs.Decode as decode;
+ghost use Rattle.demod.specs.Capture.{floorOf, floorOk, receptionOf, recordOf, captured, joined, captureAnswer, captureLeft};
+ghost use Rattle.demod.specs.Capture as capture;
 
 pub struct DecodedFrame {
     pub frame: frame::UplinkFrame,
@@ -22,6 +29,18 @@ pub struct DecodedFrame {
 pub struct BurstFrame {
     pub outcome: frame::Outcome,
     pub decoded: DecodedFrame,
+}
+
+// The noise floor of a capture.
+pub enum Floor {
+    Measured,
+    Given(f32),
+}
+
+// What `decode_capture` answers: the number of records written.
+pub enum Captured {
+    Refused(u8),
+    Count(usize),
 }
 
 // An answer with no frame.
@@ -158,7 +177,7 @@ pub fn decode_burst(
     scratch64: &mut [f64],
 ) -> BurstFrame
     ensures { λ r. ⌜ (r ≡ decodeAnswer (now (dbm .entry)) rate burst t0 (length (now (scratch32 .entry))) (length (now (scratch64 .entry))))
-        × Free (r .outcome) (now (scratch32 .entry)) (now (scratch32 .exit)) × Free (r .outcome) (now (scratch64 .entry)) (now (scratch64 .exit)) ⌝ }
+        × decode.Free (r .outcome) (now (scratch32 .entry)) (now (scratch32 .exit)) × decode.Free (r .outcome) (now (scratch64 .entry)) (now (scratch64 .exit)) ⌝ }
 {
     if !limits::rate_ok(rate) {
         return no_frame(frame::Outcome::Refused(limits::BAD_RATE));
@@ -178,4 +197,142 @@ pub fn decode_burst(
         return no_frame(frame::Outcome::Refused(limits::BAD_NUMBER));
     }
     decode_within(dbm, rate, burst, t0, scratch64)
+}
+
+// The record of a decoded frame, at a place of the events.
+fn put_decoded(d: DecodedFrame, start: usize, events: &mut [u8], at: usize)
+    requires { ⌜ at + recordSize ≤ length (now events) ⌝ }
+    ensures { λ _. ⌜ now (events .exit) ≡ sets (now (events .entry)) at (frameRecord (d .frame) (receptionOf d start)) ⌝ }
+{
+    let f = d.frame;
+    record::put_frame(
+        f,
+        record::Reception {
+            clock_error_ppm: d.clock_error_ppm,
+            rssi: d.rssi,
+            time: d.time,
+            end: d.end,
+            start: start as u64,
+        },
+        events,
+        at,
+    );
+}
+
+// The record of a burst that has a frame, after n others; how many there are then.
+fn capture_burst(
+    dbm: &[f32],
+    rate: u32,
+    burst: bursts::Burst,
+    t0: f64,
+    events: &mut [u8],
+    n: usize,
+    scratch: &mut [f64],
+) -> usize
+    requires { ⌜ (lowestRate ≤ rate) × (rate ≤ highestRate) × (length (now dbm) ≤ bufferS * rate) × (allDbm (now dbm) ≡ true) × (burst .start ≤ longestStream) × (burst .end ≤ longestStream) × (scratch64 ≤ length (now scratch)) × (recordSize * (n + 1) ≤ length (now events)) ⌝ }
+    ensures { λ r. ⌜ (r ≡ n + length (recordOf (now (dbm .entry)) rate t0 burst))
+        × (now (events .exit) ≡ sets (now (events .entry)) (recordSize * n) (joined (recordOf (now (dbm .entry)) rate t0 burst))) ⌝ }
+{
+    let x = decode_within(dbm, rate, burst, t0, scratch);
+    let outcome = x.outcome;
+    let d = x.decoded;
+    match outcome {
+        frame::Outcome::Refused(_) => n,
+        frame::Outcome::Nothing => n,
+        frame::Outcome::Frame => {
+            put_decoded(d, burst.start, events, limits::RECORD * n);
+            n + 1
+        }
+    }
+}
+
+// The records of all bursts over a floor.
+fn capture(
+    dbm: &[f32],
+    rate: u32,
+    t0: f64,
+    floor: f32,
+    events: &mut [u8],
+    scratch: &mut [f64],
+) -> usize
+    requires { ⌜ (lowestRate ≤ rate) × (rate ≤ highestRate) × (length (now dbm) ≤ bufferS * rate) × (allDbm (now dbm) ≡ true) × (scratch64 ≤ length (now scratch)) × (eventsSize ≤ length (now events)) ⌝ }
+    ensures { λ r. ⌜ (r ≡ length (captured (now (dbm .entry)) rate t0 floor))
+        × (now (events .exit) ≡ joined (captured (now (dbm .entry)) rate t0 floor) ++ drop (recordSize * r) (now (events .entry))) ⌝ }
+{
+    let options = bursts::BurstOptions::new();
+    let mut at: usize = 0;
+    let mut n: usize = 0;
+    while at < dbm.len() {
+        match bursts::search_bursts(dbm, rate, options, floor, at, 0) {
+            bursts::NextBurst::Refused(_) => {
+                return n;
+            }
+            bursts::NextBurst::Nothing => {
+                return n;
+            }
+            bursts::NextBurst::Found(b) => {
+                n = capture_burst(dbm, rate, b, t0, events, n, scratch);
+                at = b.end;
+            }
+        }
+    }
+    n
+}
+
+fn floor_of(floor: Floor, dbm: &[f32]) -> f32
+    requires { ⌜ (length (now dbm) ≤ mostSamples) × (allDbm (now dbm) ≡ true) ⌝ }
+    ensures { λ r. ⌜ r ≡ floorOf floor (now (dbm .entry)) ⌝ }
+{
+    match floor {
+        Floor::Measured => bursts::measured_floor(dbm),
+        Floor::Given(x) => x,
+    }
+}
+
+// Whether cause 9 does not apply.
+fn floor_ok(floor: Floor) -> bool
+    ensures { λ r. ⌜ r ≡ floorOk floor ⌝ }
+{
+    match floor {
+        Floor::Measured => true,
+        Floor::Given(x) => limits::is_dbm(x),
+    }
+}
+
+// The frames of a block of samples, as event records (demod.rs `decode_capture`). `t0` is the time of the first sample in seconds.
+pub fn decode_capture(
+    dbm: &[f32],
+    rate: u32,
+    t0: f64,
+    floor: Floor,
+    events: &mut [u8],
+    scratch32: &mut [f32],
+    scratch64: &mut [f64],
+) -> Captured
+    ensures { λ r. ⌜ (r ≡ captureAnswer (now (dbm .entry)) rate t0 floor (length (now (events .entry))) (length (now (scratch32 .entry))) (length (now (scratch64 .entry))))
+        × (now (events .exit) ≡ captureLeft r (captured (now (dbm .entry)) rate t0 (floorOf floor (now (dbm .entry)))) (now (events .entry)))
+        × capture.Free r (now (scratch32 .entry)) (now (scratch32 .exit)) × capture.Free r (now (scratch64 .entry)) (now (scratch64 .exit)) ⌝ }
+{
+    if !limits::rate_ok(rate) {
+        return Captured::Refused(limits::BAD_RATE);
+    }
+    let few = events.len() < limits::EVENTS;
+    let narrow = scratch32.len() < limits::BUFFER_S * (rate as usize);
+    let short = scratch64.len() < limits::SCRATCH64;
+    if few | (narrow | short) {
+        return Captured::Refused(limits::SHORT);
+    }
+    if limits::BUFFER_S * (rate as usize) < dbm.len() {
+        return Captured::Refused(limits::LONG);
+    }
+    if !limits::all_dbm(dbm) {
+        return Captured::Refused(limits::BAD_SAMPLE);
+    }
+    let time = time_ok(t0);
+    let level = floor_ok(floor);
+    if !(time & level) {
+        return Captured::Refused(limits::BAD_NUMBER);
+    }
+    let over = floor_of(floor, dbm);
+    Captured::Count(capture(dbm, rate, t0, over, events, scratch64))
 }
