@@ -9,3 +9,4 @@ pub mod FieldLaws
 pub mod PrefixLaws
 pub mod SearchLaws
 pub mod HeaderLaws
+pub mod AnswerLaws
