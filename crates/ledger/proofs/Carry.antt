@@ -12,7 +12,7 @@ use Rattle.limits.specs.Limits.{waiting}
 use Rattle.ledger.specs.Types.{DecodedFrame, Burst}
 use Rattle.ledger.specs.Frames.{Key, same, Frame, frameAt, keyOf, rightCrc}
 use Rattle.ledger.specs.Merge.{openEntry, mergeAll}
-use Rattle.ledger.specs.Ledger.{Message, frames, messageKey, summary, byFrames, byEntry, Demod, capacity, tail, seconds, Ledger, join, Call, push, flush, ready, chosen, others, hear, remember, takes, takeOne, takeEach, forget, scan, halve, amount, add, scanned, due, fill, fills, startCall, scans, now, closed, messages, Event, frame, written, events}
+use Rattle.ledger.specs.Ledger.{Message, frames, messageKey, summary, byFrames, byEntry, Demod, capacity, tail, seconds, Ledger, join, Call, push, flush, ready, chosen, others, hear, remember, takes, takeOne, takeEach, forget, scan, halve, amount, add, scanned, due, fill, fills, startCall, scans, now, closed, messages, Event, ofFrame, eventOf, events}
 use Rattle.ledger.specs.Causes.{waits, unlike, allFit, countsOf, orderly, anyNan, Lent, callCause, cause, Attempt, number, afterCall, callEvents, after}
 use Rattle.ledger.proofs.Basics.{either}
 use Rattle.ledger.proofs.Entries.{merge-snoc, summary-key, RanksFit, summary-complete}
@@ -139,7 +139,7 @@ messages-carry rate c l w = chosen-carry c (now rate l) (l .waiting) w
 
 pub events-carry : (rate : ℕ) (c : Call) (l : Ledger byFrames) → AllRanked (l .waiting) → events rate c l ≡ events rate c (carry l)
 events-carry rate c l w =
-    rw (← messages-carry rate c l w) (ap (λ (t : List Event). map frame (l .heard) ++ t) (sym (map-map (written byEntry) summary (messages rate c l))))
+    rw (← messages-carry rate c l w) (ap (λ (t : List Event). map ofFrame (l .heard) ++ t) (sym (map-map (eventOf byEntry) summary (messages rate c l))))
 
 -- ---- causes
 

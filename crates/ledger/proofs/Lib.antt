@@ -1,4 +1,4 @@
--- Laws of the ledger: sizes, spacing, order, room, and that it says the same of lists of frames and of merged entries.
+-- Laws of the ledger: order, room, that entries say the same as lists of frames (to Carry), and demand 3 (Theorem).
 pub mod Basics
 pub mod Spans
 pub mod Spacing
@@ -16,3 +16,13 @@ pub mod NoCap
 pub mod Raw
 pub mod Ranks
 pub mod Carry
+pub mod Records
+pub mod Loud
+pub mod Notes
+pub mod Waiting
+pub mod Walk
+pub mod Starts
+pub mod Stand
+pub mod Dues
+pub mod Turns
+pub mod Theorem

@@ -307,13 +307,13 @@ module _ {K : Kind} where
 -- ---- records
 
 pub data Event : Type 0 where
-  frame : Frame → Event
-  message : SigfoxMessage → Event
+  ofFrame : Frame → Event
+  ofMessage : SigfoxMessage → Event
 
 -- "A message's bytes are the table's, of its frames as the Rust merges them"
-abbrev pub written : (K : Kind) → K .Open → Event
-written K m = message (finished (K .entry m))
+abbrev pub eventOf : (K : Kind) → K .Open → Event
+eventOf K m = ofMessage (finished (K .entry m))
 
 -- the records of a call whose scans left l: "A call's frames stand before its messages"
 abbrev pub events : {K : Kind} → ℕ → Call → Ledger K → List Event
-events {K} rate c l = map frame (l .heard) ++ map (written K) (messages rate c l)
+events {K} rate c l = map ofFrame (l .heard) ++ map (eventOf K) (messages rate c l)

@@ -1,7 +1,10 @@
--- 01's ledger, what receiver.rs keeps of an open message, the causes of a refusal, and the room that a call needs.
+-- 01's ledger, the causes of a refusal, demand 3's claims, and the room that a call needs. Read Frames, Merge, Ledger, Causes, then Demand3, History, Example.
 pub mod Types
 pub mod Frames
 pub mod Merge
 pub mod Ledger
 pub mod Causes
+pub mod Demand3
+pub mod History
 pub mod Room
+pub mod Example
