@@ -147,3 +147,8 @@ module _ {K : Kind} where
   scans-small rate d l flush h s =
       let q = scan-still rate d 0 (startCall l) in
       (rw (q .held) s, rw (q .held, q .base) (omega arith))
+
+  -- "only the former sets the unscanned count to 0": a flush leaves it
+  pub flush-unscanned : (rate : ℕ) (d : Demod) (l : Ledger K) → scans rate d l flush .unscanned ≡ l .unscanned
+  unfolding scans startCall
+  flush-unscanned rate d l = scan-still rate d 0 (startCall l) .unscanned
