@@ -8,7 +8,6 @@ use Prim.Native.Nat.{ℕ, zero, suc, _+_, _-_, _*_}
 use lib.ListN.{length, drop, length-map}
 use lib.Dec.{leb, eqb}
 use lib.Ieee.{Float}
-use Rattle.limits.specs.Limits.{waiting}
 use Rattle.ledger.specs.Types.{DecodedFrame, Burst}
 use Rattle.ledger.specs.Frames.{Key, same, Frame, frameAt, keyOf, rightCrc}
 use Rattle.ledger.specs.Merge.{openEntry, mergeAll}

@@ -10,7 +10,6 @@ use lib.ListN.{length, drop, length-append, length-map, length-drop}
 use lib.Dec.{leb, eqb}
 use lib.Ieee.{Float}
 use borrow.Author.Tests.{leb-false}
-use Rattle.limits.specs.Limits.{waiting}
 use Rattle.ledger.specs.Types.{DecodedFrame, Burst}
 use Rattle.ledger.specs.Frames.{frameAt, rankOf, rightCrc, startOf}
 use Rattle.ledger.specs.Merge.{place}

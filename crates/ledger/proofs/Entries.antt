@@ -1,15 +1,16 @@
 -- The entry that the Rust merges of a list of frames: its first frame's fields, its ranks, its RSSI, the time of the last.
-use mathlib.Core.Path.{_≡_, refl, sym, ap, _∙_}
+use mathlib.Core.Path.{_≡_, refl, ap, _∙_}
 use mathlib.Core.List.{List, [], _∷_, _++_}
-use mathlib.Core.Bool.{Bool, true, false, _&&_, _||_, or-true, or-assoc, or-comm}
+use mathlib.Core.Bool.{Bool, true, false, _||_, or-assoc, or-comm}
 use Prim.Native.Nat.{ℕ, zero, suc, _≤_}
 use native.Mathlib.Omega.{arith}
 use lib.ListN.{length}
 use lib.Dec.{leb, eqb}
 use lib.Ieee.{Float}
-use borrow.Author.Tests.{le-leb, not-true}
+use borrow.Author.Tests.{le-leb}
+use Rattle.ledger.specs.Types.{Pending}
 use Rattle.ledger.specs.Frames.{Frame, keyOf, rankOf, rssiOf, timeOf, startOf}
-use Rattle.ledger.specs.Merge.{Entry, entryKey, has, threeRanks, louder, openEntry, merge, mergeAll, expires}
+use Rattle.ledger.specs.Merge.{entryKey, has, threeRanks, louder, openEntry, merge, mergeAll, expires}
 use Rattle.ledger.specs.Ledger.{Message, frames, messageKey, summary, ranked, latest, complete}
 use Rattle.ledger.specs.Causes.{mostPayload, mostAuth, spansFit, entryFits}
 use Rattle.ledger.proofs.Basics.{and-true}
@@ -22,7 +23,7 @@ pub record FrameFits (f : Frame) : Type 0 where
   pub payload : f .uplink .«payload_len» ≤ mostPayload
   pub auth : f .uplink .«auth_len» ≤ mostAuth
 
-fits-parts : (e : Entry) → entryFits e ≡ true
+fits-parts : (e : Pending) → entryFits e ≡ true
     → (has 0 (e .message .spans) || (has 1 (e .message .spans) || has 2 (e .message .spans)) ≡ true) × (spansFit (e .message .spans) ≡ true)
     × (leb (e .message .«payload_len») mostPayload ≡ true) × (leb (e .message .«auth_len») mostAuth ≡ true)
 unfolding entryFits
@@ -32,7 +33,7 @@ fits-parts e h =
     let c = and-true (leb (e .message .«payload_len») mostPayload) (leb (e .message .«auth_len») mostAuth) (b .1) in
     (a .0, b .0, c .0, c .1)
 
-parts-fit : (e : Entry) → has 0 (e .message .spans) || (has 1 (e .message .spans) || has 2 (e .message .spans)) ≡ true → spansFit (e .message .spans) ≡ true
+parts-fit : (e : Pending) → has 0 (e .message .spans) || (has 1 (e .message .spans) || has 2 (e .message .spans)) ≡ true → spansFit (e .message .spans) ≡ true
     → leb (e .message .«payload_len») mostPayload ≡ true → leb (e .message .«auth_len») mostAuth ≡ true → entryFits e ≡ true
 unfolding entryFits
 parts-fit e p q r s = rw (p, q, r) s
@@ -50,7 +51,7 @@ open-fits f h =
     some-rank (suc (suc zero)) h = refl
     some-rank (suc (suc (suc r))) h = absurd (omega arith)
 
-pub merge-fits : (e : Entry) (f : Frame) → FrameFits f → entryFits e ≡ true → entryFits (merge e f) ≡ true
+pub merge-fits : (e : Pending) (f : Frame) → FrameFits f → entryFits e ≡ true → entryFits (merge e f) ≡ true
 unfolding merge
 merge-fits e f h w =
     let p = fits-parts e w in
@@ -58,18 +59,18 @@ merge-fits e f h w =
 
 -- ---- the entry of a list of frames
 
-pub merge-snoc : (e : Entry) (l : List Frame) (f : Frame) → mergeAll e (l ++ (f ∷ [])) ≡ merge (mergeAll e l) f
+pub merge-snoc : (e : Pending) (l : List Frame) (f : Frame) → mergeAll e (l ++ (f ∷ [])) ≡ merge (mergeAll e l) f
 unfolding mergeAll
 merge-snoc e [] f = refl
 merge-snoc e (g ∷ l) f = merge-snoc (merge e g) l f
 
 -- what stays the first frame's
-pub record Same (e d : Entry) : Type 0 where
+pub record Same (e d : Pending) : Type 0 where
   pub key : entryKey d ≡ entryKey e
   pub time : d .message .time ≡ e .message .time
   pub start : d .message .start ≡ e .message .start
 
-all-same : (e : Entry) (l : List Frame) → Same e (mergeAll e l)
+all-same : (e : Pending) (l : List Frame) → Same e (mergeAll e l)
 unfolding mergeAll merge entryKey
 all-same e [] = record { key = refl; time = refl; start = refl }
 all-same e (f ∷ l) =
@@ -88,7 +89,7 @@ pub summary-start : (m : Message) → summary m .message .start ≡ startOf (m .
 unfolding openEntry startOf
 summary-start m = all-same (openEntry (m .first)) (m .more) .start
 
-all-last : (e : Entry) (g : Frame) (l : List Frame) → e .last ≡ timeOf g → mergeAll e l .last ≡ timeOf (latest g l)
+all-last : (e : Pending) (g : Frame) (l : List Frame) → e .last ≡ timeOf g → mergeAll e l .last ≡ timeOf (latest g l)
 unfolding mergeAll merge latest
 all-last e g [] q = q
 all-last e g (f ∷ l) q = all-last (merge e f) f l refl
@@ -102,7 +103,7 @@ unfoldable pub loudest : Float → List Frame → Float
 loudest v [] = v
 loudest v (f ∷ l) = loudest (louder v (rssiOf f)) l
 
-all-rssi : (e : Entry) (l : List Frame) → mergeAll e l .message .rssi ≡ loudest (e .message .rssi) l
+all-rssi : (e : Pending) (l : List Frame) → mergeAll e l .message .rssi ≡ loudest (e .message .rssi) l
 unfolding mergeAll merge loudest
 all-rssi e [] = refl
 all-rssi e (f ∷ l) = all-rssi (merge e f) l
@@ -121,7 +122,7 @@ pub ranks-snoc : (l : List Frame) (f : Frame) → RanksFit l → rankOf f ≤ 2 
 ranks-snoc [] f w h = (h, tt)
 ranks-snoc (g ∷ l) f w h = (w .0, ranks-snoc l f (w .1) h)
 
-all-has : (r : ℕ) (e : Entry) (l : List Frame) → r ≤ 2 → length (e .message .spans) ≡ 3 → spansFit (e .message .spans) ≡ true → RanksFit l
+all-has : (r : ℕ) (e : Pending) (l : List Frame) → r ≤ 2 → length (e .message .spans) ≡ 3 → spansFit (e .message .spans) ≡ true → RanksFit l
     → has r (mergeAll e l .message .spans) ≡ has r (e .message .spans) || ranked r l
 unfolding mergeAll merge ranked
 all-has r e [] h n q w = or-comm false (has r (e .message .spans))

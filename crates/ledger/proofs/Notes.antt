@@ -2,11 +2,10 @@
 use mathlib.Core.Path.{_≡_, refl, sym, ap, _∙_}
 use mathlib.Core.Logic.{_⊎_, inl, inr, ⊎-elim}
 use mathlib.Core.List.{List, [], _∷_, _++_, map, map-map}
-use mathlib.Core.Bool.{Bool, true, false, _&&_, _||_, cond, or-true}
-use Prim.Native.Nat.{ℕ, zero, suc, _+_, _*_, _/_, _%_, _^_, _≤_}
+use mathlib.Core.Bool.{Bool, true, false, cond, or-true}
+use Prim.Native.Nat.{ℕ, zero, suc, _+_, _/_, _%_, _^_, _≤_}
 use native.Mathlib.Omega.{arith}
 use lib.Dec.{eqb}
-use lib.Ieee.{Float, lt}
 use borrow.Author.Tests.{eqb-true, eq-eqb}
 use Rattle.ledger.specs.Types.{FrameSpan}
 use Rattle.ledger.specs.Frames.{Key, Frame, rankOf}

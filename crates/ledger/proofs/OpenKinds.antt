@@ -1,6 +1,5 @@
 -- Lists of frames and entries are both kinds of open message.
 use mathlib.Core.Path.{_≡_, refl}
-use mathlib.Core.List.{List, [], _∷_}
 use mathlib.Core.Bool.{true}
 use Rattle.ledger.specs.Frames.{Frame, keyOf}
 use Rattle.ledger.specs.Merge.{entryKey, openEntry, merge, mergeAll}

@@ -1,12 +1,11 @@
 -- The tests of order and of causes, as facts: what an accepted call gives.
-use mathlib.Core.Path.{_≡_, refl, _∙_}
+use mathlib.Core.Path.{_≡_, refl}
 use mathlib.Core.List.{List, [], _∷_}
-use mathlib.Core.Bool.{Bool, true, false, not, _&&_, _||_, cond}
-use Prim.Native.Nat.{ℕ, zero, suc, _+_, _*_, _≤_}
+use mathlib.Core.Bool.{Bool, true, false, not, cond}
+use Prim.Native.Nat.{ℕ, _+_, _*_, _≤_}
 use native.Mathlib.Omega.{arith}
 use lib.ListN.{length}
 use lib.Dec.{leb, ltb}
-use lib.Ieee.{Float}
 use borrow.Author.Tests.{ltb-true, ltb-false, leb-true, lt-ltb, le-leb, not-false}
 use Rattle.limits.specs.Limits as limits
 use Rattle.limits.specs.Limits.{badRate, short, long, badSample, badState, stream, badNumber, lowestRate, highestRate, longestStream}

@@ -10,10 +10,8 @@ use lib.ListN.{length, take, drop, length-drop}
 use lib.Dec.{leb, eqb}
 use lib.Ieee.{Float}
 use borrow.Author.Tests.{eqb-true, leb-true}
-use Rattle.limits.specs.Limits.{waiting}
 use Rattle.ledger.specs.Types.{DecodedFrame, Burst}
 use Rattle.ledger.specs.Ledger.{Kind, Demod, capacity, half, seconds, near, spaced, startsFrom, Ledger, hear, remember, takes, takeOne, takeEach, forget, halve, amount, add, scanned}
-use Rattle.ledger.specs.Causes.{below}
 use Rattle.ledger.specs.Room.{Below, Since}
 use Rattle.ledger.proofs.Basics.{either}
 use Rattle.ledger.proofs.Spacing.{spaced-snoc, taken}

@@ -1,7 +1,7 @@
 -- Laws of the records: who is written, and whose frames are whose.
 use mathlib.Core.Path.{_≡_, refl, sym, ap, _∙_}
 use mathlib.Core.Logic.{_⊎_, ⊎-elim}
-use mathlib.Core.List.{List, [], _∷_, _++_, map}
+use mathlib.Core.List.{List, [], _∷_, _++_}
 use mathlib.Core.Bool.{Bool, true, false, not, _&&_, _||_, cond, or-true, or-assoc, and-false}
 use Prim.Native.Nat.{_+_, _-_}
 use borrow.Author.Tests.{not-true}

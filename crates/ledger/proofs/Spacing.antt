@@ -1,5 +1,5 @@
 -- No two frames start under 0.3 s apart: a start that is forgotten is too far back to matter.
-use mathlib.Core.Path.{_≡_, refl, sym, ap, _∙_}
+use mathlib.Core.Path.{_≡_, refl, sym, _∙_}
 use mathlib.Core.Logic.{_⊎_, ⊎-elim}
 use mathlib.Core.List.{List, [], _∷_, _++_, map, append-assoc, append-nil}
 use mathlib.Core.Bool.{true, false, not, _&&_, _||_, or-assoc}

@@ -1,5 +1,5 @@
 -- The places of an entry's spans: which ranks are there, and that a frame of a missing rank finds a free place.
-use mathlib.Core.Path.{_≡_, refl, sym, ap, _∙_}
+use mathlib.Core.Path.{_≡_, refl, sym, ap}
 use mathlib.Core.Logic.{_⊎_, inl, inr, ⊎-elim}
 use mathlib.Core.List.{List, [], _∷_}
 use mathlib.Core.Bool.{Bool, true, false, not, _&&_, _||_, cond, or-true, or-assoc, or-comm}
@@ -7,7 +7,7 @@ use Prim.Native.Nat.{ℕ, zero, suc, _+_, _≤_}
 use native.Mathlib.Omega.{arith}
 use lib.ListN.{length}
 use lib.Dec.{leb, eqb}
-use borrow.Author.Tests.{le-leb, eqb-true, eqb-false, eq-eqb, leb-true, not-true}
+use borrow.Author.Tests.{le-leb, eqb-true, eq-eqb, leb-true, not-true}
 use Rattle.ledger.specs.Types.{FrameSpan}
 use Rattle.ledger.specs.Frames.{Frame, rankOf}
 use Rattle.ledger.specs.Merge.{noSpan, emptySpan, spanOf, has, place, meet}

@@ -1,12 +1,10 @@
 -- One call of a run, from a ledger that stands.
 use mathlib.Core.Path.{_≡_, refl, sym, ap, _∙_}
-use mathlib.Core.Logic.{_⊎_, ⊎-elim}
 use mathlib.Core.List.{List, [], _∷_, _++_, map, map-map, append-assoc, append-nil}
-use mathlib.Core.Bool.{Bool, true, false, _||_, cond, or-true}
-use Prim.Native.Nat.{ℕ, zero, suc, _+_, _-_, _*_, _≤_}
+use mathlib.Core.Bool.{true, or-true}
+use Prim.Native.Nat.{ℕ, zero, suc, _+_, _-_, _≤_}
 use native.Mathlib.Omega.{arith}
 use lib.ListN.{length}
-use lib.Dec.{eqb}
 use lib.Ieee.{Float}
 use Rattle.ledger.specs.Frames.{Key, Frame}
 use Rattle.ledger.specs.Ledger.{Message, messageKey, byFrames, Demod, seconds, Ledger, Call, flush, ready, others, scans, now, closed, messages}

@@ -1,16 +1,16 @@
 -- Which calls are refused, and with which number: 01's table of causes, in its order, and its rules for a state in order. Assumes nothing.
-use mathlib.Core.List.{List, [], _∷_, _++_, map}
+use mathlib.Core.List.{List, [], _∷_}
 use mathlib.Core.Bool.{Bool, true, false, not, _&&_, _||_, cond}
 use Prim.Native.Nat.{ℕ, zero, suc, _+_, _*_}
 use lib.ListN.{length}
 use lib.Dec.{leb, ltb, eqb}
-use lib.Ieee.{Float, isNan}
+use lib.Ieee.{isNan}
 use Rattle.limits.specs.Limits.{badRate, short, long, badSample, badState, stream, badNumber, eventsSize, scratch64, longestStream}
 use Rattle.limits.specs.Limits as limits
 use Rattle.limits.specs.Samples.{rateOk, allDbm}
-use Rattle.ledger.specs.Types.{FrameSpan, FirstFrameEnd, Known, Unknown}
+use Rattle.ledger.specs.Types.{FrameSpan, FirstFrameEnd, Known, Unknown, Pending}
 use Rattle.ledger.specs.Frames.{Key, same}
-use Rattle.ledger.specs.Merge.{noSpan, Entry, has}
+use Rattle.ledger.specs.Merge.{noSpan, has}
 use Rattle.ledger.specs.Ledger.{Kind, Demod, capacity, spaced, Ledger, Call, push, flush, scans, closed, Event, events}
 
 -- ---- the numbers of the order
@@ -56,7 +56,7 @@ spansFit [] = true
 spansFit (s ∷ l) = (eqb (s .rank) noSpan || (leb (s .rank) 2 && not (has (s .rank) l))) && spansFit l
 
 -- "each with 1 to 3 spans of different ranks 0 to 2, payload at most 12 and auth at most 5 bytes"
-unfoldable pub entryFits : Entry → Bool
+unfoldable pub entryFits : Pending → Bool
 entryFits e =
     (has 0 (e .message .spans) || (has 1 (e .message .spans) || has 2 (e .message .spans)))
     && (spansFit (e .message .spans) && (leb (e .message .«payload_len») mostPayload && leb (e .message .«auth_len») mostAuth))
@@ -110,7 +110,7 @@ unfoldable pub endNan : FirstFrameEnd → Bool
 endNan (Known t) = isNan t
 endNan Unknown = false
 
-unfoldable pub entryNan : Entry → Bool
+unfoldable pub entryNan : Pending → Bool
 entryNan e =
     isNan (e .last)
     || (isNan (e .message .time) || (isNan (e .message .rssi) || (endNan (e .message .«first_frame_end») || spanNan (e .message .spans))))

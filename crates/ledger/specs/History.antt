@@ -1,6 +1,6 @@
 -- The run of 01's ledger over a list of calls, refused ones included, as a client sees it. Assumes nothing.
 use mathlib.Core.List.{List, [], _∷_, map}
-use mathlib.Core.Bool.{true, cond}
+use mathlib.Core.Bool.{cond}
 use Prim.Native.Nat.{ℕ, _+_}
 use Rattle.ledger.specs.Types.{FrameSpan, SigfoxMessage}
 use Rattle.ledger.specs.Frames.{Frame, keyOf, rankOf, rightCrc, rssiOf, timeOf, startOf}

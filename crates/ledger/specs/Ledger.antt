@@ -12,9 +12,9 @@ use lib.IntN.{pos}
 use lib.Ieee.{Float, binary32, binary64, lt, sub, div, neg, ofInt}
 use Rattle.floats.specs.Number.{num}
 use Rattle.limits.specs.Limits.{bufferS}
-use Rattle.ledger.specs.Types.{DecodedFrame, Burst, SigfoxMessage}
+use Rattle.ledger.specs.Types.{DecodedFrame, Burst, SigfoxMessage, Pending}
 use Rattle.ledger.specs.Frames.{Key, same, Frame, frameAt, keyOf, rankOf, rightCrc, timeOf}
-use Rattle.ledger.specs.Merge.{quietS, Entry, entryKey, openEntry, merge, mergeAll, expires, finished}
+use Rattle.ledger.specs.Merge.{quietS, entryKey, openEntry, merge, mergeAll, expires, finished}
 
 -- ---- open messages
 
@@ -30,7 +30,7 @@ abbrev pub messageKey : Message → Key
 messageKey m = keyOf (m .first)
 
 -- "of its frames as the Rust merges them"
-abbrev pub summary : Message → Entry
+abbrev pub summary : Message → Pending
 summary m = mergeAll (openEntry (m .first)) (m .more)
 
 -- the rank r is among the frames
@@ -58,7 +58,7 @@ pub record Kind : Type 1 where
   -- three ranks, or a time over 10 s past the frame that joined last
   pub complete : Float → Open → Bool
   -- what the Rust would hold of it
-  pub entry : Open → Entry
+  pub entry : Open → Pending
 
 -- 01's ledger
 abbrev pub byFrames : Kind
@@ -74,7 +74,7 @@ byFrames =
 
 -- the Rust's
 abbrev pub byEntry : Kind
-byEntry = record { Open = Entry; key = entryKey; opened = openEntry; joined = merge; complete = expires; entry = λ e. e }
+byEntry = record { Open = Pending; key = entryKey; opened = openEntry; joined = merge; complete = expires; entry = λ e. e }
 
 -- ---- demodulation, as far as the ledger uses it: demand 2's definitions are the one that the receiver has
 

@@ -4,10 +4,10 @@ use mathlib.Core.Bool.{Bool, false, not, _&&_, _||_, cond}
 use mathlib.Core.List.{List, [], _∷_}
 use mathlib.Core.Option.{Option, none, some}
 use lib.Dec.{leb, ltb, eqb}
-use lib.Ieee.{Float, nan, binary64, lt, sub, add, mul}
+use lib.Ieee.{Float, binary64, lt, sub, add, mul}
 use Rattle.floats.specs.Number.{num}
 use Rattle.floats.specs.Number as number
-use Rattle.ledger.specs.Types.{FrameSpan, FirstFrameEnd, Known, Unknown, SigfoxMessage}
+use Rattle.ledger.specs.Types.{FrameSpan, FirstFrameEnd, Known, Unknown, SigfoxMessage, Pending}
 use Rattle.ledger.specs.Frames.{Key, Frame, rankOf, rssiOf, timeOf}
 
 -- 10 s: receiver.rs QUIET_S. Repetitions start about 4 s apart and a frame is decoded about 2 s after its start, so a message waits this long for the next
@@ -22,12 +22,7 @@ frameGapS = number.near 243 100
 abbrev pub noSpan : ℕ
 noSpan = 255
 
--- the message so far, and the time of the frame that joined last
-pub record Entry : Type 0 where
-  pub message : SigfoxMessage
-  pub last : Float
-
-unfoldable pub entryKey : Entry → Key
+unfoldable pub entryKey : Pending → Key
 entryKey e = record { device = e .message .«device_id»; counter = e .message .counter }
 
 -- ---- spans
@@ -67,7 +62,7 @@ unfoldable pub louder : Float → Float → Float
 louder v w = cond (lt v w) w v
 
 -- where no message is open with its device and counter
-unfoldable pub openEntry : Frame → Entry
+unfoldable pub openEntry : Frame → Pending
 openEntry f =
     record {
       message =
@@ -92,7 +87,7 @@ openEntry f =
     }
 
 -- where one is
-unfoldable pub merge : Entry → Frame → Entry
+unfoldable pub merge : Pending → Frame → Pending
 merge e f =
     record {
       message =
@@ -116,14 +111,14 @@ merge e f =
       last = timeOf f;
     }
 
-unfoldable pub mergeAll : Entry → List Frame → Entry
+unfoldable pub mergeAll : Pending → List Frame → Pending
 mergeAll e [] = e
 mergeAll e (f ∷ l) = mergeAll (merge e f) l
 
 -- ---- `expire`
 
 -- three ranks, or a time over 10 s past the frame that joined last
-unfoldable pub expires : Float → Entry → Bool
+unfoldable pub expires : Float → Pending → Bool
 expires t e = threeRanks (e .message .spans) || lt quietS (sub binary64 t (e .last))
 
 -- a span of rank 1 or 2
@@ -157,7 +152,7 @@ orElse (Known t) o = Known t
 orElse Unknown o = o
 
 -- the message as it is written
-unfoldable pub finished : Entry → SigfoxMessage
+unfoldable pub finished : Pending → SigfoxMessage
 finished e =
     record {
       «device_id» = e .message .«device_id»;
