@@ -1,31 +1,7 @@
 // What receiver.rs keeps of an open message. The ledger of 01 is in specs/, what is proved of it in proofs/.
-// The types of frames, bursts and messages stand in for those of the crates frame, bursts, demod and record.
-pub enum Repair {
-    Unchanged,
-    Inserted(bool, usize),
-    Deleted(usize),
-    Flipped(usize),
-}
-
-pub enum SingleBit {
-    Absent,
-    Is(bool),
-}
-
-pub struct UplinkFrame {
-    pub rank: u8,
-    pub device_id: u32,
-    pub counter: u16,
-    pub payload: [u8; 12],
-    pub payload_len: u8,
-    pub bit: SingleBit,
-    pub downlink: bool,
-    pub control: bool,
-    pub auth: [u8; 5],
-    pub auth_len: u8,
-    pub crc_ok: bool,
-    pub repaired: Repair,
-}
+// DecodedFrame stands in for that of the crate demod; Reception, FrameSpan, FirstFrameEnd and SigfoxMessage for those of record.
+use frame::SingleBit;
+use frame::UplinkFrame;
 
 pub struct DecodedFrame {
     pub frame: UplinkFrame,
@@ -33,13 +9,6 @@ pub struct DecodedFrame {
     pub end: f64,
     pub rssi: f32,
     pub clock_error_ppm: i32,
-}
-
-pub struct Burst {
-    pub start: usize,
-    pub end: usize,
-    pub peak_dbm: f32,
-    pub floor_dbm: f32,
 }
 
 pub struct Reception {
