@@ -182,7 +182,7 @@ module _ {K : Kind} where
       due-scan l w t r =
           let k = scanned l in
           let bs = d .bursts (l .held) in
-          let pr = proper rate (length (l .held)) 0 (d .bursts (l .held)) (fair .row (l .held)) in
+          let pr = proper rate (length (l .held)) 0 (d .bursts (l .held)) (fair .row (l .held) (w .small)) in
           let lo = scanned-loose rate (back + half rate) l (loose rate back l w) in
           let i = bursts-run k bs pr lo t (scanned-run l r) in
           let e = takeEach rate d (tail rate) k bs in

@@ -4,6 +4,7 @@ pub mod Spans
 pub mod Spacing
 pub mod Pigeon
 pub mod Bursts
+pub mod ScanRows
 pub mod Sizes
 pub mod Entries
 pub mod OpenKinds

@@ -105,8 +105,8 @@ module _ {K : Kind} where
     flush-through : (l : Ledger K) → InOrder rate l → Through (Room 64 163 35) rate d l flush
     unfolding startCall
     flush-through l o =
-        bursts-flushed (startCall l) (d .bursts (l .held)) (proper rate (length (l .held)) 0 (d .bursts (l .held)) (fair .row (l .held)))
-        (record { small = o .room; below = o .below; apart = o .apart; recent = o .recent }) (omega (arith, few rate (length (l .held)) (d .bursts (l .held)) (o .room) (fair .row (l .held)))) (omega (arith, o .waiting))
+        bursts-flushed (startCall l) (d .bursts (l .held)) (proper rate (length (l .held)) 0 (d .bursts (l .held)) (fair .row (l .held) (o .room)))
+        (record { small = o .room; below = o .below; apart = o .apart; recent = o .recent }) (omega (arith, few rate (length (l .held)) (d .bursts (l .held)) (o .room) (fair .row (l .held) (o .room)))) (omega (arith, o .waiting))
 
     -- ---- startsFrom a given state
 
@@ -170,7 +170,7 @@ module _ {K : Kind} where
         let z = scan-still rate d 0 k in
         let w = loose rate rate l (o .placed) in
         let e = takeEach rate d 0 k (d .bursts (l .held)) in
-        let y = each-loose rate d (rate + half rate) 0 k (d .bursts (l .held)) (proper rate (length (l .held)) 0 (d .bursts (l .held)) (fair .row (l .held))) (record { small = w .small; below = w .below; apart = w .apart; recent = w .recent }) in
+        let y = each-loose rate d (rate + half rate) 0 k (d .bursts (l .held)) (proper rate (length (l .held)) 0 (d .bursts (l .held)) (fair .row (l .held) (w .small))) (record { small = w .small; below = w .below; apart = w .apart; recent = w .recent }) in
         let g = placed rate rate (forget rate e) (omega arith) (forget-loose rate (rate + half rate) e y) in
         record {
           placed = record { small = g .small; below = g .below; apart = g .apart; recent = g .recent };

@@ -101,7 +101,7 @@ worked-out = (refl, refl)
 pub demo-fair : Fair 200 demo
 demo-fair =
     record {
-      row = λ held. fits held (leb 490 (length held)) (leb-true 490 (length held));
+      row = λ held small. fits held (leb 490 (length held)) (leb-true 490 (length held));
       payload = λ held t b x e. two-bytes x e;
       auth = λ held t b x e. four-bytes x e;
     }

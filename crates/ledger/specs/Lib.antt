@@ -3,6 +3,7 @@ pub mod Types
 pub mod Frames
 pub mod Merge
 pub mod Ledger
+pub mod Scanning
 pub mod Causes
 pub mod Demand3
 pub mod History

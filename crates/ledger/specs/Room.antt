@@ -18,7 +18,7 @@ use Rattle.ledger.specs.Causes.{mostStarts, mostWaiting, waitingAtPush, 
 
 -- 40 ms: quiet samples that a burst bridges
 abbrev pub gap : ℕ → ℕ
-gap rate = (4 * rate + 50) / 100
+gap rate = (2 * rate + 25) / 50
 
 -- bursts of a list of n samples, from the place p on: each lasts 0.3 s from its first to its last sample, and more than the gap lies between two
 abbrev pub Row : ℕ → ℕ → ℕ → List Burst → Type 0
@@ -27,7 +27,7 @@ Row rate n p (b ∷ bs) =
     (p ≤ b .start) × (10 * b .start + 3 * rate + 10 ≤ 10 * b .end) × (b .end ≤ n) × Row rate n (b .end + gap rate + 1) bs
 
 pub record Fair (rate : ℕ) (d : Demod) : Type 0 where
-  pub row : (held : List Float) → Row rate (length held) 0 (d .bursts held)
+  pub row : (held : List Float) → length held ≤ capacity rate → Row rate (length held) 0 (d .bursts held)
   pub payload : (held : List Float) (t : Float) (b : Burst) (x : DecodedFrame) → d .decode held t b ≡ some x → x .frame .«payload_len» ≤ mostPayload
   pub auth : (held : List Float) (t : Float) (b : Burst) (x : DecodedFrame) → d .decode held t b ≡ some x → x .frame .«auth_len» ≤ mostAuth
 
