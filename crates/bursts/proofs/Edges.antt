@@ -1,11 +1,11 @@
 -- 01's edges P5, P6 and P7, over the definitions. Assumes nothing.
-use mathlib.Core.Path.{_≡_, refl, sym, ap, _∙_}
-use mathlib.Core.Bool.{Bool, true, false}
+use mathlib.Core.Path.{_≡_, refl, ap, _∙_}
+use mathlib.Core.Bool.{true, false}
 use mathlib.Core.List.{List, [], _∷_, _++_}
 use Prim.Native.Nat.{ℕ, zero, suc, _+_, _-_, _≤_, _<_}
 use native.Mathlib.Omega.{arith}
 use lib.ListN.{replicate}
-use lib.Ieee.{Float, binary64, round, neg, add, mul, div, lt, le, eq, ofInt, ofBits, toUnsigned}
+use lib.Ieee.{Float, round, neg, add, mul, div, lt, le, eq, ofInt, ofBits, toUnsigned}
 use borrow.Author.Tests.{lt-ltb, le-ltb}
 use Rattle.floats.specs.Floor.{floor, roundHalfUp}
 use Rattle.floats.specs.Number.{num, near}

@@ -1,21 +1,18 @@
 -- The answers of `noise_floor`. Assumes nothing.
-use mathlib.Core.Path.{_≡_, refl, sym, ap, _∙_}
-use mathlib.Core.Bool.{Bool, true, false, cond}
+use mathlib.Core.Path.{_≡_, refl}
+use mathlib.Core.Bool.{true, false}
 use mathlib.Core.List.{List, [], _∷_}
-use Prim.Native.Nat.{ℕ, zero, suc, _-_, _≤_, _<_}
+use Prim.Native.Nat.{ℕ, _-_, _≤_, _<_}
 use native.Mathlib.Omega.{arith}
-use lib.Dec.{ltb}
-use lib.ListN.{length, getD}
-use lib.Ieee.{Float, nan, binary32, lt}
+use lib.ListN.{length}
+use lib.Ieee.{Float, binary32}
 use borrow.Author.Tests.{lt-ltb, le-ltb}
 use Rattle.order.specs.Order.{kth}
-use Rattle.rates.specs.Numbers.{floorQuantile}
 use Rattle.rates.specs.Rates.{fifthOf}
 use Rattle.bursts.specs.Numbers.{silence}
 use Rattle.limits.specs.Limits.{short, long, badSample, mostSamples}
 use Rattle.limits.specs.Samples.{allDbm}
 use Rattle.bursts.specs.Levels.{quantile, noiseFloor, floorAnswer}
-use Rattle.bursts.specs.declared.Level.{Level}
 use Rattle.bursts.specs.declared.Level.the-variants.{Refused, Dbm}
 
 pub floor-none : (l : List Float) → length l ≡ 0 → noiseFloor l ≡ silence

@@ -1,6 +1,6 @@
 -- The bursts of a list lie in a row: each inside the samples and long enough, the next one more than the gap after it, and from a burst's end on the
 -- loop finds the rest of the list. Assumes nothing.
-use mathlib.Core.Path.{_≡_, refl, sym, ap, _∙_, subst}
+use mathlib.Core.Path.{_≡_, refl, sym, ap, _∙_}
 use mathlib.Core.Bool.{Bool, true, false, cond}
 use mathlib.Core.List.{List, [], _∷_}
 use Prim.Native.Nat.{ℕ, suc, _+_, _-_, _≤_, _<_}
@@ -10,12 +10,11 @@ use lib.Dec.{T, leb, ltb}
 use lib.ListN.{length, drop, length-drop}
 use lib.Seq.{drop-drop}
 use lib.Ieee.{Float}
-use borrow.Author.Tests.{ltb-true, ltb-false, le-leb}
+use borrow.Author.Tests.{ltb-true, le-leb}
 use Rattle.bursts.specs.Bursts.{Cluster, cluster, Open, none, since, loud, clusters, longEnough, threshold, gapSamples, burstOf, burstsIn, burstsOf, firstFrom}
 use Rattle.bursts.specs.Found.{burstsFrom}
 use Rattle.bursts.specs.declared.BurstOptions.{BurstOptions}
 use Rattle.bursts.specs.declared.Burst.{Burst}
-use Rattle.bursts.specs.declared.NextBurst.{NextBurst}
 use Rattle.bursts.specs.declared.NextBurst.the-variants.{Refused, Nothing, Found}
 use Rattle.bursts.proofs.ClusterLaws.{left}
 use Rattle.bursts.proofs.SearchLaws.{from-start}

@@ -1,8 +1,8 @@
 -- The search for the first burst at or after an index, cluster by cluster, and its refusals. Assumes nothing.
 use mathlib.Core.Path.{_≡_, refl, sym, ap, _∙_}
 use mathlib.Core.Bool.{Bool, true, false, cond}
-use mathlib.Core.List.{List, [], _∷_}
-use Prim.Native.Nat.{ℕ, suc, _+_, _*_, _≤_, _<_}
+use mathlib.Core.List.{List, _∷_}
+use Prim.Native.Nat.{ℕ, _+_, _*_, _≤_, _<_}
 use native.Mathlib.Numerals.{add-one}
 use native.Mathlib.Omega.{arith}
 use lib.ListN.{length}
@@ -10,7 +10,7 @@ use lib.Ieee.{Float}
 use borrow.Author.Tests.{le-leb, lt-leb, lt-ltb, le-ltb}
 use Rattle.limits.specs.Limits.{badRate, long, badSample, badNumber, bufferS}
 use Rattle.limits.specs.Samples.{rateOk, allDbm}
-use Rattle.bursts.specs.Bursts.{Cluster, cluster, none, since, clusters, longEnough, threshold, gapSamples, burstOf, burstsIn, burstsOf, firstFrom, optionsOk, burstAnswer}
+use Rattle.bursts.specs.Bursts.{Cluster, cluster, none, longEnough, threshold, gapSamples, burstOf, burstsIn, burstsOf, firstFrom, optionsOk, burstAnswer}
 use Rattle.bursts.specs.Found.{burstsFrom, FirstLoud, LastLoud}
 use Rattle.bursts.specs.declared.BurstOptions.{BurstOptions}
 use Rattle.bursts.specs.declared.Burst.{Burst}

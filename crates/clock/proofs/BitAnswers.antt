@@ -1,9 +1,9 @@
 -- The answers of `burst_bits`, and what it leaves. Assumes nothing.
-use mathlib.Core.Path.{_≡_, refl, sym, ap, _∙_, subst}
-use mathlib.Core.Bool.{Bool, true, false, cond, _||_}
+use mathlib.Core.Path.{_≡_, refl, sym, _∙_}
+use mathlib.Core.Bool.{Bool, true, false, _||_}
 use mathlib.Core.List.{List}
 use Prim.Native.Nat.{ℕ, _*_, _≤_, _<_}
-use lib.Dec.{T, ltb}
+use lib.Dec.{ltb}
 use lib.ListN.{length}
 use lib.Ieee.{Float}
 use borrow.Author.Tests.{lt-ltb, le-ltb, ltb-false}
@@ -11,7 +11,7 @@ use Rattle.limits.specs.Limits.{badRate, short, long, badSample, bufferS, mostB
 use Rattle.limits.specs.Samples.{rateOk, allDbm}
 use Rattle.clock.specs.Bits.{Outcome, none, some, outcome, told, handed, bitsAnswer, bitsLeft, Free}
 use Rattle.clock.specs.declared.BurstBits.{BurstBits}
-use Rattle.clock.specs.declared.BurstBits.the-variants.{Refused, Nothing, Bits}
+use Rattle.clock.specs.declared.BurstBits.the-variants.{Refused}
 use Rattle.dips.proofs.DipLaws.{or-left, or-right}
 
 -- no outcome is a refusal

@@ -1,11 +1,10 @@
 -- The outcomes of `burst_bits`, case by case. Assumes nothing.
-use mathlib.Core.Path.{_≡_, refl, sym, ap, _∙_, subst}
-use mathlib.Core.Bool.{Bool, true, false, cond}
+use mathlib.Core.Path.{_≡_, refl, sym, ap, _∙_}
+use mathlib.Core.Bool.{true, false}
 use mathlib.Core.List.{List, [], _∷_, _++_, map}
-use Prim.Native.Nat.{ℕ, zero, suc, _+_, _-_, _*_, _≤_, _<_, min, max}
+use Prim.Native.Nat.{ℕ, _+_, _-_, _≤_, _<_, min, max}
 use lib.IntN.{ℤ}
 use native.Mathlib.Omega.{arith}
-use lib.Dec.{ltb}
 use lib.ListN.{length, take, drop, getD, length-take, length-map}
 use lib.Seq.{take-at, getD-take}
 use lib.Ieee.{Float, nan, toUnsigned}
@@ -15,10 +14,9 @@ use mir.Val.{SFits}
 use Rattle.floats.specs.Number.{num}
 use Rattle.floats.proofs.Saturating.{signed-fits}
 use Rattle.clock.specs.declared.Clock.{Clock}
-use Rattle.clock.specs.declared.Fit.{Fit}
 use Rattle.clock.specs.declared.Fit.the-variants.{Astray, Fitted}
 use Rattle.clock.specs.declared.BurstBits.{BurstBits}
-use Rattle.clock.specs.declared.BurstBits.the-variants.{Refused, Nothing, Bits}
+use Rattle.clock.specs.declared.BurstBits.the-variants.{Nothing, Bits}
 use Rattle.limits.specs.Limits.{mostBits}
 use Rattle.rates.specs.Numbers.{levelQuantile}
 use Rattle.rates.specs.Rates.{nominalOf}
@@ -26,7 +24,7 @@ use Rattle.bursts.specs.Levels.{quantile}
 use Rattle.clock.specs.Numbers.{enoughDips, enoughPoints}
 use Rattle.dips.specs.Dips.{dipsOf, Written}
 use Rattle.clock.specs.Clock.{anchor, lost, place, startClock, fitFrom, pointsFrom}
-use Rattle.clock.specs.Bits.{endIndex, bitsFrom, allBits, ppmOf, Outcome, none, some, ended, clocked, fromDips, outcome, told, handed}
+use Rattle.clock.specs.Bits.{endIndex, allBits, ppmOf, Outcome, none, some, ended, clocked, fromDips, outcome, told, handed}
 use Rattle.clock.specs.Walk.{walked, places, Rising, Ready}
 use Rattle.clock.specs.Tracked.{Tracked}
 use Rattle.clock.proofs.WalkLaws.{walk-is, rising-first, length-bits, take-bits}

@@ -1,14 +1,14 @@
 -- Laws of the bit clock, step by step. Assumes nothing.
-use mathlib.Core.Path.{_≡_, refl, sym, ap, _∙_}
-use mathlib.Core.Bool.{Bool, true, false, cond, _&&_, _||_}
-use mathlib.Core.List.{List, [], _∷_}
+use mathlib.Core.Path.{_≡_, refl, sym}
+use mathlib.Core.Bool.{Bool, true, false}
+use mathlib.Core.List.{List}
 use mathlib.Core.Logic.{⊎-elim}
-use Prim.Native.Nat.{ℕ, zero, suc, _+_, _-_, _≤_, _<_, min}
+use Prim.Native.Nat.{ℕ, _+_, _-_, _≤_, _<_, min}
 use native.Mathlib.Nat.{min-eq-left, min-eq-right}
 use native.Mathlib.Numerals.{add-one}
 use native.Mathlib.Omega.{arith}
-use lib.Dec.{leb, ltb}
-use lib.ListN.{length, take, drop, getD, length-take}
+use lib.Dec.{ltb}
+use lib.ListN.{length, take, getD, length-take}
 use lib.Seq.{slice, slice-cons, slice-empty, take-take, take-all}
 use lib.Ieee.{Float, nan, binary64, add, lt, ne, isNan}
 use borrow.Author.Tests.{ltb-false, le-leb, lt-leb}
@@ -16,7 +16,6 @@ use Rattle.floats.specs.Number.{num}
 use Rattle.floats.specs.Trig.{sine, cosine}
 use Rattle.floats.proofs.Floors.{nan-is, no-nan-is}
 use Rattle.clock.specs.declared.Clock.{Clock}
-use Rattle.clock.specs.declared.Step.{Step}
 use Rattle.clock.specs.declared.Step.the-variants.{Lost, Skipped, Joined}
 use Rattle.clock.specs.Numbers.{anchors, refits, farthestBit}
 use Rattle.clock.specs.Clock.{angle, sineSum, cosineSum, turned, anchor, sizeOf, lost, place, indexAt, skips, summed, det, refitted, refit, step}

@@ -1,12 +1,12 @@
 -- Laws of the clock over all dips: what a point changes, and the loop that keeps the points' places. Assumes nothing.
 use mathlib.Core.Path.{_≡_, refl, sym, ap, _∙_, subst}
-use mathlib.Core.Bool.{Bool, true, false, cond, _&&_, _||_, true≢false}
-use mathlib.Core.List.{List, [], _∷_, _++_, map, append-assoc, append-nil}
+use mathlib.Core.Bool.{Bool, true, false, cond, _&&_, _||_}
+use mathlib.Core.List.{List, _∷_, _++_, map, append-assoc, append-nil}
 use Prim.Native.Nat.{ℕ, suc, _+_, _-_, _*_, _≤_, _<_}
 use native.Mathlib.Numerals.{add-one}
 use native.Mathlib.Omega.{arith}
-use lib.Dec.{leb, ltb, eqb}
-use lib.ListN.{length, take, drop, set, getD, length-set}
+use lib.Dec.{leb, ltb}
+use lib.ListN.{length, take, set, getD, length-set}
 use lib.Seq.{slice, slice-cons, slice-empty, take-suc-set, take-set-lt, drop-set-lt}
 use lib.Ieee.{Float, nan, binary64, add, sub, mul, lt}
 use borrow.Author.Tests.{leb-false, lt-ltb, eq-eqb, ne-eqb}
@@ -15,7 +15,6 @@ use Rattle.floats.specs.Trig.{magnitude}
 use Rattle.clock.specs.declared.Clock.{Clock}
 use Rattle.clock.specs.declared.Step.{Step}
 use Rattle.clock.specs.declared.Step.the-variants.{Lost, Skipped, Joined}
-use Rattle.clock.specs.declared.Fit.{Fit}
 use Rattle.clock.specs.declared.Fit.the-variants.{Astray, Fitted}
 use Rattle.clock.specs.Clock.{lost, place, sizeOf, indexAt, skips, summed, det, refitted, refit, step, astray, after, added, fitFrom, pointsFrom}
 use Rattle.clock.specs.Numbers.{offGrid, refits, farthestBit}

@@ -1,20 +1,18 @@
 -- The points of a fitted clock: how many they are, their first, that they rise, and that their places are small. Assumes nothing.
 use mathlib.Core.Path.{_≡_, refl, sym, ap, _∙_, subst}
-use mathlib.Core.Bool.{Bool, true, false, cond}
+use mathlib.Core.Bool.{cond}
 use mathlib.Core.List.{List, [], _∷_, map}
 use mathlib.Core.Logic.{⊎-elim}
-use Prim.Native.Nat.{ℕ, zero, suc, _+_, _*_, _^_, _≤_, _<_}
+use Prim.Native.Nat.{ℕ, suc, _+_, _*_, _^_, _≤_, _<_}
 use native.Mathlib.Omega.{arith}
 use lib.Dec.{le→leb}
-use lib.IntN.{pos}
 use lib.ListN.{length, getD}
-use lib.Ieee.{Float, binary64, toUnsigned, ofInt, inFloat}
+use lib.Ieee.{Float, binary64, toUnsigned, inFloat}
 use lib.Ieee.Back.{unsigned-back}
 use Rattle.floats.specs.Number.{num}
 use Rattle.clock.specs.declared.Clock.{Clock}
 use Rattle.clock.specs.declared.Step.{Step}
 use Rattle.clock.specs.declared.Step.the-variants.{Lost, Skipped, Joined}
-use Rattle.clock.specs.declared.Fit.{Fit}
 use Rattle.clock.specs.declared.Fit.the-variants.{Astray, Fitted}
 use Rattle.clock.specs.Numbers.{farthestBit}
 use Rattle.clock.specs.Clock.{step, astray, after, added, fitFrom, pointsFrom}

@@ -1,17 +1,17 @@
 -- The bits between points that rise: walked point by point, they are those of the set. Assumes nothing.
-use mathlib.Core.Path.{_≡_, refl, sym, ap, _∙_, subst}
+use mathlib.Core.Path.{_≡_, refl, sym, ap, _∙_}
 use mathlib.Core.Bool.{Bool, true, false, cond, _||_}
-use mathlib.Core.List.{List, [], _∷_, _++_, map, append-assoc, append-nil}
+use mathlib.Core.List.{List, [], _∷_, _++_, append-assoc, append-nil}
 use Prim.Native.Nat.{ℕ, zero, suc, _+_, _-_, _≤_, _<_, min}
 use mathlib.Core.Logic.{⊎-elim}
 use native.Mathlib.Nat.{eq-or-lt-of-le}
 use native.Mathlib.Numerals.{add-one}
 use native.Mathlib.Omega.{arith}
 use lib.Dec.{eqb}
-use lib.ListN.{length, take, drop, set, getD, length-set, length-take, take-append-drop, drop-of-length-le}
-use lib.Seq.{drop-drop, take-suc-set, drop-set-lt, length-take-le}
+use lib.ListN.{length, take, drop, set, getD, length-set, take-append-drop}
+use lib.Seq.{drop-drop, take-suc-set, drop-set-lt}
 use lib.Ieee.{Float, nan, toUnsigned}
-use borrow.Author.Tests.{eqb-true, eqb-false, eq-eqb, ne-eqb}
+use borrow.Author.Tests.{eqb-true, eqb-false, ne-eqb}
 use Rattle.clock.specs.Bits.{onGrid, bitsFrom}
 use Rattle.clock.specs.Walk.{heads, walked, places, Rising, flat, rise}
 

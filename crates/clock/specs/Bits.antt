@@ -2,9 +2,9 @@
 use Prim.Native.Nat.{ℕ, zero, suc, _+_, _-_, _*_, max, min}
 use mathlib.Core.Path.{_≡_}
 use lib.IntN.{ℤ}
-use mathlib.Core.Bool.{Bool, true, false, cond, not, _&&_, _||_}
+use mathlib.Core.Bool.{Bool, true, false, cond, _||_}
 use mathlib.Core.List.{List, [], _∷_, _++_}
-use lib.Dec.{T, leb, ltb, eqb}
+use lib.Dec.{T, ltb, eqb}
 use lib.ListN.{length, take, drop, getD}
 use lib.Ieee.{Float, nan, binary64, sub, mul, div, lt, toSigned}
 use Rattle.floats.specs.Floor.{floor, roundHalfUp}

@@ -1,6 +1,6 @@
 -- The bit clock of `burst_bits` (demod.rs): each dip is assigned to a bit index with the current estimate, then period and phase are fitted anew by least squares.
 -- The Rust sums over all points at each fit; a sum from the left is its last value and one term more, so the sums are kept. Assumes nothing.
-use Prim.Native.Nat.{ℕ, zero, suc, _+_, _-_}
+use Prim.Native.Nat.{ℕ, _+_, _-_}
 use mathlib.Core.Bool.{Bool, true, false, cond, _&&_, _||_}
 use mathlib.Core.List.{List, [], _∷_}
 use lib.Dec.{leb, ltb, eqb}

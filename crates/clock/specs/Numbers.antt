@@ -1,5 +1,5 @@
 -- The numbers of `burst_bits` (demod.rs) that don't stand in `rates`, each by one name; the code has one name for each too. Assumes nothing.
-use Prim.Native.Nat.{ℕ, _*_, _^_}
+use Prim.Native.Nat.{ℕ, _^_}
 use lib.Ieee.{Float}
 use Rattle.floats.specs.Number.{num, near}
 

@@ -1,8 +1,7 @@
 -- What `fit_clock` promises: the clock after the dips, and where it is fitted the places of its points in the front of the slice.
-use Prim.Native.Nat.{ℕ, _≤_, _<_}
 use mathlib.Core.Path.{_≡_}
 use mathlib.Core.List.{List, map}
-use lib.ListN.{length, take}
+use lib.ListN.{take}
 use lib.Ieee.{Float}
 use Rattle.floats.specs.Number.{num}
 use Rattle.clock.specs.Clock.{fitFrom, pointsFrom}

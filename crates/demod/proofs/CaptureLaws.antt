@@ -1,10 +1,9 @@
 -- The loop over the bursts of a capture, which writes a record for each frame. Assumes nothing.
 use mathlib.Core.Path.{_≡_, refl, sym, ap, _∙_}
-use mathlib.Core.Bool.{true}
 use mathlib.Core.List.{List, [], _∷_, _++_, append-assoc, append-nil}
 use Prim.Native.Nat.{ℕ, _+_, _*_, _≤_, _<_}
 use native.Mathlib.Omega.{arith}
-use lib.ListN.{length, take, drop, length-append, length-take, length-drop, take-append-drop}
+use lib.ListN.{length, take, drop, length-append, length-take, take-append-drop}
 use lib.Seq.{sets, sets-eq, length-sets, take-at, drop-at, drop-drop}
 use lib.Ieee.{Float}
 use Rattle.limits.specs.Limits.{lowestRate, highestRate, bufferS, recordSize}

@@ -1,7 +1,7 @@
 -- From the bits of a burst to its frame: they are bits, and the first 1,024 decode as all do. Assumes nothing.
 use mathlib.Core.Path.{_≡_, refl, sym, ap, _∙_, subst}
 use mathlib.Core.Bool.{Bool, true, false, cond, _&&_}
-use mathlib.Core.List.{List, [], _∷_, _++_, map}
+use mathlib.Core.List.{List, [], _∷_, map}
 use Prim.Native.Nat.{ℕ, zero, suc, _+_, _-_, _≤_, min, max}
 use lib.IntN.{ℤ}
 use native.Mathlib.Omega.{arith}
@@ -30,7 +30,6 @@ use Rattle.clock.specs.Bits.{endIndex, onGrid, bitsFrom, allBits, ppmOf, Outcom
 use Rattle.clock.specs.declared.Clock.{Clock}
 use Rattle.clock.specs.declared.Fit.{Fit}
 use Rattle.clock.specs.declared.Fit.the-variants.{Astray, Fitted}
-use Rattle.clock.specs.declared.BurstBits.{BurstBits}
 use Rattle.clock.specs.declared.BurstBits.the-variants as bits
 use Rattle.clock.proofs.BitLaws.{ppm-fits}
 use Rattle.demod.specs.Decode.{without, fromOf, toOf, segmentOf, timeAt, withBurst, heardIn, decodeBurst}

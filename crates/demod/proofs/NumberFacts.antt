@@ -1,12 +1,12 @@
 -- No NaN stands in what a burst of valid samples gives: its peak, and its times where the first sample's time is in range. Assumes nothing.
-use mathlib.Core.Path.{_≡_, refl, sym, ap, _∙_, subst}
+use mathlib.Core.Path.{_≡_, sym, subst}
 use mathlib.Core.Bool.{Bool, Bool·beq, true, false, cond, not, _&&_, true≢false}
 use mathlib.Core.List.{List, [], _∷_}
 use Prim.Native.Nat.{ℕ, zero, suc, _+_, _-_, _*_, _^_, _≤_}
 use native.Mathlib.Nat.{le-trans}
 use native.Mathlib.Omega.{arith}
 use lib.Dec.{T, ltb, lit≤}
-use lib.ListN.{length, take, drop}
+use lib.ListN.{take, drop}
 use lib.Ieee.{Float, Format, nan, inf, fin, prec, low, emax, up, down, odd, units, round, sum, add, div, neg, le, lt, eq, isNan, ofInt, binary64}
 use Rattle.floats.specs.Number.{num}
 use Rattle.floats.specs.Fold.{maxOf, maxFrom}
@@ -15,7 +15,7 @@ use Rattle.limits.specs.Samples.{isDbm, allDbm}
 use Rattle.limits.proofs.Samples.{and-left, and-right, number, all-take, all-drop}
 use Rattle.rates.proofs.Near.{div-at, int-value}
 use Rattle.bursts.specs.Numbers.{lowestPeak}
-use Rattle.bursts.specs.Bursts.{Cluster, cluster, longEnough, threshold, gapSamples, none, clusters, burstOf, burstsIn, burstsOf}
+use Rattle.bursts.specs.Bursts.{Cluster, longEnough, threshold, gapSamples, none, clusters, burstOf, burstsIn, burstsOf}
 use Rattle.bursts.specs.declared.BurstOptions.{BurstOptions}
 use Rattle.bursts.specs.declared.Burst.{Burst}
 use Rattle.demod.specs.Decode.{timeAt, timeOk}

@@ -17,7 +17,6 @@ use Rattle.bursts.specs.Bursts.{defaultOptions, burstsOf}
 use Rattle.bursts.specs.declared.Burst.{Burst}
 use Rattle.demod.specs.Decode.{timeOk, decodeBurst}
 use Rattle.demod.specs.declared.DecodedFrame.{DecodedFrame}
-use Rattle.demod.specs.declared.BurstFrame.{BurstFrame}
 use Rattle.demod.specs.declared.Floor.{Floor}
 use Rattle.demod.specs.declared.Floor.the-variants.{Measured, Given}
 use Rattle.demod.specs.declared.Captured.{Captured}

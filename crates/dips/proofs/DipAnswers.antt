@@ -1,11 +1,10 @@
 -- The answers of `find_dips`, and what it leaves. Assumes nothing.
-use mathlib.Core.Path.{_≡_, refl, sym, ap, _∙_}
-use mathlib.Core.Bool.{Bool, true, false, cond}
+use mathlib.Core.Path.{_≡_, refl, ap}
+use mathlib.Core.Bool.{true, false}
 use mathlib.Core.List.{List}
 use Prim.Native.Nat.{ℕ, _*_, _≤_, _<_}
-use lib.Dec.{ltb}
 use lib.ListN.{length}
-use lib.Ieee.{Float, ne, isNan}
+use lib.Ieee.{Float, ne}
 use borrow.Author.Tests.{lt-ltb, le-ltb}
 use Rattle.floats.proofs.Floors.{nan-is, no-nan-is}
 use Rattle.limits.specs.Limits.{badRate, short, long, badSample, badNumber, bufferS, scratch64}

@@ -1,11 +1,10 @@
 -- `bursts::last_loud` meets its contract. The invariant: the cluster is still open, and all samples after its last loud one were quiet. Assumes nothing.
 use borrow.Author.Needs.{needs}
-use mathlib.Core.Path.{_≡_, sym, subst, _∙_}
+use mathlib.Core.Path.{sym, subst, _∙_}
 use mathlib.Core.Logic.{⊎-elim}
-use Prim.Native.Nat.{ℕ, _+_, _-_, _≤_, _<_}
+use Prim.Native.Nat.{ℕ, _+_, _-_}
 use native.Mathlib.Omega.{arith}
 use lib.ListN.{length}
-use Rattle.bursts.specs.Bursts.{none, since}
 use Rattle.bursts.proofs.ClusterLaws.{left, OpenAt, open-first, open-loud, open-quiet, open-closed, open-end}
 use Rattle.bursts.proofs.last_loud.Statement.{statement}
 use Rattle.bursts.proofs.last_loud.Tie as tie

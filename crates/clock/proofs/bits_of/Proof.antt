@@ -2,11 +2,9 @@
 use mathlib.Core.Path.{subst}
 use Rattle.clock.specs.declared.Fit.{Fit}
 use Rattle.clock.specs.Tracked.{Tracked}
-use mathlib.Core.Path.{_≡_, refl, sym, ap, _∙_}
+use mathlib.Core.Path.{sym, ap, _∙_}
 use native.Mathlib.Omega.{arith}
-use mathlib.Core.List.{List}
-use Prim.Native.Nat.{ℕ}
-use lib.ListN.{length, take}
+use lib.ListN.{take}
 use Rattle.clock.specs.Bits.{Outcome, told, handed}
 use Rattle.clock.proofs.BitLaws.{tells-none, no-samples, samples-few, samples-clock, dips-room, lost-clock, kept-clock, kept-room, kept-ready}
 use borrow.Author.Needs.{needs}

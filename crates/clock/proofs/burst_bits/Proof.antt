@@ -1,6 +1,5 @@
 -- `clock::burst_bits` meets its contract. Assumes nothing.
-use mathlib.Core.Path.{_≡_, sym, _∙_}
-use native.Mathlib.Omega.{arith}
+use mathlib.Core.Path.{sym, _∙_}
 use borrow.Author.Tests.{not-true, not-false}
 use Rattle.limits.proofs.Samples.{rate-low, rate-high}
 use Rattle.clock.proofs.BitAnswers.{long-bits, long-scratch, bits-rate, bits-short, bits-long, bits-invalid, bits-done}

@@ -1,18 +1,15 @@
 -- `clock::clocked_bits` meets its contract. Assumes nothing.
 use mir.ValLaws.{toZ-ofZ}
 use Rattle.rates.specs.Rates.{nominalOf}
-use Rattle.clock.specs.Clock.{place}
 use Rattle.clock.proofs.BitLaws.{ppm-fits}
-use Prim.Native.Nat.{ℕ, max}
-use lib.Ieee.{Float}
+use Prim.Native.Nat.{max}
 use mathlib.Core.Path.{_≡_, refl, sym, ap, _∙_}
 use native.Mathlib.Omega.{arith}
-use lib.ListN.{length}
 use lib.IntN.{ℤ}
 use mir.Syntax.{w32}
 use mir.Val.{toZ, ofZ}
 use Rattle.clock.specs.Clock.{lost}
-use Rattle.clock.specs.Bits.{clocked, ppmOf}
+use Rattle.clock.specs.Bits.{ppmOf}
 use Rattle.clock.specs.Walk.{places}
 use Rattle.clock.proofs.BitLaws.{tells-none, clock-few, clock-lost, clock-bits}
 use borrow.Author.Needs.{needs}

@@ -1,9 +1,8 @@
 -- `clock::fit_clock` meets its contract. The invariant: the clock so far, over the dips left, ends as the whole does, and the places of its points stand in front. Assumes nothing.
 use borrow.Author.Needs.{needs}
-use mathlib.Core.Path.{_≡_, refl, sym, _∙_}
-use Prim.Native.Nat.{ℕ, _+_, _-_, _≤_, _<_}
+use mathlib.Core.Path.{sym, _∙_}
+use Prim.Native.Nat.{_-_, _≤_}
 use native.Mathlib.Omega.{arith}
-use lib.ListN.{length}
 use Rattle.clock.proofs.FitLaws.{joined-point, FitAt, fit-start, fit-end, fit-lost, fit-skipped, fit-joined}
 use Rattle.clock.proofs.fit_clock.Statement.{statement}
 use Rattle.clock.proofs.fit_clock.Tie as tie

@@ -1,5 +1,4 @@
 -- `clock::on_point` meets its contract. Assumes nothing.
-use native.Mathlib.Omega.{arith}
 use Rattle.clock.proofs.WalkLaws.{heads-here, heads-past}
 use borrow.Author.Needs.{needs}
 use Rattle.clock.proofs.on_point.Statement.{statement}

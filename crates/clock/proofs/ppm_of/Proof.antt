@@ -1,5 +1,5 @@
 -- `clock::ppm_of` meets its contract. Assumes nothing.
-use mathlib.Core.Path.{_≡_, refl, sym, ap, _∙_}
+use mathlib.Core.Path.{refl, ap, _∙_}
 use lib.IntN.{ℤ}
 use lib.Ieee.{toSigned}
 use mir.Syntax.{w32}

@@ -1,6 +1,5 @@
 -- `clock::refit_clock` meets its contract. Assumes nothing.
 use mathlib.Core.Path.{_≡_, sym, ap, _∙_}
-use native.Mathlib.Omega.{arith}
 use lib.Ieee.{Float, lt}
 use Rattle.floats.specs.Number.{num}
 use Rattle.floats.proofs.Trigs.{zero-is}

@@ -1,8 +1,7 @@
 -- `clock::track` meets its contract. Assumes nothing.
-use mathlib.Core.Path.{_≡_, sym, ap, _∙_}
+use mathlib.Core.Path.{sym, ap, _∙_}
 use native.Mathlib.Omega.{arith}
 use Rattle.clock.specs.declared.Clock.{Clock}
-use lib.Ieee.{Float}
 use Rattle.clock.specs.Clock.{lost, skips, summed, refit}
 use Rattle.clock.proofs.ClockLaws.{step-lost, step-skipped, step-joined}
 use borrow.Author.Needs.{needs}

@@ -1,6 +1,5 @@
 -- `dips::find_dips` meets its contract. Assumes nothing.
-use mathlib.Core.Path.{_≡_, sym, _∙_}
-use native.Mathlib.Omega.{arith}
+use mathlib.Core.Path.{sym, _∙_}
 use borrow.Author.Tests.{not-true, not-false}
 use Rattle.limits.proofs.Samples.{rate-low, rate-high}
 use Rattle.dips.proofs.DipAnswers.{dip-rate, dip-short, dip-long, dip-invalid, dip-nan, dip-done}
