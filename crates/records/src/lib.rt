@@ -1,6 +1,6 @@
 // Records as they are compared and printed: a zero's sign aside. docs/REPLAY.md has the formats.
 ghost use mathlib.Core.Path.{_≡_};
-ghost use Prim.Native.Nat.{_+_, _≤_};
+ghost use Prim.Native.Nat.{_+_, _*_, _≤_};
 ghost use lib.ListN.{length};
 ghost use Rattle.limits.specs.Limits.{recordSize};
 ghost use Rattle.record.specs.Same.{unsigned, unsignedAt, withoutSigns};
@@ -60,4 +60,28 @@ pub fn print_record(record: &mut [u8])
 {
     without_signs(record);
     replay::print_bytes(record, limits::RECORD);
+}
+
+// The line of one of the records in a buffer.
+fn print_line(events: &mut [u8], i: usize)
+    requires { ⌜ recordSize * i + recordSize ≤ length (now events) ⌝ }
+{
+    let from = limits::RECORD * i;
+    let to = from + limits::RECORD;
+    print_record(&mut events[from..to]);
+    replay::print_end();
+}
+
+// A line a record, as many as `count` says, of those that the buffer can hold.
+pub fn print_records(events: &mut [u8], count: usize) -> bool {
+    let most = events.len() / limits::RECORD;
+    let mut i: usize = 0;
+    while i < most {
+        if i == count {
+            return true;
+        }
+        print_line(events, i);
+        i += 1;
+    }
+    true
 }
