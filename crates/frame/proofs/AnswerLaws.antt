@@ -1,20 +1,20 @@
 -- Facts of every answer, with a frame or without: ranks, sizes, and where a repair lies. Assumes nothing.
 use mathlib.Core.Path.{_≡_, refl, sym, ap, _∙_, subst}
 use mathlib.Core.Bool.{Bool, true, false, cond}
-use mathlib.Core.List.{List, [], _∷_, map}
-use Prim.Native.Nat.{ℕ, zero, suc, _+_, _-_, _*_, _≤_, _<_}
+use mathlib.Core.List.{List, map}
+use Prim.Native.Nat.{ℕ, zero, suc, _+_, _-_, _*_, _≤_}
 use native.Mathlib.Omega.{arith}
 use lib.Dec.{leb, ltb}
 use lib.ListN.{length, take, drop, replicate, length-append, length-replicate}
-use borrow.Author.Tests.{lt-ltb, ltb-true, leb-true, leb-false}
+use borrow.Author.Tests.{lt-ltb, ltb-true, leb-true}
 use Rattle.limits.specs.Limits.{mostBits, long, badNumber}
 use Rattle.coding.specs.Bits.{odd, value, areBits}
 use Rattle.coding.specs.Convolution.{fresh, deconvolved}
 use Rattle.coding.specs.Answers.{highestRank}
 use Rattle.frame.specs.Kinds.{syncSize, kinds, kindOf}
-use Rattle.frame.specs.Sizes.{headerSize, mostPayload, mostAuth, mostBytes, payloadSize, authSize, bodyBytes}
+use Rattle.frame.specs.Sizes.{headerSize, mostPayload, mostAuth, payloadSize, authSize, bodyBytes}
 use Rattle.frame.specs.Fields.{toBytes, li, payloadOf, authOf, padded, frameFrom}
-use Rattle.frame.specs.Repairs.{repaired, repairs, firstOf}
+use Rattle.frame.specs.Repairs.{repaired}
 use Rattle.frame.specs.Decode.{withoutFrame, found, nothing, refused, parseBody, passes, firstRepair, decodeBody, decideAt, searchFrom, starts, firstStart, decodeUplink, uplinkAnswer}
 use Rattle.frame.specs.Splices.{placed}
 use Rattle.frame.specs.declared.kinds.FrameKind.{FrameKind}
@@ -86,7 +86,7 @@ module _ (kind : FrameKind) (hr : kind .rank ≤ highestRank) (hc : kind .class 
             auth-len = auth-most (kind .class) (li x) small;
             payload = length-padded mostPayload (payloadOf k x) (omega (arith, length-part x headerSize k, payload-most (kind .class) (li x) hc));
             auth = length-padded mostAuth (authOf k m x) (omega (arith, length-part x (headerSize + k) m, auth-most (kind .class) (li x) small));
-            place = p
+            place = p;
           }
 
   decode-ok : (l : List Bool) → AnswerOk (decodeBody kind l)

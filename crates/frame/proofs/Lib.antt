@@ -10,3 +10,4 @@ pub mod PrefixLaws
 pub mod SearchLaws
 pub mod HeaderLaws
 pub mod AnswerLaws
+pub mod ControlLaws

@@ -24,6 +24,7 @@ use splices::flip;
 use splices::insert;
 use splices::splice_of;
 
+pub mod control; // decode_control
 pub mod header; // uplink_header
 pub mod kinds; // frame types
 pub mod bodies; // plain bytes of a body and their fields
