@@ -1,0 +1,119 @@
+-- `frequency::FrequencyTracker::frame1` meets its contract. Assumes nothing.
+use Rattle.frequency.proofs.Framing.{free-of, free-again, blank, three, first-refused, first-told, one-is, mid-is}
+use Rattle.frequency.specs.Order.{causeFrame}
+use Rattle.frequency.specs.Calls.{asFirst, heldReadings}
+use Rattle.tuning.specs.Ranges.{spansOk}
+use lib.ListN.{length, getD}
+use mathlib.Core.List.{[], _∷_}
+use mathlib.Core.Path.{_≡_, refl, sym, ap, _∙_}
+use borrow.Author.Tests.{not-true, not-false}
+use borrow.Author.Needs.{needs}
+use Rattle.frequency.proofs.FrequencyTracker.frame1.Statement.{statement}
+use Rattle.frequency.proofs.FrequencyTracker.frame1.Tie as tie
+
+-- the array has three places
+sized : (s : tie.Start) → length (s .args .t2) ≡ 3
+sized s = search needs
+
+array-copy-out-a : tie.Need-array-copy-out-a
+array-copy-out-a c = search needs
+
+array-copy-out-b : tie.Need-array-copy-out-b
+array-copy-out-b c = search needs
+
+array-copy-out-c : tie.Need-array-copy-out-c
+array-copy-out-c c = search needs
+
+spans-ok-requires : tie.Need-spans-ok-requires
+spans-ok-requires c κs = search needs
+
+cause-frame-requires : tie.Need-cause-frame-requires
+cause-frame-requires c κs = search needs
+
+returns : tie.Need-returns
+returns c =
+    let a = c .before .before .before .before .before .before .before .before .before .before .args in
+    let n = sized (c .before .before .before .before .before .before .before .before .before .before) in
+    let e = three (a .t2) blank n in
+    let k = c .before .cause-frame .ensures ∙ ap (causeFrame (a .self) (a .at .now) (a .lo .now) (a .hz .now) (length (a .out .now))) (c .before .before .spans-ok .ensures ∙ ap spansOk (sym e)) in
+    record { answer = first-refused (a .self) (a .at .now) (a .lo .now) (a .hz .now) (length (a .out .now)) (a .t2) (c .before .cause-frame .result) k (a .downlink) (c .if1 .taken); same-scratch = λ x. refl }
+
+of-rank-requires : tie.Need-of-rank-requires
+of-rank-requires c κs = let a = c .before .before .before .before .before .before .before .before .before .before .before .args in free-of (a .self) (a .at .now) (a .lo .now) (a .hz .now) (a .out .now) (c .before .before .before .spans-ok .result) (sym (c .before .before .cause-frame .ensures) ∙ c .before .if1 .left)
+
+direct-hz-requires : tie.Need-direct-hz-requires
+direct-hz-requires c κs = search needs
+
+first-answer-requires : tie.Need-first-answer-requires
+first-answer-requires c κs = search needs
+
+same-length : tie.Need-same-length
+same-length c = search needs
+
+returns-2 : tie.Need-returns-2
+returns-2 c =
+    let a = c .before .before .before .before .before .before .before .before .before .before .before .before .before .before .before .before .before .args in
+    let n = sized (c .before .before .before .before .before .before .before .before .before .before .before .before .before .before .before .before .before) in
+    let e = three (a .t2) blank n in
+    let k = c .before .before .before .before .before .before .before .before .cause-frame .ensures ∙ ap (causeFrame (a .self) (a .at .now) (a .lo .now) (a .hz .now) (length (a .out .now))) (c .before .before .before .before .before .before .before .before .before .spans-ok .ensures ∙ ap spansOk (sym e)) in
+    record {
+      answer = c .first-answer .ensures
+          ∙ ap asFirst (one-is (a .self .rate) (heldReadings (a .self) (a .at .now) (a .lo .now) (a .hz .now)) (a .t2) (getD (a .t2) 0 blank ∷ getD (a .t2) 1 blank ∷ getD (a .t2) 2 blank ∷ []) e (a .downlink) (c .before .before .before .before .before .of-rank .result) (c .before .before .direct-hz .result) (c .before .before .before .before .before .of-rank .ensures .0) (c .before .before .direct-hz .ensures) (not-true (a .downlink) (c .before .if2 .taken)))
+          ∙ first-told (a .self) (a .at .now) (a .lo .now) (a .hz .now) (length (a .out .now)) (a .t2) (c .before .before .before .before .before .before .before .before .cause-frame .result) k (a .downlink) (c .before .before .before .before .before .before .before .if1 .left);
+      same-scratch = λ x. absurd (x (sym k ∙ c .before .before .before .before .before .before .before .if1 .left));
+    }
+
+of-rank-requires-2 : tie.Need-of-rank-requires-2
+of-rank-requires-2 c κs =
+    let a = c .before .before .before .before .before .before .before .before .before .before .before .before .before .before .before .before .before .args in
+    free-again (a .self .readings) (a .at .now) (a .lo .now) (a .hz .now) (a .out .now) _ (free-of (a .self) (a .at .now) (a .lo .now) (a .hz .now) (a .out .now) (c .before .before .before .before .before .before .before .before .before .spans-ok .result) (sym (c .before .before .before .before .before .before .before .before .cause-frame .ensures) ∙ c .before .before .before .before .before .before .before .if1 .left)) (c .before .before .before .before .before .of-rank .ensures .1)
+
+of-rank-requires-3 : tie.Need-of-rank-requires-3
+of-rank-requires-3 c κs =
+    let a = c .before .before .before .before .before .before .before .before .before .before .before .before .before .before .before .before .before .before .before .before .before .args in
+    free-again (a .self .readings) (a .at .now) (a .lo .now) (a .hz .now) (a .out .now) _ (free-of (a .self) (a .at .now) (a .lo .now) (a .hz .now) (a .out .now) (c .before .before .before .before .before .before .before .before .before .before .before .before .before .spans-ok .result) (sym (c .before .before .before .before .before .before .before .before .before .before .before .before .cause-frame .ensures) ∙ c .before .before .before .before .before .before .before .before .before .before .before .if1 .left)) (c .before .before .before .of-rank2 .ensures .1 ∙ c .before .before .before .before .before .before .before .before .before .of-rank .ensures .1)
+
+middle-hz-requires : tie.Need-middle-hz-requires
+middle-hz-requires c κs = search needs
+
+first-answer-requires-2 : tie.Need-first-answer-requires-2
+first-answer-requires-2 c κs = search needs
+
+same-length-2 : tie.Need-same-length-2
+same-length-2 c = search needs
+
+returns-3 : tie.Need-returns-3
+returns-3 c =
+    let a = c .before .before .before .before .before .before .before .before .before .before .before .before .before .before .before .before .before .before .before .before .before .before .before .before .before .before .args in
+    let n = sized (c .before .before .before .before .before .before .before .before .before .before .before .before .before .before .before .before .before .before .before .before .before .before .before .before .before .before) in
+    let e = three (a .t2) blank n in
+    let k = c .before .before .before .before .before .before .before .before .before .before .before .before .before .before .before .before .before .cause-frame .ensures ∙ ap (causeFrame (a .self) (a .at .now) (a .lo .now) (a .hz .now) (length (a .out .now))) (c .before .before .before .before .before .before .before .before .before .before .before .before .before .before .before .before .before .before .spans-ok .ensures ∙ ap spansOk (sym e)) in
+    record {
+      answer = c .first-answer2 .ensures
+          ∙ ap asFirst (mid-is (a .self .rate) (heldReadings (a .self) (a .at .now) (a .lo .now) (a .hz .now)) (a .t2) (getD (a .t2) 0 blank ∷ getD (a .t2) 1 blank ∷ getD (a .t2) 2 blank ∷ []) e (a .downlink) (c .before .before .before .before .before .before .before .before .before .before .before .before .before .before .of-rank .result) (c .before .before .before .before .before .before .before .before .before .before .before .direct-hz .result) (c .before .before .before .before .before .before .before .before .before .before .before .before .before .before .of-rank .ensures .0) (c .before .before .before .before .before .before .before .before .before .before .before .direct-hz .ensures) (not-false (a .downlink) (c .before .before .before .before .before .before .before .before .before .before .if2 .left))
+          (c .before .before .before .before .before .before .before .before .of-rank2 .result) (c .before .before .before .before .of-rank3 .result) (c .before .middle-hz .result) (c .before .before .before .before .before .before .before .before .of-rank2 .ensures .0) (c .before .before .before .before .of-rank3 .ensures .0) (c .before .middle-hz .ensures))
+          ∙ first-told (a .self) (a .at .now) (a .lo .now) (a .hz .now) (length (a .out .now)) (a .t2) (c .before .before .before .before .before .before .before .before .before .before .before .before .before .before .before .before .before .cause-frame .result) k (a .downlink) (c .before .before .before .before .before .before .before .before .before .before .before .before .before .before .before .before .if1 .left);
+      same-scratch = λ x. absurd (x (sym k ∙ c .before .before .before .before .before .before .before .before .before .before .before .before .before .before .before .before .if1 .left));
+    }
+
+pub frame1-spec : {M : Type 1} → statement M
+frame1-spec =
+    tie.close
+    (tie.spec
+    array-copy-out-a
+    array-copy-out-b
+    array-copy-out-c
+    spans-ok-requires
+    cause-frame-requires
+    returns
+    of-rank-requires
+    direct-hz-requires
+    first-answer-requires
+    same-length
+    returns-2
+    of-rank-requires-2
+    of-rank-requires-3
+    middle-hz-requires
+    first-answer-requires-2
+    same-length-2
+    returns-3)

@@ -1,0 +1,51 @@
+-- `frequency::FrequencyTracker::frame_frequency` meets its contract. Assumes nothing.
+use Rattle.frequency.proofs.Framing.{free-of, frame-refused, frame-told}
+use Rattle.frequency.specs.Order.{causeFrame}
+use Rattle.frequency.specs.Calls.{asFrame}
+use lib.ListN.{length}
+use mathlib.Core.Path.{refl, sym, ap, _∙_}
+use borrow.Author.Needs.{needs}
+use Rattle.frequency.proofs.FrequencyTracker.frame_frequency.Statement.{statement}
+use Rattle.frequency.proofs.FrequencyTracker.frame_frequency.Tie as tie
+
+span-ok-requires : tie.Need-span-ok-requires
+span-ok-requires c κs = search needs
+
+cause-frame-requires : tie.Need-cause-frame-requires
+cause-frame-requires c κs = search needs
+
+returns : tie.Need-returns
+returns c =
+    let a = c .before .before .before .before .before .before .before .args in
+    let k = c .before .cause-frame .ensures ∙ ap (causeFrame (a .self) (a .at .now) (a .lo .now) (a .hz .now) (length (a .out .now))) (c .before .before .span-ok .ensures) in
+    record { answer = frame-refused (a .self) (a .at .now) (a .lo .now) (a .hz .now) (length (a .out .now)) (a .f) (c .before .cause-frame .result) k (c .if1 .taken); same-scratch = λ e. refl }
+
+frame-of-requires : tie.Need-frame-of-requires
+frame-of-requires c κs = let a = c .before .before .before .before .before .before .before .before .args in free-of (a .self) (a .at .now) (a .lo .now) (a .hz .now) (a .out .now) (c .before .before .before .span-ok .result) (sym (c .before .before .cause-frame .ensures) ∙ c .before .if1 .left)
+
+frame-answer-requires : tie.Need-frame-answer-requires
+frame-answer-requires c κs = search needs
+
+same-length : tie.Need-same-length
+same-length c = search needs
+
+returns-2 : tie.Need-returns-2
+returns-2 c =
+    let a = c .before .before .before .before .before .before .before .before .before .before .before .before .args in
+    let k = c .before .before .before .before .before .before .cause-frame .ensures ∙ ap (causeFrame (a .self) (a .at .now) (a .lo .now) (a .hz .now) (length (a .out .now))) (c .before .before .before .before .before .before .before .span-ok .ensures) in
+    record {
+      answer = c .frame-answer .ensures ∙ ap asFrame (c .before .before .before .frame-of .ensures .0) ∙ frame-told (a .self) (a .at .now) (a .lo .now) (a .hz .now) (length (a .out .now)) (a .f) (c .before .before .before .before .before .before .cause-frame .result) k (c .before .before .before .before .before .if1 .left);
+      same-scratch = λ e. absurd (e (sym k ∙ c .before .before .before .before .before .if1 .left));
+    }
+
+pub frame-frequency-spec : {M : Type 1} → statement M
+frame-frequency-spec =
+    tie.close
+    (tie.spec
+    span-ok-requires
+    cause-frame-requires
+    returns
+    frame-of-requires
+    frame-answer-requires
+    same-length
+    returns-2)
