@@ -1,0 +1,3 @@
+-- Laws of the sample buffer.
+pub mod BufferLaws
+pub mod Fillings
