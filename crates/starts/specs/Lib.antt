@@ -1,0 +1,2 @@
+-- The definitions that the contracts of `starts` cite.
+pub mod Starts
