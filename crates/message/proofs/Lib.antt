@@ -1,0 +1,2 @@
+-- Laws of one open message.
+pub mod SpanLaws
