@@ -1,0 +1,2 @@
+-- Laws of the open messages.
+pub mod WaitingLaws

@@ -1,0 +1,111 @@
+-- What an array of open messages stands for, and 01's order of a state as far as its messages go. Assumes nothing.
+use mathlib.Core.Path.{_≡_}
+use mathlib.Core.List.{List, [], _∷_, _++_, map}
+use mathlib.Core.Bool.{Bool, true, false, not, _&&_, _||_, cond}
+use Prim.Native.Nat.{ℕ, zero, suc, _+_, _-_, _*_, _<_}
+use lib.ListN.{length, take, replicate}
+use lib.Dec.{leb, eqb}
+use lib.IntN.{pos}
+use lib.Ieee.{Float}
+use Rattle.floats.specs.Number.{num}
+use Rattle.ledger.specs.Frames.{Key, same}
+use Rattle.ledger.specs.Merge.{entryKey, expires}
+use Rattle.ledger.specs.Ledger.{byEntry, others}
+use Rattle.ledger.specs.Causes.{mostWaiting, unlike, allFit, anyNan}
+use Rattle.ledger.specs.Room.{openPlaces}
+use Rattle.ledger.specs.declared.Pending.{Pending}
+use Rattle.ledger.specs.declared.FrameSpan.{FrameSpan}
+use Rattle.ledger.specs.declared.SingleBit.the-variants.{Absent}
+use Rattle.ledger.specs.declared.FirstFrameEnd.the-variants.{Unknown}
+use Rattle.waiting.specs.declared.Waiting.{Waiting}
+use Rattle.waiting.specs.declared.Looked.{Looked}
+use Rattle.waiting.specs.declared.Condition.{Condition}
+use Rattle.waiting.specs.declared.AfterCall.{AfterCall}
+
+-- the messages that wait, in order
+abbrev pub waitingOf : Waiting → List Pending
+waitingOf w = take (w .count) (w .messages)
+
+abbrev pub keyIs : ℕ → ℕ → Pending → Bool
+keyIs d c p = same (entryKey p) (record { device = d; counter = c })
+
+-- the place of the first message with a key, the length where there is none
+unfoldable pub findKey : ℕ → ℕ → List Pending → ℕ
+findKey d c [] = 0
+findKey d c (p ∷ l) = cond (keyIs d c p) 0 (suc (findKey d c l))
+
+-- a push writes the messages that are complete, a flush all
+abbrev pub leaves : Bool → Float → Pending → Bool
+leaves all now p = all || expires now p
+
+-- ---- the array for a list of messages
+
+abbrev pub blankSpan : FrameSpan
+blankSpan = record { rank = 0; time = num 0; end = num 0 }
+
+-- what stands in the places past the messages
+abbrev pub blank : Pending
+blank =
+    record {
+      message =
+          record {
+            «device_id» = 0;
+            counter = 0;
+            payload = replicate 12 0;
+            «payload_len» = 0;
+            bit = Absent;
+            downlink = false;
+            control = false;
+            auth = replicate 5 0;
+            «auth_len» = 0;
+            time = num 0;
+            «first_frame_end» = Unknown;
+            rssi = num 0;
+            spans = blankSpan ∷ blankSpan ∷ blankSpan ∷ [];
+            «clock_error_ppm» = pos 0;
+            start = 0;
+          };
+      last = num 0;
+    }
+
+unfoldable pub cleared : List Pending → Waiting
+cleared l = record { messages = l ++ replicate (openPlaces - length l) blank; count = length l }
+
+-- what a place holds after the end of a call: a message that stays, or nothing
+abbrev pub placeAfter : Bool → Pending → AfterCall
+placeAfter left p = cond left (record { message = blank; more = 0 }) (record { message = p; more = 1 })
+
+-- ---- a state's messages
+
+-- device and counter as one number
+abbrev pub keyNumber : Pending → ℕ
+keyNumber p = p .message .«device_id» * 65536 + p .message .counter
+
+unfoldable pub numberIn : ℕ → List ℕ → Bool
+numberIn k [] = false
+numberIn k (x ∷ l) = eqb x k || numberIn k l
+
+-- no number stands there twice
+unfoldable pub distinct : List ℕ → Bool
+distinct [] = true
+distinct (x ∷ l) = not (numberIn x l) && distinct l
+
+-- every counter is one of the field's
+abbrev pub Counters : List Pending → Type 0
+Counters [] = Unit
+Counters (p ∷ l) = (p .message .counter < 65536) × Counters l
+
+-- what one look at the messages l finds
+pub record Seen (l : List Pending) (r : Looked) : Type 0 where
+  pub keys : take (length l) (r .keys) ≡ map keyNumber l
+  pub counters : Counters l
+  pub fit : r .fit ≡ allFit byEntry l
+  pub nan : r .nan ≡ anyNan byEntry l
+
+-- "at most 128 waiting, no two alike in device and counter, each with .."
+abbrev pub waitingOk : Waiting → Bool
+waitingOk w = leb (w .count) mostWaiting && (unlike byEntry (waitingOf w) && allFit byEntry (waitingOf w))
+
+pub record Checked (w : Waiting) (r : Condition) : Type 0 where
+  pub ok : r .ok ≡ waitingOk w
+  pub nan : r .ok ≡ true → r .nan ≡ anyNan byEntry (waitingOf w)

@@ -1,0 +1,268 @@
+// The open messages (receiver.rs `pending`), in the order in which they were opened: a frame joins one or opens one, and some are kept when a call ends.
+ghost use mathlib.Core.Path.{_≡_};
+ghost use mathlib.Core.Bool.{true, cond, _||_};
+ghost use mathlib.Core.List.{[]};
+ghost use Prim.Native.Nat.{_+_, _≤_, _<_};
+ghost use lib.ListN.{length, take};
+ghost use lib.Seq.{slice};
+ghost use Rattle.ledger.specs.Frames.{same};
+ghost use Rattle.ledger.specs.Merge.{entryKey, expires};
+ghost use Rattle.ledger.specs.Ledger.{byEntry, join, others};
+ghost use Rattle.ledger.specs.Causes.{anyNan};
+ghost use Rattle.ledger.specs.Room.{openPlaces};
+ghost use Rattle.message.specs.Messages.{frameOf};
+ghost use Rattle.waiting.specs.Waiting.{waitingOf, keyNumber, keyIs, findKey, blank, leaves, placeAfter, cleared, numberIn, distinct, Seen, waitingOk, Checked};
+use ledger::FirstFrameEnd;
+use ledger::FrameSpan;
+use ledger::Pending;
+use ledger::Reception;
+use ledger::SigfoxMessage;
+use ledger::SingleBit;
+use ledger::UplinkFrame;
+
+// A state in order has no more.
+const MOST_WAITING: usize = 128;
+
+// One more than the largest counter of the field.
+const COUNTERS: u64 = 65_536;
+
+// The first `count` places: a flush of a state in order needs 163.
+pub struct Waiting {
+    pub messages: [Pending; 168],
+    pub count: usize,
+}
+
+// What one look at every message finds.
+struct Looked {
+    keys: [u64; 168],
+    fit: bool,
+    nan: bool,
+}
+
+// Whether the messages are in order, and whether one has a NaN.
+pub struct Condition {
+    pub ok: bool,
+    pub nan: bool,
+}
+
+// ---- joining
+
+fn is_of(p: Pending, device_id: u32, counter: u16) -> bool
+    ensures { λ r. ⌜ r ≡ keyIs «device_id» counter p ⌝ }
+{
+    let m = p.message;
+    let device = m.device_id == device_id;
+    let same = m.counter == counter;
+    device & same
+}
+
+// The place of the first message of a device with a counter; the count where there is none.
+fn find(w: Waiting, device_id: u32, counter: u16) -> usize
+    requires { ⌜ w .count ≤ openPlaces ⌝ }
+    ensures { λ r. ⌜ r ≡ findKey «device_id» counter (waitingOf w) ⌝ }
+{
+    let n = w.count;
+    let mut i: usize = 0;
+    while i < n {
+        if is_of(w.messages[i], device_id, counter) {
+            return i;
+        }
+        i += 1;
+    }
+    n
+}
+
+// A frame joins the message of its device and counter, or opens one.
+pub fn join(w: Waiting, f: UplinkFrame, r: Reception) -> Waiting
+    requires { ⌜ w .count < openPlaces ⌝ }
+    ensures { λ t. ⌜ (waitingOf t ≡ join byEntry (frameOf f r) (waitingOf w)) × (t .count ≤ w .count + 1) ⌝ }
+{
+    let mut t = w;
+    let n = w.count;
+    let k = find(w, f.device_id, f.counter);
+    if k < n {
+        let p = message::merged(w.messages[k], f, r);
+        t.messages[k] = p;
+        return t;
+    }
+    let p = message::opened(f, r);
+    t.messages[n] = p;
+    t.count = n + 1;
+    t
+}
+
+// ---- the end of a call
+
+// Whether a message is written: all are, or those that are complete.
+pub fn leaves(p: Pending, all: bool, now: f64) -> bool
+    ensures { λ r. ⌜ r ≡ leaves all now p ⌝ }
+{
+    let complete = message::expires(p, now);
+    all | complete
+}
+
+// A place that holds no message.
+fn blank() -> Pending
+    ensures { λ r. ⌜ r ≡ blank ⌝ }
+{
+    let none = FrameSpan {
+        rank: 0,
+        time: 0.0,
+        end: 0.0,
+    };
+    let message = SigfoxMessage {
+        device_id: 0,
+        counter: 0,
+        payload: [0u8; 12],
+        payload_len: 0,
+        bit: SingleBit::Absent,
+        downlink: false,
+        control: false,
+        auth: [0u8; 5],
+        auth_len: 0,
+        time: 0.0,
+        first_frame_end: FirstFrameEnd::Unknown,
+        rssi: 0.0,
+        spans: [none, none, none],
+        clock_error_ppm: 0,
+        start: 0,
+    };
+    Pending { message, last: 0.0 }
+}
+
+// No message.
+pub fn none() -> Waiting
+    ensures { λ r. ⌜ r ≡ cleared [] ⌝ }
+{
+    let p = blank();
+    Waiting {
+        messages: [p; 168],
+        count: 0,
+    }
+}
+
+// What a place holds after the end of a call, and how many places further the next one is.
+struct AfterCall {
+    message: Pending,
+    more: usize,
+}
+
+// A message that stays, or a blank place.
+fn stayed(p: Pending, all: bool, now: f64) -> AfterCall
+    ensures { λ r. ⌜ r ≡ placeAfter (leaves all now p) p ⌝ }
+{
+    if leaves(p, all, now) {
+        let message = blank();
+        return AfterCall { message, more: 0 };
+    }
+    AfterCall {
+        message: p,
+        more: 1,
+    }
+}
+
+// The messages that are not written stay, in order, and the other places are blank.
+pub fn keep(w: Waiting, all: bool, now: f64) -> Waiting
+    requires { ⌜ w .count ≤ openPlaces ⌝ }
+    ensures { λ r. ⌜ r ≡ cleared (others (leaves all now) (waitingOf w)) ⌝ }
+{
+    let n = w.count;
+    let mut t = none();
+    let mut k: usize = 0;
+    let mut i: usize = 0;
+    while i < n {
+        let s = stayed(w.messages[i], all, now);
+        let p = s.message;
+        t.messages[k] = p;
+        k += s.more;
+        i += 1;
+    }
+    t.count = k;
+    t
+}
+
+// ---- what 01 asks of the messages of a given state
+
+// Device and counter as one number.
+fn key_of(p: Pending) -> u64
+    ensures { λ r. ⌜ (r ≡ keyNumber p) × (p .message .counter < 65536) ⌝ }
+{
+    let m = p.message;
+    (m.device_id as u64) * COUNTERS + (m.counter as u64)
+}
+
+// One look at every message, so that the array is handed on once.
+fn look(w: Waiting) -> Looked
+    requires { ⌜ w .count ≤ openPlaces ⌝ }
+    ensures { λ r. ⌜ Seen (waitingOf w) r ⌝ }
+{
+    let n = w.count;
+    let mut keys = [0u64; 168];
+    let mut fit = true;
+    let mut nans = false;
+    let mut i: usize = 0;
+    while i < n {
+        let p = w.messages[i];
+        keys[i] = key_of(p);
+        let fits = message::fits(p);
+        let lost = message::has_nan(p);
+        fit = fit & fits;
+        nans = nans | lost;
+        i += 1;
+    }
+    Looked {
+        keys,
+        fit,
+        nan: nans,
+    }
+}
+
+// Whether a key is among those from a place on.
+fn number_in(keys: &[u64], from: usize, n: usize, key: u64) -> bool
+    requires { ⌜ (from ≤ n) × (n ≤ length (now keys)) ⌝ }
+    ensures { λ r. ⌜ r ≡ numberIn key (slice from n (now (keys .entry))) ⌝ }
+{
+    let mut i = from;
+    while i < n {
+        if keys[i] == key {
+            return true;
+        }
+        i += 1;
+    }
+    false
+}
+
+// Whether no two of the first n keys are equal.
+fn all_distinct(keys: &[u64], n: usize) -> bool
+    requires { ⌜ n ≤ length (now keys) ⌝ }
+    ensures { λ r. ⌜ r ≡ distinct (take n (now (keys .entry))) ⌝ }
+{
+    let mut i: usize = 0;
+    while i < n {
+        if number_in(keys, i + 1, n, keys[i]) {
+            return false;
+        }
+        i += 1;
+    }
+    true
+}
+
+// Whether the messages of a state are in order, and whether one has a NaN.
+pub fn check(w: Waiting) -> Condition
+    ensures { λ r. ⌜ Checked w r ⌝ }
+{
+    let n = w.count;
+    if MOST_WAITING < n {
+        return Condition {
+            ok: false,
+            nan: false,
+        };
+    }
+    let l = look(w);
+    let keys = l.keys;
+    let different = all_distinct(&keys, n);
+    Condition {
+        ok: different & l.fit,
+        nan: l.nan,
+    }
+}
