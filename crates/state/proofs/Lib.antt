@@ -1,0 +1,2 @@
+-- Laws of the state.
+pub mod StateLaws

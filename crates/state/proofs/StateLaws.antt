@@ -1,0 +1,118 @@
+-- A state in order. Assumes nothing.
+use mathlib.Core.Bool.{Bool, _&&_, false, not, true}
+use mathlib.Core.List.{List, []}
+use mathlib.Core.Logic.{_⊎_, inl, inr, ⊎-elim}
+use mathlib.Core.Path.{_∙_, _≡_, refl, sym}
+use Prim.Native.Nat.{_*_, _+_, _-_, _/_, _<_, _^_, _≤_, ℕ}
+use native.Mathlib.Omega.{arith}
+use lib.Dec.{leb, ltb}
+use lib.Ieee.{Float, nan}
+use lib.ListN.{take}
+use borrow.Author.Tests.{le-leb, le-ltb, leb-false, leb-true, lt-leb, lt-ltb, ltb-false, ltb-true}
+use Rattle.ledger.specs.Causes.{below, mostStarts, oldestS, orderly, since}
+use Rattle.ledger.specs.Ledger.{capacity, spaced}
+use Rattle.limits.specs.Limits.{longestStream}
+use Rattle.limits.specs.Samples.{allDbm}
+use Rattle.state.specs.State.{Known, countsOf, ledgerOf}
+use Rattle.starts.specs.Starts as starts
+use Rattle.waiting.specs.Waiting as waiting
+use Rattle.waiting.specs.declared.Condition.{Condition}
+use Rattle.state.specs.declared.SigfoxReceiver.{SigfoxReceiver}
+
+either : (b : Bool) → (b ≡ true) ⊎ (b ≡ false)
+either true = inl refl
+either false = inr refl
+
+pub not-true : (b : Bool) → not b ≡ true → b ≡ false
+not-true true e = sym e
+not-true false e = refl
+
+pub not-false : (b : Bool) → not b ≡ false → b ≡ true
+not-false true e = refl
+not-false false e = sym e
+
+-- ---- the numbers, without overflow
+
+stream-is : (base held : ℕ) → held ≤ longestStream → leb base (longestStream - held) ≡ leb (base + held) longestStream
+stream-is base held h =
+    ⊎-elim
+    (λ e. let x = leb-true base (longestStream - held) e in rw e (sym (le-leb (base + held) longestStream (omega arith))))
+    (λ e. let x = leb-false base (longestStream - held) e in rw e (sym (lt-leb (base + held) longestStream (omega arith))))
+    (either (leb base (longestStream - held)))
+
+scanned-is : (u rate : ℕ) → ltb u ((rate + 1) / 2) ≡ ltb (2 * u) rate
+scanned-is u rate =
+    ⊎-elim
+    (λ e. let x = ltb-true u ((rate + 1) / 2) e in rw e (sym (lt-ltb (2 * u) rate (omega arith))))
+    (λ e. let x = ltb-false u ((rate + 1) / 2) e in rw e (sym (le-ltb (2 * u) rate (omega arith))))
+    (either (ltb u ((rate + 1) / 2)))
+
+-- the numbers are in order
+abbrev pub numbersOk : ℕ → ℕ → ℕ → ℕ → Bool
+numbersOk rate held base u = leb held (capacity rate) && (leb (base + held) longestStream && ltb (2 * u) rate)
+
+pub numbers-out : (rate held base u : ℕ) → capacity rate < held → false ≡ numbersOk rate held base u
+numbers-out rate held base u h = rw (lt-leb held (capacity rate) h) refl
+
+pub numbers-in : (rate held base u : ℕ) → rate < 2 ^ 32 → held ≤ capacity rate
+    → leb base (longestStream - held) && ltb u ((rate + 1) / 2) ≡ numbersOk rate held base u
+numbers-in rate held base u r h = rw (le-leb held (capacity rate) h, stream-is base held (omega arith), scanned-is u rate) refl
+
+-- ---- 01's order in the order of the code
+
+regroup : (a v b u c d : Bool) → a && (v && (b && (u && (c && d)))) ≡ (a && (b && u)) && (v && (c && d))
+regroup false v b u c d = refl
+regroup true true true true c d = refl
+regroup true true true false c d = refl
+regroup true true false u c d = refl
+regroup true false true true c d = refl
+regroup true false true false c d = refl
+regroup true false false u c d = refl
+
+four : (a b c d e : Bool) → a && (b && (c && (d && e))) ≡ (a && (b && (c && d))) && e
+four false b c d e = refl
+four true false c d e = refl
+four true true false d e = refl
+four true true true d e = refl
+
+pub orderly-is : (s : SigfoxReceiver) (buf : List Float) → orderly (s .rate) (countsOf s) (ledgerOf s buf)
+    ≡ numbersOk (s .rate) (s .held) (s .base) (s .unscanned)
+    && (allDbm (take (s .held) buf) && (starts.startsOk (s .rate) (s .base) (s .base + s .held) (s .starts) && waiting.waitingOk (s .waiting)))
+unfolding orderly
+orderly-is s buf =
+    rw (four (leb (s .starts .count) mostStarts) (below (s .base + s .held) (starts.remembered (s .starts)))
+    (since (s .base) (oldestS * s .rate) (starts.remembered (s .starts))) (spaced (s .rate) [] (starts.remembered (s .starts))) (waiting.waitingOk (s .waiting)))
+    (regroup (leb (s .held) (capacity (s .rate))) (allDbm (take (s .held) buf)) (leb (s .base + s .held) longestStream) (ltb (2 * s .unscanned) (s .rate))
+    (starts.startsOk (s .rate) (s .base) (s .base + s .held) (s .starts)) (waiting.waitingOk (s .waiting)))
+
+pub known-not : (s : SigfoxReceiver) (buf : List Float) (r : Condition) → r .ok ≡ false → numbersOk (s .rate) (s .held) (s .base) (s .unscanned) ≡ false
+    → Known s buf r
+known-not s buf r e h =
+    record {
+      ok = e ∙ sym (orderly-is s buf ∙ rw h refl);
+      nan = λ q. let z : _≡_ {A = ℕ} 0 1 = cc in absurd (omega arith);
+    }
+
+and-right : (a b : Bool) → a && b ≡ true → b ≡ true
+and-right true b e = e
+and-right false b e = absurd (let z : _≡_ {A = ℕ} 0 1 = cc in omega arith)
+
+pub known-is : (s : SigfoxReceiver) (buf : List Float) (v a : Bool) (m : Condition) → numbersOk (s .rate) (s .held) (s .base) (s .unscanned) ≡ true
+    → v ≡ allDbm (take (s .held) buf) → a ≡ starts.startsOk (s .rate) (s .base) (s .base + s .held) (s .starts) → waiting.Checked (s .waiting) m
+    → Known s buf (record { ok = v && (a && m .ok); nan = m .nan })
+known-is s buf v a m h hv ha w =
+    record {
+      ok = rw (hv, ha, w .ok) (sym (orderly-is s buf ∙ rw h refl));
+      nan = λ q. w .nan (and-right a (m .ok) (and-right v (a && m .ok) q));
+    }
+
+pub numbers-fit : (rate held base u : ℕ) → numbersOk rate held base u ≡ true → (held ≤ capacity rate) × (base + held ≤ longestStream)
+numbers-fit rate held base u e = (
+  leb-true held (capacity rate) (and-left (leb held (capacity rate)) (leb (base + held) longestStream && ltb (2 * u) rate) e),
+  leb-true (base + held) longestStream (and-left (leb (base + held) longestStream) (ltb (2 * u) rate)
+      (and-right (leb held (capacity rate)) (leb (base + held) longestStream && ltb (2 * u) rate) e)),
+)
+  where
+    and-left : (a b : Bool) → a && b ≡ true → a ≡ true
+    and-left true b e = refl
+    and-left false b e = e
