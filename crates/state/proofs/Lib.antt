@@ -1,2 +1,3 @@
--- Laws of the state.
+-- Laws of the state and of its causes.
 pub mod StateLaws
+pub mod CauseLaws

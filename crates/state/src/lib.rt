@@ -5,9 +5,9 @@ ghost use Prim.Native.Nat.{_+_, _*_, _≤_};
 ghost use lib.ListN.{length, take};
 ghost use lib.Dec.{leb, ltb};
 ghost use Rattle.limits.specs.Limits.{longestStream};
-ghost use Rattle.ledger.specs.Ledger.{byEntry, capacity, fresh};
-ghost use Rattle.ledger.specs.Causes.{tooShort};
-ghost use Rattle.state.specs.State.{stateOf, lentOf, Known};
+ghost use Rattle.ledger.specs.Ledger.{byEntry, capacity, fresh, push, pushRaw, flush};
+ghost use Rattle.ledger.specs.Causes.{tooShort, cause};
+ghost use Rattle.state.specs.State.{stateOf, ledgerOf, countsOf, lentOf, givenCause, stateCause, Known};
 use starts::Starts;
 use waiting::Waiting;
 
@@ -98,4 +98,89 @@ pub fn in_order(s: SigfoxReceiver, samples: &[f32]) -> waiting::Condition
         ok: valid & (apart & messages.ok),
         nan: messages.nan,
     }
+}
+
+// ---- causes
+
+// Causes 1 to 3 of a call that hands in n samples; 0 for none.
+fn given_cause(rate: u32, lent: Lengths, n: usize) -> u8
+    ensures { λ r. ⌜ r ≡ givenCause rate (lentOf lent) n ⌝ }
+{
+    if !limits::rate_ok(rate) {
+        return limits::BAD_RATE;
+    }
+    if too_short(rate, lent) {
+        return limits::SHORT;
+    }
+    if samples::capacity(rate) < n {
+        return limits::LONG;
+    }
+    0
+}
+
+// Causes 5 to 9 of a push of n samples; 0 for none.
+fn state_cause(s: SigfoxReceiver, samples: &[f32], n: usize) -> u8
+    requires { ⌜ (capacity (s .rate) ≤ length (now samples)) × (n ≤ capacity (s .rate)) ⌝ }
+    ensures { λ r. ⌜ r ≡ stateCause s (now (samples .entry)) n ⌝ }
+{
+    let c = in_order(s, samples);
+    if !c.ok {
+        return limits::BAD_STATE;
+    }
+    if WAITING_AT_PUSH < s.waiting.count {
+        return limits::WAITING;
+    }
+    if limits::LONGEST_STREAM < s.base + (s.held as u64) + (n as u64) {
+        return limits::STREAM;
+    }
+    if c.nan {
+        return limits::BAD_NUMBER;
+    }
+    0
+}
+
+// The cause of a push, the first by number; 0 for none.
+pub fn push_cause(s: SigfoxReceiver, dbm: &[f32], samples: &[f32], lent: Lengths) -> u8
+    requires { ⌜ lent .samples ≡ length (now samples) ⌝ }
+    ensures { λ r. ⌜ r ≡ cause (s .rate) (lentOf lent) (countsOf s) (ledgerOf s (now (samples .entry))) (push (now (dbm .entry))) ⌝ }
+{
+    let given = given_cause(s.rate, lent, dbm.len());
+    if 1 <= given {
+        return given;
+    }
+    if !limits::all_dbm(dbm) {
+        return limits::BAD_SAMPLE;
+    }
+    state_cause(s, samples, dbm.len())
+}
+
+// The cause of a push of raw bytes: all of them are valid samples.
+pub fn push_raw_cause(s: SigfoxReceiver, raw: &[u8], samples: &[f32], lent: Lengths) -> u8
+    requires { ⌜ lent .samples ≡ length (now samples) ⌝ }
+    ensures { λ r. ⌜ r ≡ cause (s .rate) (lentOf lent) (countsOf s) (ledgerOf s (now (samples .entry))) (pushRaw (now (raw .entry))) ⌝ }
+{
+    let given = given_cause(s.rate, lent, raw.len());
+    if 1 <= given {
+        return given;
+    }
+    state_cause(s, samples, raw.len())
+}
+
+// The cause of a flush.
+pub fn flush_cause(s: SigfoxReceiver, samples: &[f32], lent: Lengths) -> u8
+    requires { ⌜ lent .samples ≡ length (now samples) ⌝ }
+    ensures { λ r. ⌜ r ≡ cause (s .rate) (lentOf lent) (countsOf s) (ledgerOf s (now (samples .entry))) flush ⌝ }
+{
+    let given = given_cause(s.rate, lent, 0);
+    if 1 <= given {
+        return given;
+    }
+    let c = in_order(s, samples);
+    if !c.ok {
+        return limits::BAD_STATE;
+    }
+    if c.nan {
+        return limits::BAD_NUMBER;
+    }
+    0
 }

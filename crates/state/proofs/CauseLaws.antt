@@ -1,0 +1,164 @@
+-- The causes by their subjects are the ledger's. Assumes nothing.
+use mathlib.Core.Bool.{Bool, _&&_, _||_, cond, false, not, true}
+use mathlib.Core.List.{List, [], _∷_}
+use mathlib.Core.Path.{_∙_, _≡_, refl, sym}
+use Prim.Native.Nat.{_+_, _<_, _≤_, suc, ℕ}
+use native.Mathlib.Nat.{not-suc-le-zero}
+use native.Mathlib.Omega.{arith}
+use lib.Dec.{ltb}
+use lib.Ieee.{Float}
+use lib.ListN.{getD, length}
+use borrow.Author.Tests.{le-ltb, lt-ltb, ltb-false}
+use Rattle.ledger.specs.Causes.{Lent, anyNan, callCause, cause, orderly, tooShort, waitingAtPush}
+use Rattle.ledger.specs.Ledger.{byEntry, capacity, flush, push}
+use Rattle.ledger.specs.Room.{Below}
+use Rattle.limits.specs.Limits.{badNumber, badRate, badSample, badState, eventsSize, long, longestStream, scratch64, short, stream}
+use Rattle.limits.specs.Samples.{allDbm, rateOk}
+use Rattle.state.proofs.StateLaws.{numbers-fit, numbersOk, orderly-is}
+use Rattle.state.specs.State.{Known, countsOf, givenCause, ledgerOf, stateCause}
+use Rattle.limits.specs.Limits as limits
+use Rattle.waiting.specs.Waiting as waiting
+use Rattle.waiting.specs.declared.Condition.{Condition}
+use Rattle.state.specs.declared.SigfoxReceiver.{SigfoxReceiver}
+
+-- ---- three tests, then what follows
+
+abbrev pub pick : Bool → Bool → Bool → ℕ → ℕ
+pick ok b d x = cond (not ok) badRate (cond b short (cond d long x))
+
+pick-first : (ok b d : Bool) (x : ℕ) → 1 ≤ pick ok b d 0 → pick ok b d 0 ≡ pick ok b d x
+pick-first false b d x h = refl
+pick-first true true d x h = refl
+pick-first true false true x h = refl
+pick-first true false false x h = absurd (not-suc-le-zero h)
+
+pick-none : (ok b d : Bool) (x : ℕ) → pick ok b d 0 ≡ 0 → x ≡ pick ok b d x
+pick-none false b d x h = absurd (omega arith)
+pick-none true true d x h = absurd (omega arith)
+pick-none true false true x h = absurd (omega arith)
+pick-none true false false x h = refl
+
+pick-fits : (ok b d : Bool) → pick ok b d 0 ≡ 0 → (b ≡ false) × (d ≡ false)
+pick-fits false b d h = absurd (omega arith)
+pick-fits true true d h = absurd (omega arith)
+pick-fits true false true h = absurd (omega arith)
+pick-fits true false false h = (refl, refl)
+
+or-left : (a b : Bool) → a || b ≡ false → a ≡ false
+or-left true b e = e
+or-left false b e = refl
+
+module _ (rate : ℕ) (b : Lent) (n : ℕ) where
+  -- what is lent and handed in has the right size
+  pub given-fits : givenCause rate b n ≡ 0 → (capacity rate ≤ b .samples) × (n ≤ capacity rate)
+  unfolding givenCause
+  given-fits e =
+      let f = pick-fits (rateOk rate) (tooShort rate b) (ltb (capacity rate) n) e in
+      let s = or-left (ltb (b .samples) (capacity rate))
+      (ltb (b .events) eventsSize || (ltb (b .scratch32) (capacity rate) || ltb (b .scratch64) scratch64)) (f .0) in
+      (ltb-false (b .samples) (capacity rate) s, ltb-false (capacity rate) n (f .1))
+
+  pub given-rate : rateOk rate ≡ false → badRate ≡ givenCause rate b n
+  unfolding givenCause
+  given-rate e = rw e refl
+
+  pub given-short : rateOk rate ≡ true → tooShort rate b ≡ true → short ≡ givenCause rate b n
+  unfolding givenCause
+  given-short e f = rw (e, f) refl
+
+  pub given-long : rateOk rate ≡ true → tooShort rate b ≡ false → capacity rate < n → long ≡ givenCause rate b n
+  unfolding givenCause
+  given-long e f h = rw (e, f, lt-ltb (capacity rate) n h) refl
+
+  pub given-none : rateOk rate ≡ true → tooShort rate b ≡ false → n ≤ capacity rate → 0 ≡ givenCause rate b n
+  unfolding givenCause
+  given-none e f h = rw (e, f, le-ltb (capacity rate) n h) refl
+
+module _ (s : SigfoxReceiver) (buf : List Float) (b : Lent) where
+  pub push-is : (xs : List Float) → pick (rateOk (s .rate)) (tooShort (s .rate) b) (ltb (capacity (s .rate)) (length xs))
+      (cond (not (allDbm xs)) badSample (stateCause s buf (length xs))) ≡ cause (s .rate) b (countsOf s) (ledgerOf s buf) (push xs)
+  unfolding cause callCause stateCause
+  push-is xs = refl
+
+  pub push-first : (xs : List Float) (n g : ℕ) → n ≡ length xs → g ≡ givenCause (s .rate) b n → 1 ≤ g
+      → g ≡ cause (s .rate) b (countsOf s) (ledgerOf s buf) (push xs)
+  unfolding givenCause
+  push-first xs n g en e h =
+      let f : g ≡ givenCause (s .rate) b (length xs) = rw (← en) e in
+      f
+      ∙ pick-first (rateOk (s .rate)) (tooShort (s .rate) b) (ltb (capacity (s .rate)) (length xs))
+      (cond (not (allDbm xs)) badSample (stateCause s buf (length xs))) (rw f at h)
+      ∙ push-is xs
+
+  -- causes 1 to 3 don't apply
+  pub push-later : (xs : List Float) (n x : ℕ) → n ≡ length xs → givenCause (s .rate) b n ≡ 0
+      → x ≡ cond (not (allDbm xs)) badSample (stateCause s buf n) → x ≡ cause (s .rate) b (countsOf s) (ledgerOf s buf) (push xs)
+  unfolding givenCause
+  push-later xs n x en e h =
+      let f : givenCause (s .rate) b (length xs) ≡ 0 = rw (← en) e in
+      h
+      ∙ rw en (pick-none (rateOk (s .rate)) (tooShort (s .rate) b) (ltb (capacity (s .rate)) (length xs))
+      (cond (not (allDbm xs)) badSample (stateCause s buf (length xs))) f)
+      ∙ push-is xs
+
+  flush-is : pick (rateOk (s .rate)) (tooShort (s .rate) b) (ltb (capacity (s .rate)) 0)
+      (cond (not (orderly (s .rate) (countsOf s) (ledgerOf s buf))) badState (cond (anyNan byEntry (waiting.waitingOf (s .waiting))) badNumber 0))
+      ≡ cause (s .rate) b (countsOf s) (ledgerOf s buf) flush
+  unfolding cause callCause
+  flush-is = rw (le-ltb (capacity (s .rate)) 0 (omega arith)) refl
+
+  pub flush-first : (g : ℕ) → g ≡ givenCause (s .rate) b 0 → 1 ≤ g → g ≡ cause (s .rate) b (countsOf s) (ledgerOf s buf) flush
+  unfolding givenCause
+  flush-first g e h =
+      e
+      ∙ pick-first (rateOk (s .rate)) (tooShort (s .rate) b) (ltb (capacity (s .rate)) 0)
+      (cond (not (orderly (s .rate) (countsOf s) (ledgerOf s buf))) badState (cond (anyNan byEntry (waiting.waitingOf (s .waiting))) badNumber 0)) (rw e at h)
+      ∙ flush-is
+
+  pub flush-later : (x : ℕ) → givenCause (s .rate) b 0 ≡ 0
+      → x ≡ cond (not (orderly (s .rate) (countsOf s) (ledgerOf s buf))) badState (cond (anyNan byEntry (waiting.waitingOf (s .waiting))) badNumber 0)
+      → x ≡ cause (s .rate) b (countsOf s) (ledgerOf s buf) flush
+  unfolding givenCause
+  flush-later x e h =
+      h
+      ∙ pick-none (rateOk (s .rate)) (tooShort (s .rate) b) (ltb (capacity (s .rate)) 0)
+      (cond (not (orderly (s .rate) (countsOf s) (ledgerOf s buf))) badState (cond (anyNan byEntry (waiting.waitingOf (s .waiting))) badNumber 0)) e
+      ∙ flush-is
+
+-- ---- the state's causes
+
+module _ (s : SigfoxReceiver) (buf : List Float) (n : ℕ) (r : Condition) (k : Known s buf r) where
+  pub state-order : r .ok ≡ false → badState ≡ stateCause s buf n
+  unfolding stateCause
+  state-order e = rw (sym (k .ok) ∙ e) refl
+
+  module _ (ok : r .ok ≡ true) where
+    orders : orderly (s .rate) (countsOf s) (ledgerOf s buf) ≡ true
+    orders = sym (k .ok) ∙ ok
+
+    pub state-fits : (s .held ≤ capacity (s .rate)) × (s .base + s .held ≤ longestStream)
+    state-fits =
+        numbers-fit (s .rate) (s .held) (s .base) (s .unscanned)
+        (and-first (numbersOk (s .rate) (s .held) (s .base) (s .unscanned)) _ (sym (orderly-is s buf) ∙ orders))
+      where
+        and-first : (a b : Bool) → a && b ≡ true → a ≡ true
+        and-first true b e = refl
+        and-first false b e = e
+
+    pub state-waiting : waitingAtPush < s .waiting .count → limits.waiting ≡ stateCause s buf n
+    unfolding stateCause
+    state-waiting h = rw (orders, lt-ltb waitingAtPush (s .waiting .count) h) refl
+
+    pub state-stream : s .waiting .count ≤ waitingAtPush → longestStream < s .base + s .held + n → stream ≡ stateCause s buf n
+    unfolding stateCause
+    state-stream h g = rw (orders, le-ltb waitingAtPush (s .waiting .count) h, lt-ltb longestStream (s .base + s .held + n) g) refl
+
+    pub state-nan : s .waiting .count ≤ waitingAtPush → s .base + s .held + n ≤ longestStream → (x : ℕ) → x ≡ cond (r .nan) badNumber 0
+        → x ≡ stateCause s buf n
+    unfolding stateCause
+    state-nan h g x e =
+        e ∙ rw (orders, le-ltb waitingAtPush (s .waiting .count) h, le-ltb longestStream (s .base + s .held + n) g, k .nan ok) refl
+
+pub below-all : (hi : ℕ) (l : List ℕ) → ((i : ℕ) → i < length l → getD l i 0 < hi) → Below hi l
+below-all hi [] h = tt
+below-all hi (x ∷ l) h = (h 0 (omega arith), below-all hi l (λ i k. h (suc i) (omega arith)))
