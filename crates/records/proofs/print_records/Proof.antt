@@ -1,3 +1,4 @@
+-- `records::print_records` meets its contract. The invariant: the records counted lie within the buffer. Assumes nothing.
 use Prim.Native.Nat.{_-_, _*_, _≤_}
 use mathlib.Core.Path.{_≡_}
 use lib.ListN.{length}

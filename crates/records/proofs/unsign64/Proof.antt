@@ -1,3 +1,4 @@
+-- `records::unsign64` meets its contract. Assumes nothing.
 use Rattle.record.specs.Same.{unsignedAt}
 use borrow.Author.Needs.{needs}
 use Rattle.records.proofs.unsign64.Statement.{statement}

@@ -1,3 +1,4 @@
+-- `records::unsigned32` meets its contract. Assumes nothing.
 use borrow.Author.Tests.{eq-eqb, ne-eqb}
 use Rattle.records.proofs.unsigned32.Statement.{statement}
 use Rattle.records.proofs.unsigned32.Tie as tie

@@ -1,3 +1,4 @@
+-- `records::unsigned64` meets its contract. Assumes nothing.
 use borrow.Author.Tests.{eq-eqb, ne-eqb}
 use Rattle.records.proofs.unsigned64.Statement.{statement}
 use Rattle.records.proofs.unsigned64.Tie as tie

@@ -1,3 +1,4 @@
+-- `records::without_signs` meets its contract. Assumes nothing.
 use Rattle.records.proofs.Signs.{signs-gone}
 use borrow.Author.Needs.{needs}
 use Rattle.records.proofs.without_signs.Statement.{statement}

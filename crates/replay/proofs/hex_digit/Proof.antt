@@ -1,3 +1,4 @@
+-- `replay::hex_digit` meets its contract. Assumes nothing.
 use borrow.Author.Needs.{needs}
 use borrow.Author.Tests.{lt-ltb, le-ltb}
 use Rattle.replay.proofs.hex_digit.Statement.{statement}

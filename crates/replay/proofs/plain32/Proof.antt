@@ -1,3 +1,4 @@
+-- `replay::plain32` meets its contract. Assumes nothing.
 use borrow.Author.Needs.{needs}
 use lib.Ieee.{binary32}
 use Rattle.replay.proofs.Turns.{zero32-is, plain-zero, plain-other}

@@ -1,3 +1,4 @@
+-- `replay::plain64` meets its contract. Assumes nothing.
 use borrow.Author.Needs.{needs}
 use lib.Ieee.{binary64}
 use Rattle.replay.proofs.Turns.{zero64-is, plain-zero, plain-other}

@@ -1,3 +1,4 @@
+-- `replay::print_digits` meets its contract. The invariant: the digits end within both slices. Assumes nothing.
 use mathlib.Core.Path.{_≡_}
 use Prim.Native.Nat.{_-_, _≤_}
 use lib.ListN.{length}

@@ -1,3 +1,4 @@
+-- `replay::read_n_bytes` meets its contract. Assumes nothing.
 use native.Mathlib.Omega.{arith}
 use Rattle.replay.proofs.Turns.{front}
 use borrow.Author.Needs.{needs}

@@ -1,3 +1,4 @@
+-- `replay::read_n_f32s` meets its contract. Each chunk is at least one float, so what is left falls. Assumes nothing.
 use Prim.Native.Nat.{_-_, _≤_}
 use mathlib.Core.Path.{_≡_}
 use native.Mathlib.Omega.{arith}

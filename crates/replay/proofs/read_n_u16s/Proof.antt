@@ -1,3 +1,4 @@
+-- `replay::read_n_u16s` meets its contract. The numbers are counted up. Assumes nothing.
 use Prim.Native.Nat.{_-_}
 use mathlib.Core.Path.{_≡_}
 use native.Mathlib.Omega.{arith}

@@ -1,3 +1,4 @@
+-- `replay::skip` meets its contract. Each turn reads at least one byte. Assumes nothing.
 use borrow.Author.Needs.{needs}
 use Prim.Native.Nat.{_-_, _≤_}
 use native.Mathlib.Omega.{arith}

@@ -1,3 +1,4 @@
+-- `replay_bursts::walk` meets its contract. A burst has a sample, so there are no more bursts than samples. Assumes nothing.
 use Prim.Native.Nat.{_-_}
 use lib.ListN.{length}
 use borrow.Author.Needs.{needs}
