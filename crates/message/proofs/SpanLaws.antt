@@ -17,13 +17,13 @@ use Rattle.ledger.specs.Demand3.{message}
 use Rattle.ledger.specs.Frames.{Frame, rankOf, rssiOf, timeOf}
 use Rattle.ledger.specs.Merge.{endAfter, estimate, finished, frameGapS, has, knownOf, later, louder, lower, lowestLater, meet, merge, noSpan, openEntry, orElse, place, quietS, spanOf, threeRanks}
 use Rattle.message.specs.Messages.{frameOf, spanGiven, spansGiven}
-use Rattle.ledger.specs.declared.FrameSpan.{FrameSpan}
-use Rattle.ledger.specs.declared.SigfoxMessage.{SigfoxMessage}
+use Rattle.record.specs.declared.FrameSpan.{FrameSpan}
+use Rattle.record.specs.declared.SigfoxMessage.{SigfoxMessage}
 use Rattle.ledger.specs.declared.Pending.{Pending}
-use Rattle.ledger.specs.declared.UplinkFrame.{UplinkFrame}
-use Rattle.ledger.specs.declared.Reception.{Reception}
-use Rattle.ledger.specs.declared.FirstFrameEnd.{FirstFrameEnd}
-use Rattle.ledger.specs.declared.FirstFrameEnd.the-variants.{Known, Unknown}
+use Rattle.frame.specs.declared.UplinkFrame.{UplinkFrame}
+use Rattle.record.specs.declared.Reception.{Reception}
+use Rattle.record.specs.declared.FirstFrameEnd.{FirstFrameEnd}
+use Rattle.record.specs.declared.FirstFrameEnd.the-variants.{Known, Unknown}
 
 -- the check's value for a place outside an array
 abbrev pub outside : FrameSpan

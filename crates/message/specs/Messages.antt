@@ -8,9 +8,9 @@ use Rattle.limits.specs.Limits.{farthestS, badNumber}
 use Rattle.ledger.specs.Merge.{noSpan, estimate}
 use Rattle.message.specs.declared.Estimated.{Estimated}
 use Rattle.message.specs.declared.Estimated.the-variants.{Refused, End}
-use Rattle.ledger.specs.declared.UplinkFrame.{UplinkFrame}
-use Rattle.ledger.specs.declared.Reception.{Reception}
-use Rattle.ledger.specs.declared.FrameSpan.{FrameSpan}
+use Rattle.frame.specs.declared.UplinkFrame.{UplinkFrame}
+use Rattle.record.specs.declared.Reception.{Reception}
+use Rattle.record.specs.declared.FrameSpan.{FrameSpan}
 use Rattle.ledger.specs.Frames.{Frame}
 use Rattle.message.specs.declared.LaterSpan.{LaterSpan}
 use Rattle.message.specs.declared.LaterSpan.the-variants.{Nothing, Is}

@@ -8,12 +8,12 @@ ghost use Rattle.ledger.specs.Frames.{Frame};
 ghost use Rattle.ledger.specs.Merge.{noSpan, spanOf, has, place, meet, threeRanks, endAfter, louder, openEntry, merge, expires, later, lower, lowestLater, endBefore, estimate, orElse, finished};
 ghost use Rattle.ledger.specs.Causes.{spansFit, entryFits, spanNan, endNan, entryNan};
 ghost use Rattle.message.specs.Messages.{frameOf, spanIn, isTime, spanGiven, spansGiven, estimateAnswer};
-use ledger::FirstFrameEnd;
-use ledger::FrameSpan;
+use frame::UplinkFrame;
 use ledger::Pending;
-use ledger::Reception;
-use ledger::SigfoxMessage;
-use ledger::UplinkFrame;
+use record::FirstFrameEnd;
+use record::FrameSpan;
+use record::Reception;
+use record::SigfoxMessage;
 
 // The rank of a place that holds no span.
 pub const NO_SPAN: u8 = 255;

@@ -24,10 +24,10 @@ use Rattle.message.specs.Messages.{frameOf}
 use Rattle.starts.proofs.Places.{take-store}
 use Rattle.waiting.specs.Waiting.{Checked, Counters, Seen, blank, cleared, distinct, findKey, keyIs, keyNumber, numberIn, placeAfter, waitingOf}
 use Rattle.ledger.specs.declared.Pending.{Pending}
-use Rattle.ledger.specs.declared.UplinkFrame.{UplinkFrame}
-use Rattle.ledger.specs.declared.Reception.{Reception}
-use Rattle.ledger.specs.declared.SingleBit.the-variants.{Absent}
-use Rattle.ledger.specs.declared.FirstFrameEnd.the-variants.{Known}
+use Rattle.frame.specs.declared.UplinkFrame.{UplinkFrame}
+use Rattle.record.specs.declared.Reception.{Reception}
+use Rattle.frame.specs.declared.SingleBit.the-variants.{Absent}
+use Rattle.record.specs.declared.FirstFrameEnd.the-variants.{Known}
 use Rattle.waiting.specs.declared.Waiting.{Waiting}
 use Rattle.waiting.specs.declared.Looked.{Looked}
 use Rattle.waiting.specs.declared.Condition.{Condition}

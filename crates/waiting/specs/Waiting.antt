@@ -14,9 +14,9 @@ use Rattle.ledger.specs.Ledger.{byEntry, others}
 use Rattle.ledger.specs.Causes.{mostWaiting, unlike, allFit, anyNan}
 use Rattle.ledger.specs.Room.{openPlaces}
 use Rattle.ledger.specs.declared.Pending.{Pending}
-use Rattle.ledger.specs.declared.FrameSpan.{FrameSpan}
-use Rattle.ledger.specs.declared.SingleBit.the-variants.{Absent}
-use Rattle.ledger.specs.declared.FirstFrameEnd.the-variants.{Unknown}
+use Rattle.record.specs.declared.FrameSpan.{FrameSpan}
+use Rattle.frame.specs.declared.SingleBit.the-variants.{Absent}
+use Rattle.record.specs.declared.FirstFrameEnd.the-variants.{Unknown}
 use Rattle.waiting.specs.declared.Waiting.{Waiting}
 use Rattle.waiting.specs.declared.Looked.{Looked}
 use Rattle.waiting.specs.declared.Condition.{Condition}

@@ -12,13 +12,13 @@ ghost use Rattle.ledger.specs.Causes.{anyNan};
 ghost use Rattle.ledger.specs.Room.{openPlaces};
 ghost use Rattle.message.specs.Messages.{frameOf};
 ghost use Rattle.waiting.specs.Waiting.{waitingOf, keyNumber, keyIs, findKey, blank, leaves, placeAfter, cleared, numberIn, distinct, Seen, waitingOk, Checked};
-use ledger::FirstFrameEnd;
-use ledger::FrameSpan;
+use frame::SingleBit;
+use frame::UplinkFrame;
 use ledger::Pending;
-use ledger::Reception;
-use ledger::SigfoxMessage;
-use ledger::SingleBit;
-use ledger::UplinkFrame;
+use record::FirstFrameEnd;
+use record::FrameSpan;
+use record::Reception;
+use record::SigfoxMessage;
 
 // A state in order has no more.
 const MOST_WAITING: usize = 128;

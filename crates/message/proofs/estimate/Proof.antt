@@ -3,7 +3,7 @@ use mathlib.Core.Path.{_∙_, _≡_, ap, sym}
 use lib.ListN.{length}
 use borrow.Author.Needs.{needs}
 use Rattle.ledger.specs.Merge.{knownOf}
-use Rattle.ledger.specs.declared.FirstFrameEnd.the-variants.{Known}
+use Rattle.record.specs.declared.FirstFrameEnd.the-variants.{Known}
 use Rattle.message.proofs.SpanLaws.{estimate-is, length-mapped}
 use Rattle.message.specs.Messages.{spanIn}
 use Rattle.message.proofs.estimate.Statement.{statement}
