@@ -30,7 +30,7 @@ pub const SYNC: usize = 16;
 const KINDS: usize = 18;
 
 // For ranks 0, 1, 2: the control frame's, then those of classes 0 to 4.
-const FRAME_TYPES: [u16; 18] = [
+pub const FRAME_TYPES: [u16; 18] = [
     0xaf67,
     0xa06b,
     0xa08d,
