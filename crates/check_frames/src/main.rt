@@ -5,6 +5,7 @@ use frame::DecodedUplink;
 use frame::Outcome;
 use frame::Repair;
 use frame::SingleBit;
+use frame::bodies::MOST_PAYLOAD;
 use frame::header::UplinkFields;
 use frame::header::UplinkHeader;
 use frame::kinds::FRAME_TYPES;
@@ -157,7 +158,7 @@ fn header_of(fields: UplinkFields, n: usize, out: &mut [u8]) -> UplinkHeader
 fn plain_of(v: Vector) -> Plain {
     let mut bytes = [0u8; 26];
     let n = v.n;
-    if 12 < n {
+    if MOST_PAYLOAD < n {
         return Plain { bytes: bytes, n: 0 };
     }
     let bit = v.bit;
@@ -300,7 +301,7 @@ fn right_vector(rank: u8, n: usize, bit: SingleBit) -> Vector {
 // Every payload length, so all size classes, in a rank.
 fn data_frames(rank: u8) {
     let mut n: usize = 0;
-    while n <= 12 {
+    while n <= MOST_PAYLOAD {
         run(right_vector(rank, n, SingleBit::Absent));
         n += 1;
     }
