@@ -7,3 +7,5 @@ pub mod Tuned
 pub mod Listened
 pub mod Settled
 pub mod Framing
+pub mod Good
+pub mod Grown

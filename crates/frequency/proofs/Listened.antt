@@ -66,7 +66,7 @@ one-more : (b : Bool) (x : Reading) (rest : List Reading) (n : ℕ) → length r
 one-more true x rest n h = omega arith
 one-more false x rest n h = omega arith
 
-few-readings : (rate : ℕ) (step : Float) (more : Bool) (tuned f at : ℕ) (raw : List ℕ) → length (readingsFrom rate step more tuned f at raw) ≤ length raw
+pub few-readings : (rate : ℕ) (step : Float) (more : Bool) (tuned f at : ℕ) (raw : List ℕ) → length (readingsFrom rate step more tuned f at raw) ≤ length raw
 unfolding readingsFrom
 few-readings rate step more tuned f at [] = omega arith
 few-readings rate step more tuned f at (v ∷ raw) =

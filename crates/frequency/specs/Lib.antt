@@ -4,3 +4,4 @@ pub mod Lent
 pub mod Order
 pub mod Calls
 pub mod Waiting
+pub mod Grown

@@ -2,3 +2,4 @@
 pub mod Constants
 pub mod Frames
 pub mod Framed
+pub mod Signed

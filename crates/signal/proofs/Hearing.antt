@@ -14,7 +14,7 @@ use Rattle.signal.specs.declared.Signal.{Signal}
 use Rattle.signal.specs.Order.{Index}
 use Rattle.signal.specs.Heard.{aboveDb, known, pickSignal, loud, soft, hear, heard}
 
-later : (n : ℕ) (s : Sample) → Index n s → Index (n + 1) s
+pub later : (n : ℕ) (s : Sample) → Index n s → Index (n + 1) s
 later n Never h = tt
 later n (At s) h = omega arith
 

@@ -2,3 +2,4 @@
 pub mod Constants
 pub mod Indices
 pub mod Hearing
+pub mod Kept
