@@ -2,3 +2,6 @@
 pub mod PartLaws
 pub mod DecodingLaws
 pub mod RecordLaws
+pub mod JoinLaws
+pub mod ReaderLaws
+pub mod ReadBack
