@@ -82,3 +82,124 @@ frame-read f r h =
       end = read-end x h;
       start = read-start x h;
     }
+
+-- ---- messages
+
+abbrev pub messageFields : SigfoxMessage → Fields
+messageFields m = record {
+  head = messageHead m;
+  device = m .«device_id»;
+  counter = m .counter;
+  payload = m .payload;
+  auth = m .auth;
+  ppm = m .«clock_error_ppm»;
+  rssi = m .rssi;
+  rank0 = spanOf m 0 .rank;
+  rank1 = spanOf m 1 .rank;
+  rank2 = spanOf m 2 .rank;
+  time = m .time;
+  end = rec.endOf (m .«first_frame_end»);
+  spans = spanBytes (spanOf m 0) ++ (spanBytes (spanOf m 1) ++ spanBytes (spanOf m 2));
+  start = m .start;
+}
+
+-- a span's time as it is written: 0 where there is no span
+abbrev pub written : FrameSpan → Float → Float
+written s t = cond (eqb (s .rank) noRank) (ofBits binary64 0) t
+
+module _ (s : FrameSpan) where
+  span-time : T (fits binary64 (s .time)) → ofBits binary64 (numberAt 8 (spanBytes s) 0) ≡ written s (s .time)
+  unfolding spanBytes timeBytes numberAt numberOf
+  span-time h = go (eqb (s .rank) noRank)
+    where
+      go : (b : Bool) → ofBits binary64 (numberAt 8 (cond b (spare 16) (timeBytes (s .time) (s .end))) 0) ≡ cond b (ofBits binary64 0) (s .time)
+      go true = refl
+      go false =
+          ap (ofBits binary64)
+          (number-of-part (bytesOf 8 (bitsOf binary64 (s .time))) (bytesOf 8 (bitsOf binary64 (s .end)) ∷ []) 0 0 8 (bitsOf binary64 (s .time)) refl refl
+          (pattern-small binary64 8 (s .time) refl h))
+          ∙ ofBits-toBits binary64 (s .time) h
+
+  span-end : T (fits binary64 (s .end)) → ofBits binary64 (numberAt 8 (spanBytes s) 8) ≡ written s (s .end)
+  unfolding spanBytes timeBytes numberAt numberOf
+  span-end h = go (eqb (s .rank) noRank)
+    where
+      go : (b : Bool) → ofBits binary64 (numberAt 8 (cond b (spare 16) (timeBytes (s .time) (s .end))) 8) ≡ cond b (ofBits binary64 0) (s .end)
+      go true = refl
+      go false =
+          ap (ofBits binary64)
+          (number-of-part (bytesOf 8 (bitsOf binary64 (s .time))) (bytesOf 8 (bitsOf binary64 (s .end)) ∷ []) 1 8 8 (bitsOf binary64 (s .end))
+          (omega (arith, bytes-length 8 (bitsOf binary64 (s .time)))) refl (pattern-small binary64 8 (s .end) refl h))
+          ∙ ofBits-toBits binary64 (s .end) h
+
+module _ (m : SigfoxMessage) (h : Held (messageFields m)) where
+  -- span i's bytes among those of the spans
+  among : (i o : ℕ) → i < 3 → o + 8 ≤ 16 → numberAt 8 (messageFields m .spans) (16 * i + o) ≡ numberAt 8 (spanBytes (spanOf m i)) o
+  among zero o b k = number-part (spanBytes (spanOf m 0)) (spanBytes (spanOf m 1) ∷ spanBytes (spanOf m 2) ∷ []) 0 (16 * 0 + o) 8 o (omega arith) (omega (arith, length-span (spanOf m 0)))
+  among (suc zero) o b k =
+      number-part (spanBytes (spanOf m 0)) (spanBytes (spanOf m 1) ∷ spanBytes (spanOf m 2) ∷ []) 1 (16 * 1 + o) 8 o
+      (omega (arith, length-span (spanOf m 0))) (omega (arith, length-span (spanOf m 1)))
+  among (suc (suc zero)) o b k =
+      number-part (spanBytes (spanOf m 0)) (spanBytes (spanOf m 1) ∷ spanBytes (spanOf m 2) ∷ []) 2 (16 * 2 + o) 8 o
+      (omega (arith, length-span (spanOf m 0), length-span (spanOf m 1))) (omega (arith, length-span (spanOf m 2)))
+  among (suc (suc (suc i))) o b k = absurd (not-suc-le-zero (le-of-suc-le-suc (le-of-suc-le-suc (le-of-suc-le-suc b))))
+
+  in-span : (i o at : ℕ) → i < 3 → o + 8 ≤ 16 → at ≡ 64 + (16 * i + o) → numberAt 8 (messageRecord m) at ≡ numberAt 8 (spanBytes (spanOf m i)) o
+  unfolding messageRecord
+  in-span i o at b k e = at-spans (messageFields m) h 8 (16 * i + o) at e (omega arith) ∙ among i o b k
+
+  rank-of-span : (i : ℕ) → i < 3 → spanRankOf (messageRecord m) i ≡ spanOf m i .rank
+  unfolding messageRecord rankBytes
+  rank-of-span zero b = read-span-rank (messageFields m) h 0 (omega arith)
+  rank-of-span (suc zero) b = read-span-rank (messageFields m) h 1 (omega arith)
+  rank-of-span (suc (suc zero)) b = read-span-rank (messageFields m) h 2 (omega arith)
+  rank-of-span (suc (suc (suc i))) b = absurd (not-suc-le-zero (le-of-suc-le-suc (le-of-suc-le-suc (le-of-suc-le-suc b))))
+
+  time-of-span : (i : ℕ) → i < 3 → T (fits binary64 (spanOf m i .time)) → spanTimeOf (messageRecord m) i ≡ written (spanOf m i) (spanOf m i .time)
+  time-of-span i b t = ap (ofBits binary64) (in-span i 0 (64 + 16 * i) b (omega arith) (omega arith)) ∙ span-time (spanOf m i) t
+
+  end-of-span : (i : ℕ) → i < 3 → T (fits binary64 (spanOf m i .end)) → spanEndOf (messageRecord m) i ≡ written (spanOf m i) (spanOf m i .end)
+  end-of-span i b t = ap (ofBits binary64) (in-span i 8 (72 + 16 * i) b (omega arith) (omega arith)) ∙ span-end (spanOf m i) t
+
+pub record MessageRead (m : SigfoxMessage) (l : List ℕ) : Type 0 where
+  pub kind : kindOf l ≡ messageKind
+  pub mask : rankOf l ≡ maskOf m
+  pub flags : flagsOf l ≡ messageFlags m
+  pub payload-len : payloadLenOf l ≡ m .«payload_len»
+  pub auth-len : authLenOf l ≡ m .«auth_len»
+  pub device : deviceOf l ≡ m .«device_id»
+  pub counter : counterOf l ≡ m .counter
+  pub payload : payloadOf l ≡ m .payload
+  pub auth : authOf l ≡ m .auth
+  pub ppm : ppmOf l ≡ m .«clock_error_ppm»
+  pub rssi : rssiOf l ≡ m .rssi
+  pub time : timeOf l ≡ m .time
+  pub first-frame-end : endOf l ≡ rec.endOf (m .«first_frame_end»)
+  pub start : startOf l ≡ m .start
+  pub span-rank : (i : ℕ) → i < 3 → spanRankOf l i ≡ spanOf m i .rank
+  pub span-start : (i : ℕ) → i < 3 → T (fits binary64 (spanOf m i .time)) → spanTimeOf l i ≡ written (spanOf m i) (spanOf m i .time)
+  pub span-stop : (i : ℕ) → i < 3 → T (fits binary64 (spanOf m i .end)) → spanEndOf l i ≡ written (spanOf m i) (spanOf m i .end)
+
+pub message-read : (m : SigfoxMessage) → Held (messageFields m) → MessageRead m (messageRecord m)
+unfolding messageRecord rec.headBytes
+message-read m h =
+    let x = messageFields m in
+    record {
+      kind = refl;
+      mask = refl;
+      flags = refl;
+      payload-len = refl;
+      auth-len = refl;
+      device = read-device x h;
+      counter = read-counter x h;
+      payload = read-payload x h;
+      auth = read-auth x h;
+      ppm = read-ppm x h;
+      rssi = read-rssi x h;
+      time = read-time x h;
+      first-frame-end = read-end x h;
+      start = read-start x h;
+      span-rank = rank-of-span m h;
+      span-start = time-of-span m h;
+      span-stop = end-of-span m h;
+    }
