@@ -6,6 +6,7 @@ use Prim.Native.Nat.{ℕ, zero, suc, _+_, _*_, _≤_, _<_}
 use native.Mathlib.Nat.{not-suc-le-zero, le-of-suc-le-suc}
 use native.Mathlib.Omega.{arith}
 use lib.Dec.{T, eqb}
+use lib.ListN.{getD}
 use lib.Ieee.{Float, binary64, fits, ofBits}
 use lib.Ieee.Bits.{ofBits-toBits}
 use Rattle.endian.specs.Bytes.{bytesOf, bitsOf, numberOf, numberAt}
@@ -42,6 +43,13 @@ frameFields f r = record {
   start = r .start;
 }
 
+no-span : (i : ℕ) → i < 3 → getD (rankBytes noRank noRank noRank) i 0 ≡ noRank
+unfolding rankBytes
+no-span zero b = refl
+no-span (suc zero) b = refl
+no-span (suc (suc zero)) b = refl
+no-span (suc (suc (suc i))) b = absurd (not-suc-le-zero (le-of-suc-le-suc (le-of-suc-le-suc (le-of-suc-le-suc b))))
+
 pub record FrameRead (f : UplinkFrame) (r : Reception) (l : List ℕ) : Type 0 where
   pub kind : kindOf l ≡ frameKind
   pub rank : rankOf l ≡ f .rank
@@ -59,6 +67,7 @@ pub record FrameRead (f : UplinkFrame) (r : Reception) (l : List ℕ) : Type 0 w
   pub time : timeOf l ≡ r .time
   pub end : endOf l ≡ r .end
   pub start : startOf l ≡ r .start
+  pub span-rank : (i : ℕ) → i < 3 → spanRankOf l i ≡ noRank
 
 pub frame-read : (f : UplinkFrame) (r : Reception) → Held (frameFields f r) → FrameRead f r (frameRecord f r)
 unfolding frameRecord rec.headBytes
@@ -81,6 +90,7 @@ frame-read f r h =
       time = read-time x h;
       end = read-end x h;
       start = read-start x h;
+      span-rank = λ i b. read-span-rank x h i (omega arith) ∙ no-span i b;
     }
 
 -- ---- messages
@@ -167,6 +177,8 @@ pub record MessageRead (m : SigfoxMessage) (l : List ℕ) : Type 0 where
   pub flags : flagsOf l ≡ messageFlags m
   pub payload-len : payloadLenOf l ≡ m .«payload_len»
   pub auth-len : authLenOf l ≡ m .«auth_len»
+  pub repair : repairOf l ≡ 0
+  pub place : placeOf l ≡ 0
   pub device : deviceOf l ≡ m .«device_id»
   pub counter : counterOf l ≡ m .counter
   pub payload : payloadOf l ≡ m .payload
@@ -190,6 +202,8 @@ message-read m h =
       flags = refl;
       payload-len = refl;
       auth-len = refl;
+      repair = refl;
+      place = read-place x h;
       device = read-device x h;
       counter = read-counter x h;
       payload = read-payload x h;
