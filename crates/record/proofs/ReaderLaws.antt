@@ -3,11 +3,11 @@ use mathlib.Core.Path.{_≡_, refl, ap, _∙_}
 use mathlib.Core.List.{List, [], _∷_}
 use Prim.Native.Nat.{ℕ, _+_, _^_, _≤_, _<_}
 use native.Mathlib.Omega.{arith}
-use lib.Dec.{T}
+use lib.Dec.{T, lit<}
 use lib.ListN.{length, getD}
-use lib.IntN.{ℤ}
+use lib.IntN.{ℤ, negsuc}
 use lib.Signed.{mag}
-use lib.Ieee.{Float, binary32, binary64, fits, ofBits}
+use lib.Ieee.{Float, binary32, binary64, fits, nan, ofBits}
 use lib.Ieee.Bits.{ofBits-toBits}
 use Rattle.endian.specs.Bytes.{bytesOf, bitsOf, signedBits, signedOf, numberAt}
 use Rattle.endian.proofs.Numbers.{bytes-length}
@@ -187,3 +187,39 @@ module _ (x : Fields) (h : Held x) where
   read-auth =
       part (headBytes (x .head)) (parts x) 1 5 20 28 (omega (arith, n1)) (omega (arith, n2))
       ∙ whole-part (bytesOf 4 (x .device)) later 4 20 5 (omega (arith, bytes-length 4 (x .device), bytes-length 2 (x .counter), h .payload-held)) (h .auth-held)
+
+-- ---- fields at the edges of their widths are held
+
+abbrev edgeFields : Fields
+edgeFields = record {
+  head = record { kind = 1; rank = 2; flags = 31; «payload_len» = 12; «auth_len» = 5; repair = 4; place = 65535 };
+  device = 0xffffffff;
+  counter = 65535;
+  payload = spare 12;
+  auth = spare 5;
+  ppm = negsuc 0x7ffffffe;
+  rssi = ofBits binary32 0x7f7fffff;
+  rank0 = 255;
+  rank1 = 255;
+  rank2 = 255;
+  time = ofBits binary64 0x7fefffffffffffff;
+  end = nan;
+  spans = spare 48;
+  start = 0xffffffffffffffff;
+}
+
+edge-held : Held edgeFields
+unfolding ofBits fits
+edge-held = record {
+  place-held = lit< tt;
+  device-held = lit< tt;
+  counter-held = lit< tt;
+  payload-held = refl;
+  auth-held = refl;
+  ppm-held = lit< tt;
+  rssi-held = tt;
+  time-held = tt;
+  end-held = tt;
+  spans-held = refl;
+  start-held = lit< tt;
+}
