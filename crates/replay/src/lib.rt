@@ -26,6 +26,17 @@ pub struct Kept {
     pub count: usize,
 }
 
+// A frame's span in the input, and whether all of it was there.
+pub struct Span {
+    pub whole: bool,
+    pub rank: u8,
+    pub time: f64,
+    pub end: f64,
+}
+
+// The rank that says that there is no span in a place.
+pub const NO_RANK: u8 = 255;
+
 // The next bytes of standard input, where a case starts.
 pub fn read_head(bytes: &mut [u8]) -> Head {
     let n = io::read_full(STDIN_FILENO, bytes);
@@ -192,6 +203,26 @@ pub fn read_u16s(out: &mut [u16]) -> Kept
         };
     }
     read_n_u16s(endian::get_u32(&count, 0) as usize, out)
+}
+
+// A rank, a time and an end in standard input; where they aren't wanted, no span.
+pub fn read_span(wanted: bool) -> Span {
+    if wanted {
+        let mut part = [0u8; 17];
+        let whole = read_part(&mut part);
+        return Span {
+            whole: whole,
+            rank: part[0],
+            time: endian::get_f64(&part, 1),
+            end: endian::get_f64(&part, 9),
+        };
+    }
+    Span {
+        whole: true,
+        rank: NO_RANK,
+        time: 0.0,
+        end: 0.0,
+    }
 }
 
 // Reads over the next n bytes; false where the input ends first.
