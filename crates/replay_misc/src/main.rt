@@ -3,6 +3,7 @@ use bursts::Level;
 use cfo::StepHz;
 use coding::Coded;
 use frame::SingleBit;
+use frame::control::ControlMessage;
 use frame::header::UplinkFields;
 use frame::header::UplinkHeader;
 use replay::Head;
@@ -103,6 +104,55 @@ fn uplink_header_row() -> bool {
     print_header(header, &out)
 }
 
+// Kind, voltages and temperature of a control message.
+fn print_control(kind: &[u8], idle: u16, tx: u16, temperature: f64) {
+    replay::print(kind);
+    replay::print_number(idle as u64);
+    replay::print(b" ");
+    replay::print_number(tx as u64);
+    replay::print(b" ");
+    replay::print_f64(temperature);
+}
+
+fn print_message(m: ControlMessage) -> bool {
+    match m {
+        ControlMessage::Unknown => {
+            replay::print(b"control -");
+            replay::print_end()
+        }
+        ControlMessage::KeepAlive {
+            voltage_idle_mv,
+            voltage_tx_mv,
+            temperature_c,
+        } => {
+            print_control(b"control 0 ", voltage_idle_mv, voltage_tx_mv, temperature_c);
+            replay::print(b" -");
+            replay::print_end()
+        }
+        ControlMessage::DownlinkConfirmation {
+            voltage_idle_mv,
+            voltage_tx_mv,
+            temperature_c,
+            downlink_rssi_dbm,
+        } => {
+            print_control(b"control 1 ", voltage_idle_mv, voltage_tx_mv, temperature_c);
+            replay::print(b" ");
+            replay::print_signed(downlink_rssi_dbm);
+            replay::print_end()
+        }
+    }
+}
+
+fn decode_control_row() -> bool {
+    let mut payload = [0u8; 4096];
+    let kept = replay::read_bytes(&mut payload);
+    if !kept.whole {
+        return replay::print_short();
+    }
+    let n = kept.count;
+    print_message(frame::control::decode_control(&payload[..n]))
+}
+
 fn cfo_step_hz_row() -> bool {
     let mut head = [0u8; 5];
     if !replay::read_part(&mut head) {
@@ -189,6 +239,7 @@ fn row(n: u8) -> bool {
         1 => coding_row(true),
         2 => coding_row(false),
         3 => uplink_header_row(),
+        4 => decode_control_row(),
         5 => cfo_step_hz_row(),
         6 => cfo_signed_row(),
         7 => trig_row(),
