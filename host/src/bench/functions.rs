@@ -26,8 +26,14 @@ fn select64(xs: &[f64], k: usize) -> f64 {
 pub fn rows() -> Vec<Row> {
     let half_db = [1000, 4000].map(|rate| floor_row("half dB", load::samples(rate)));
     let fine = [1000, 4000].map(|rate| floor_row("any", load::fine_samples(rate)));
-    let medians = [25, 250, 7500].map(median_row);
-    half_db.into_iter().chain(fine).chain(medians).collect()
+    let medians = [25, 250, 8000].map(|n| median_row("steps", load::readings(n)));
+    let fine_median = median_row("any", load::fine_readings(8000));
+    half_db
+        .into_iter()
+        .chain(fine)
+        .chain(medians)
+        .chain([fine_median])
+        .collect()
 }
 
 fn floor_row(kind: &str, dbm: Vec<f32>) -> Row {
@@ -41,10 +47,12 @@ fn floor_row(kind: &str, dbm: Vec<f32>) -> Row {
     )
 }
 
-fn median_row(n: usize) -> Row {
-    let hz = load::readings(n);
-    assert_eq!(select64(&hz, n / 2), median(&hz));
-    row(format!("median of {n}"), hz, median, move |hz| select64(hz, n / 2))
+fn median_row(kind: &str, hz: Vec<f64>) -> Row {
+    let k = hz.len() / 2;
+    assert_eq!(select64(&hz, k), median(&hz));
+    row(format!("median of {}, {kind}", hz.len()), hz, median, move |hz| {
+        select64(hz, k)
+    })
 }
 
 /// One list, so many times.

@@ -89,3 +89,10 @@ pub fn readings(n: usize) -> Vec<f64> {
     let mut reading = || 868_130_000.0 + f64::from(rng.range(0, 150) as u16) * 122.070_312_5 / 0.93;
     (0..n).map(|_| reading()).collect()
 }
+
+/// Frequencies with hardly two alike.
+pub fn fine_readings(n: usize) -> Vec<f64> {
+    let mut rng = Rng::new(7);
+    let mut reading = || 868_000_000.0 + f64::from(rng.range(0, 1_000_000_000) as u32) / 4096.0;
+    (0..n).map(|_| reading()).collect()
+}
