@@ -4,6 +4,8 @@ pub mod Frames
 pub mod Merge
 pub mod Ledger
 pub mod Scanning
+pub mod Demodulation
+pub mod Records
 pub mod Causes
 pub mod Demand3
 pub mod History

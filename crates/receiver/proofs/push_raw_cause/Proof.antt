@@ -8,10 +8,10 @@ use borrow.Author.Needs.{needs}
 use Rattle.ledger.proofs.Raw.{raw-valid}
 use Rattle.ledger.specs.Ledger.{dbmOf}
 use Rattle.limits.specs.Samples.{allDbm}
-use Rattle.state.proofs.CauseLaws.{below-all, given-fits, push-first, push-later}
-use Rattle.state.specs.State.{givenCause, lentOf}
-use Rattle.state.proofs.push_raw_cause.Statement.{statement}
-use Rattle.state.proofs.push_raw_cause.Tie as tie
+use Rattle.receiver.proofs.CauseLaws.{below-all, given-fits, push-first, push-later}
+use Rattle.receiver.specs.State.{givenCause, lentOf}
+use Rattle.receiver.proofs.push_raw_cause.Statement.{statement}
+use Rattle.receiver.proofs.push_raw_cause.Tie as tie
 
 given-cause-requires : tie.Need-given-cause-requires
 given-cause-requires c κs = search needs

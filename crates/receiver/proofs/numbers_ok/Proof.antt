@@ -2,9 +2,9 @@
 use Prim.Native.Nat.{_<_, _^_}
 use native.Mathlib.Omega.{arith}
 use borrow.Author.Needs.{needs}
-use Rattle.state.proofs.StateLaws.{numbers-in, numbers-out}
-use Rattle.state.proofs.numbers_ok.Statement.{statement}
-use Rattle.state.proofs.numbers_ok.Tie as tie
+use Rattle.receiver.proofs.StateLaws.{numbers-in, numbers-out}
+use Rattle.receiver.proofs.numbers_ok.Statement.{statement}
+use Rattle.receiver.proofs.numbers_ok.Tie as tie
 
 capacity-requires : tie.Need-capacity-requires
 capacity-requires c κs = search needs

@@ -2,11 +2,11 @@
 use mathlib.Core.Path.{_∙_, sym}
 use native.Mathlib.Omega.{arith}
 use borrow.Author.Needs.{needs}
-use Rattle.state.proofs.CauseLaws.{given-long, given-none, given-rate, given-short}
-use Rattle.state.proofs.StateLaws.{not-false, not-true}
-use Rattle.state.specs.State.{lentOf}
-use Rattle.state.proofs.given_cause.Statement.{statement}
-use Rattle.state.proofs.given_cause.Tie as tie
+use Rattle.receiver.proofs.CauseLaws.{given-long, given-none, given-rate, given-short}
+use Rattle.receiver.proofs.StateLaws.{not-false, not-true}
+use Rattle.receiver.specs.State.{lentOf}
+use Rattle.receiver.proofs.given_cause.Statement.{statement}
+use Rattle.receiver.proofs.given_cause.Tie as tie
 
 rate-ok-requires : tie.Need-rate-ok-requires
 rate-ok-requires c κs = search needs

@@ -7,7 +7,7 @@ ghost use lib.Dec.{leb, ltb};
 ghost use Rattle.limits.specs.Limits.{longestStream};
 ghost use Rattle.ledger.specs.Ledger.{byEntry, capacity, fresh, push, pushRaw, flush};
 ghost use Rattle.ledger.specs.Causes.{tooShort, cause};
-ghost use Rattle.state.specs.State.{stateOf, ledgerOf, countsOf, lentOf, givenCause, stateCause, Known};
+ghost use Rattle.receiver.specs.State.{stateOf, ledgerOf, countsOf, lentOf, givenCause, stateCause, Known};
 use starts::Starts;
 use waiting::Waiting;
 
@@ -22,6 +22,13 @@ pub struct SigfoxReceiver {
     pub unscanned: usize,
     pub starts: Starts,
     pub waiting: Waiting,
+}
+
+// A call's answer: 0, how many records it wrote and the receiver, or the number of its refusal, no records and the receiver as it was.
+pub struct Received {
+    pub refused: u8,
+    pub count: usize,
+    pub receiver: SigfoxReceiver,
 }
 
 // Lengths of what is lent: samples, events, scratch.

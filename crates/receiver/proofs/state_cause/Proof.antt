@@ -4,10 +4,10 @@ use Prim.Native.Nat.{_<_, _^_}
 use native.Mathlib.Omega.{arith}
 use borrow.Author.Needs.{needs}
 use Rattle.limits.specs.Limits.{badNumber}
-use Rattle.state.proofs.CauseLaws.{state-fits, state-nan, state-order, state-stream, state-waiting}
-use Rattle.state.proofs.StateLaws.{not-false, not-true}
-use Rattle.state.proofs.state_cause.Statement.{statement}
-use Rattle.state.proofs.state_cause.Tie as tie
+use Rattle.receiver.proofs.CauseLaws.{state-fits, state-nan, state-order, state-stream, state-waiting}
+use Rattle.receiver.proofs.StateLaws.{not-false, not-true}
+use Rattle.receiver.proofs.state_cause.Statement.{statement}
+use Rattle.receiver.proofs.state_cause.Tie as tie
 
 in-order-requires : tie.Need-in-order-requires
 in-order-requires c κs = search needs

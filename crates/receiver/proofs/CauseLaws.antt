@@ -14,12 +14,12 @@ use Rattle.ledger.specs.Ledger.{byEntry, capacity, flush, push}
 use Rattle.ledger.specs.Room.{Below}
 use Rattle.limits.specs.Limits.{badNumber, badRate, badSample, badState, eventsSize, long, longestStream, scratch64, short, stream}
 use Rattle.limits.specs.Samples.{allDbm, rateOk}
-use Rattle.state.proofs.StateLaws.{numbers-fit, numbersOk, orderly-is}
-use Rattle.state.specs.State.{Known, countsOf, givenCause, ledgerOf, stateCause}
+use Rattle.receiver.proofs.StateLaws.{numbers-fit, numbersOk, orderly-is}
+use Rattle.receiver.specs.State.{Known, countsOf, givenCause, ledgerOf, stateCause}
 use Rattle.limits.specs.Limits as limits
 use Rattle.waiting.specs.Waiting as waiting
 use Rattle.waiting.specs.declared.Condition.{Condition}
-use Rattle.state.specs.declared.SigfoxReceiver.{SigfoxReceiver}
+use Rattle.receiver.specs.declared.SigfoxReceiver.{SigfoxReceiver}
 
 -- ---- three tests, then what follows
 

@@ -3,11 +3,11 @@ use mathlib.Core.Path.{_∙_, _≡_, refl, sym}
 use native.Mathlib.Omega.{arith}
 use borrow.Author.Needs.{needs}
 use Rattle.limits.specs.Limits.{badNumber, badState}
-use Rattle.state.proofs.CauseLaws.{flush-first, flush-later, given-fits}
-use Rattle.state.proofs.StateLaws.{not-false, not-true}
-use Rattle.state.specs.State.{givenCause, lentOf}
-use Rattle.state.proofs.flush_cause.Statement.{statement}
-use Rattle.state.proofs.flush_cause.Tie as tie
+use Rattle.receiver.proofs.CauseLaws.{flush-first, flush-later, given-fits}
+use Rattle.receiver.proofs.StateLaws.{not-false, not-true}
+use Rattle.receiver.specs.State.{givenCause, lentOf}
+use Rattle.receiver.proofs.flush_cause.Statement.{statement}
+use Rattle.receiver.proofs.flush_cause.Tie as tie
 
 given-cause-requires : tie.Need-given-cause-requires
 given-cause-requires c κs = search needs

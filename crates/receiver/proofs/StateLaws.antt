@@ -13,11 +13,11 @@ use Rattle.ledger.specs.Causes.{below, mostStarts, oldestS, orderly, since}
 use Rattle.ledger.specs.Ledger.{capacity, spaced}
 use Rattle.limits.specs.Limits.{longestStream}
 use Rattle.limits.specs.Samples.{allDbm}
-use Rattle.state.specs.State.{Known, countsOf, ledgerOf}
+use Rattle.receiver.specs.State.{Known, countsOf, ledgerOf}
 use Rattle.starts.specs.Starts as starts
 use Rattle.waiting.specs.Waiting as waiting
 use Rattle.waiting.specs.declared.Condition.{Condition}
-use Rattle.state.specs.declared.SigfoxReceiver.{SigfoxReceiver}
+use Rattle.receiver.specs.declared.SigfoxReceiver.{SigfoxReceiver}
 
 either : (b : Bool) → (b ≡ true) ⊎ (b ≡ false)
 either true = inl refl

@@ -14,8 +14,8 @@ use Rattle.ledger.specs.Causes.{Counts, Lent, tooShort, waitingAtPush, orderly,
 use Rattle.starts.specs.Starts as starts
 use Rattle.waiting.specs.Waiting as waiting
 use Rattle.waiting.specs.declared.Condition.{Condition}
-use Rattle.state.specs.declared.SigfoxReceiver.{SigfoxReceiver}
-use Rattle.state.specs.declared.Lengths.{Lengths}
+use Rattle.receiver.specs.declared.SigfoxReceiver.{SigfoxReceiver}
+use Rattle.receiver.specs.declared.Lengths.{Lengths}
 
 -- the ledger that a state and its sample buffer stand for
 abbrev pub ledgerOf : SigfoxReceiver → List Float → Ledger byEntry

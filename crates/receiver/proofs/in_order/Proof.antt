@@ -5,9 +5,9 @@ use native.Mathlib.Omega.{arith}
 use lib.Ieee.{nan}
 use lib.Seq.{length-take-le}
 use borrow.Author.Needs.{needs}
-use Rattle.state.proofs.StateLaws.{known-is, known-not, not-false, not-true, numbers-fit}
-use Rattle.state.proofs.in_order.Statement.{statement}
-use Rattle.state.proofs.in_order.Tie as tie
+use Rattle.receiver.proofs.StateLaws.{known-is, known-not, not-false, not-true, numbers-fit}
+use Rattle.receiver.proofs.in_order.Statement.{statement}
+use Rattle.receiver.proofs.in_order.Tie as tie
 
 numbers-ok-requires : tie.Need-numbers-ok-requires
 numbers-ok-requires c κs = search needs

@@ -4,11 +4,11 @@ use native.Mathlib.Omega.{arith}
 use lib.ListN.{length}
 use borrow.Author.Needs.{needs}
 use Rattle.limits.specs.Limits.{badSample}
-use Rattle.state.proofs.CauseLaws.{given-fits, push-first, push-later}
-use Rattle.state.proofs.StateLaws.{not-false, not-true}
-use Rattle.state.specs.State.{givenCause, lentOf}
-use Rattle.state.proofs.push_cause.Statement.{statement}
-use Rattle.state.proofs.push_cause.Tie as tie
+use Rattle.receiver.proofs.CauseLaws.{given-fits, push-first, push-later}
+use Rattle.receiver.proofs.StateLaws.{not-false, not-true}
+use Rattle.receiver.specs.State.{givenCause, lentOf}
+use Rattle.receiver.proofs.push_cause.Statement.{statement}
+use Rattle.receiver.proofs.push_cause.Tie as tie
 
 given-cause-requires : tie.Need-given-cause-requires
 given-cause-requires c κs = search needs

@@ -1,8 +1,8 @@
 -- `state::too_short` meets its contract. Assumes nothing.
 use mathlib.Core.Path.{refl}
 use borrow.Author.Needs.{needs}
-use Rattle.state.proofs.too_short.Statement.{statement}
-use Rattle.state.proofs.too_short.Tie as tie
+use Rattle.receiver.proofs.too_short.Statement.{statement}
+use Rattle.receiver.proofs.too_short.Tie as tie
 
 capacity-requires : tie.Need-capacity-requires
 capacity-requires c κs = search needs

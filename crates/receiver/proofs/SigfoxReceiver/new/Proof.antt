@@ -3,9 +3,9 @@ use mathlib.Core.Path.{refl}
 use borrow.Author.Needs.{needs}
 use Rattle.ledger.specs.Ledger.{fresh}
 use Rattle.starts.specs.Starts.{cleared}
-use Rattle.state.specs.State.{stateOf}
-use Rattle.state.proofs.SigfoxReceiver.new.Statement.{statement}
-use Rattle.state.proofs.SigfoxReceiver.new.Tie as tie
+use Rattle.receiver.specs.State.{stateOf}
+use Rattle.receiver.proofs.SigfoxReceiver.new.Statement.{statement}
+use Rattle.receiver.proofs.SigfoxReceiver.new.Tie as tie
 
 none-requires : tie.Need-none-requires
 none-requires c κs = search needs

@@ -1,0 +1,3 @@
+-- The definitions that the contracts of `receiver` cite.
+pub mod State
+pub mod Calls

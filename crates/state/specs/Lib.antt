@@ -1,2 +1,0 @@
--- The definitions that the contracts of `state` cite.
-pub mod State
