@@ -4,4 +4,4 @@ pub mod ClusterLaws
 pub mod SearchLaws
 pub mod Rows
 pub mod Count
-pub mod Edges
+pub mod Runs

@@ -4,4 +4,3 @@ pub mod Crc
 pub mod Register
 pub mod Convolution
 pub mod Answers
-pub mod Edges

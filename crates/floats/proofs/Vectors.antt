@@ -5,14 +5,9 @@ use Prim.Native.Nat.{ℕ, _+_, _-_, _*_, _≤_}
 use native.Mathlib.Omega.{arith}
 use lib.IntN.{pos, negsuc}
 use lib.Ieee.{nan, inf, binary64, round, neg, add, sub, mul, div, lt, eq, ofInt, ofBits, toBits, toUnsigned, toSigned}
-use Rattle.floats.specs.Floor.{floor, roundHalfUp}
+use Rattle.floats.specs.Floor.{floor}
 use Rattle.floats.specs.Trig.{reduce, series, cosine, sine, atanFrom, atan, magnitude, arctangent}
 use Rattle.floats.specs.Number.{num, near}
-
--- P8: 2.5 rounds to 3, -2.5 to -2
-up-half : (roundHalfUp (near 5 2) ≡ num 3) × (roundHalfUp (neg (near 5 2)) ≡ neg (num 2))
-unfolding roundHalfUp floor add round ofInt ofBits neg
-up-half = (refl, refl)
 
 floorBits : ℕ → ℕ
 floorBits n = toBits binary64 (floor (ofBits binary64 n))

@@ -7,5 +7,4 @@ pub mod Decode
 pub mod Splices
 pub mod Plain
 pub mod Header
-pub mod Edges
 pub mod Control

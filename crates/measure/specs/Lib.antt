@@ -1,4 +1,3 @@
 -- The definitions that the contracts of `measure` cite.
 pub mod Measured
 pub mod Gathered
-pub mod Edges

@@ -1,4 +1,4 @@
--- 01's edges P5, P6 and P7, over the definitions. Assumes nothing.
+-- The clusters of runs of equal samples. Assumes nothing.
 use mathlib.Core.Path.{_≡_, refl, ap, _∙_}
 use mathlib.Core.Bool.{true, false}
 use mathlib.Core.List.{List, [], _∷_, _++_}
@@ -59,7 +59,7 @@ module _ (t : Float) (gap : ℕ) (h q : Float) (H : loud t h ≡ true) (Q : loud
   wait-run (suc n) s k i j xs e b = waits s k i (replicate n q ++ xs) (omega arith) ∙ wait-run n s k (suc i) j xs (omega arith) b
 
   -- loud samples from index 1 on: alone, with a pause that is bridged, and with one that is longer
-  one : (m : ℕ) → clusters t gap none 0 (replicate 1 q ++ replicate (suc m) h) ≡ cluster 1 (m + 1) ∷ []
+  pub one : (m : ℕ) → clusters t gap none 0 (replicate 1 q ++ replicate (suc m) h) ≡ cluster 1 (m + 1) ∷ []
   one m =
       let z : m + 2 - 1 ≡ m + 1 = omega arith in
       passes 0 (replicate (suc m) h) ∙ opens 1 (replicate m h) ∙ last-run m 1 1 2 (m + 2) refl (omega arith) ∙ rw z
@@ -69,7 +69,7 @@ module _ (t : Float) (gap : ℕ) (h q : Float) (H : loud t h ≡ true) (Q : loud
       let z : m + 2 - 1 ≡ m + 1 = omega arith in
       passes 0 (replicate (suc m) h ++ xs) ∙ opens 1 (replicate m h ++ xs) ∙ loud-run m 1 1 2 (m + 2) xs refl (omega arith) ∙ rw z
 
-  joined : (m n p : ℕ) → n ≤ gap → clusters t gap none 0 (replicate 1 q ++ (replicate (suc m) h ++ (replicate n q ++ replicate (suc p) h))) ≡ cluster 1 (m + n + p + 2) ∷ []
+  pub joined : (m n p : ℕ) → n ≤ gap → clusters t gap none 0 (replicate 1 q ++ (replicate (suc m) h ++ (replicate n q ++ replicate (suc p) h))) ≡ cluster 1 (m + n + p + 2) ∷ []
   joined m n p b =
       let z : m + n + p + 3 - 1 ≡ m + n + p + 2 = omega arith in
       opened m (replicate n q ++ replicate (suc p) h) ∙ wait-run n 1 (m + 1) (m + 2) (m + n + 2) (replicate (suc p) h) (omega arith) (omega arith)
@@ -79,7 +79,7 @@ module _ (t : Float) (gap : ℕ) (h q : Float) (H : loud t h ≡ true) (Q : loud
   one-more zero xs = refl
   one-more (suc n) xs = ap (λ (l : List Float). q ∷ l) (one-more n xs)
 
-  parted : (m p : ℕ) → clusters t gap none 0 (replicate 1 q ++ (replicate (suc m) h ++ (replicate (suc gap) q ++ replicate (suc p) h)))
+  pub parted : (m p : ℕ) → clusters t gap none 0 (replicate 1 q ++ (replicate (suc m) h ++ (replicate (suc gap) q ++ replicate (suc p) h)))
       ≡ cluster 1 (m + 1) ∷ cluster (m + gap + 3) (m + gap + p + 3) ∷ []
   parted m p =
       let z : m + gap + p + 4 - 1 ≡ m + gap + p + 3 = omega arith in
@@ -89,83 +89,3 @@ module _ (t : Float) (gap : ℕ) (h q : Float) (H : loud t h ≡ true) (Q : loud
       ∙ closes 1 (m + 1) (m + gap + 2) (replicate (suc p) h) (omega arith)
       ∙ ap (λ (cs : List Cluster). cluster 1 (m + 1) ∷ cs)
       (rw y (opens (m + gap + 3) (replicate p h) ∙ last-run p (m + gap + 3) (m + gap + 3) (suc (m + gap + 3)) (m + gap + p + 4) refl (omega arith) ∙ rw z))
-
--- ---- P5, at 1,000 samples/s
-
--- where bursts start and end
-unfoldable pub spans : List Burst → List Cluster
-spans [] = []
-spans (b ∷ bs) = cluster (b .start) (b .end) ∷ spans bs
-
--- 300 ms by its number
-abbrev pub options : BurstOptions
-options = record { «above_db» = aboveDb; «min_ms» = num 300; «gap_ms» = gapMs }
-
--- over a floor of -100 dBm
-abbrev pub heard : List Float → List Cluster
-heard l = spans (burstsOf l 1000 options (neg (num 100)))
-
--- samples of -60 dBm, and of -100
-abbrev pub high : ℕ → List Float
-high n = replicate n (neg (num 60))
-
-abbrev pub low : ℕ → List Float
-low n = replicate n (neg (num 100))
-
-over : Float
-over = threshold options (neg (num 100))
-
-high-is : loud over (neg (num 60)) ≡ true
-unfolding over lt add neg ofInt round
-high-is = refl
-
-low-is : loud over (neg (num 100)) ≡ false
-unfolding over lt add neg ofInt round
-low-is = refl
-
-gap-is : gapSamples options 1000 ≡ 40
-unfolding roundHalfUp floor add mul div ofInt ofBits round toUnsigned
-gap-is = refl
-
-by-clusters : (l : List Float) (cs : List Cluster) → clusters over 40 none 0 l ≡ cs → heard l ≡ spans (burstsIn l 1000 options (neg (num 100)) cs)
-unfolding burstsOf over
-by-clusters l cs e = rw (gap-is, e)
-
--- what is heard of clusters, by their number
-module _ (l : List Float) where
-  none-heard : (f k : ℕ) → clusters over 40 none 0 l ≡ cluster f k ∷ [] → longEnough options 1000 (cluster f k) ≡ false → heard l ≡ []
-  unfolding burstsIn spans
-  none-heard f k e g = by-clusters l (cluster f k ∷ []) e ∙ rw g
-
-  one-heard : (f k : ℕ) → clusters over 40 none 0 l ≡ cluster f k ∷ [] → longEnough options 1000 (cluster f k) ≡ true → heard l ≡ cluster f (k + 1) ∷ []
-  unfolding burstsIn burstOf spans
-  one-heard f k e g = by-clusters l (cluster f k ∷ []) e ∙ rw g
-
-  two-heard : (f k g j : ℕ) → clusters over 40 none 0 l ≡ cluster f k ∷ cluster g j ∷ [] → longEnough options 1000 (cluster f k) ≡ true → longEnough options 1000 (cluster g j) ≡ true
-      → heard l ≡ cluster f (k + 1) ∷ cluster g (j + 1) ∷ []
-  unfolding burstsIn burstOf spans
-  two-heard f k g j e a b = by-clusters l (cluster f k ∷ cluster g j ∷ []) e ∙ rw (a, b)
-
--- P5: at 1,000/s, 301 loud samples are a burst, 300 are not; 40 quiet ones are bridged, 41 are not
-pub p5 : (heard (low 1 ++ high 301) ≡ cluster 1 302 ∷ []) × (heard (low 1 ++ high 300) ≡ [])
-    × (heard (low 1 ++ (high 301 ++ (low 40 ++ high 301))) ≡ cluster 1 643 ∷ [])
-    × (heard (low 1 ++ (high 301 ++ (low 41 ++ high 301))) ≡ cluster 1 302 ∷ cluster 343 644 ∷ [])
-unfolding lt le eq div ofInt round
-p5 =
-    let h = neg (num 60) in
-    let q = neg (num 100) in (
-      one-heard _ 1 301 (one over 40 h q high-is low-is 300) refl,
-      none-heard _ 1 300 (one over 40 h q high-is low-is 299) refl,
-      one-heard _ 1 642 (joined over 40 h q high-is low-is 300 40 300 (omega arith)) refl,
-      two-heard _ 1 301 343 643 (parted over 40 h q high-is low-is 300 300) refl refl,
-    )
-
--- P6: floor -100: -84.5 is loud, -85 isn't
-pub p6 : (loud (threshold options (neg (num 100))) (neg (near 169 2)) ≡ true) × (loud (threshold options (neg (num 100))) (neg (num 85)) ≡ false)
-unfolding lt add neg ofInt round
-p6 = (refl, refl)
-
--- P7: empty noise floor -120
-pub p7 : noiseFloor [] ≡ neg (num 120)
-unfolding noiseFloor
-p7 = refl

@@ -1,0 +1,2 @@
+-- The theorem over 01's edges.
+pub mod Edges

@@ -1,0 +1,2 @@
+-- 01's edges.
+pub mod Edges
