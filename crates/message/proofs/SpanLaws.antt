@@ -15,7 +15,7 @@ use Rattle.floats.specs.Number.{num}
 use Rattle.ledger.specs.Causes.{endNan, spanNan, spansFit}
 use Rattle.ledger.specs.Demand3.{message}
 use Rattle.ledger.specs.Frames.{Frame, rankOf, rssiOf, timeOf}
-use Rattle.ledger.specs.Merge.{endAfter, estimate, finished, frameGapS, has, knownOf, later, louder, lower, lowestLater, meet, merge, noSpan, openEntry, orElse, place, quietS, spanOf, threeRanks}
+use Rattle.ledger.specs.Merge.{endAfter, estimate, finished, frameGapS, has, knownOf, later, louder, lower, lowestLater, meet, merge, noSpan, openEntry, orElse, place, spanOf, threeRanks}
 use Rattle.message.specs.Messages.{frameOf, spanGiven, spansGiven}
 use Rattle.record.specs.declared.FrameSpan.{FrameSpan}
 use Rattle.record.specs.declared.SigfoxMessage.{SigfoxMessage}
@@ -157,10 +157,6 @@ unfolding lowestLater
 estimate-is l o p q e h2 h1 h0 = rw (h0, h1, h2) (ap estimate (sym (three l outside e)))
 
 -- ---- numbers of the code
-
-pub quiet-is : ofBits binary64 0x4024_0000_0000_0000 ≡ quietS
-unfolding ofBits ofInt round
-quiet-is = refl
 
 pub gap-is : ofBits binary64 0x4003_70a3_d70a_3d71 ≡ frameGapS
 unfolding ofBits ofInt round

@@ -1,6 +1,6 @@
 -- `dips::sides_high` meets its contract. Assumes nothing.
 use Rattle.dips.specs.Dips.{sides, leftOf, rightOf}
-use Rattle.dips.proofs.Constants.{dip-is, dim-is}
+use lib.Ieee.{ofBits, ofInt, round}
 use borrow.Author.Needs.{needs}
 use Rattle.dips.proofs.sides_high.Statement.{statement}
 use Rattle.dips.proofs.sides_high.Tie as tie
@@ -48,8 +48,8 @@ pick64-requires-2 : tie.Need-pick64-requires-2
 pick64-requires-2 c κs = search needs
 
 returns : tie.Need-returns
-unfolding sides leftOf rightOf
-returns c = cc (c .pick642 .ensures, c .before .pick64 .ensures, c .before .before .f32-to-f64-with-nan3 .ensures, c .before .before .before .side-level2 .ensures, c .before .before .before .before .least .ensures, c .before .before .before .before .before .f32-to-f64-with-nan2 .ensures, c .before .before .before .before .before .before .side-level .ensures, c .before .before .before .before .before .before .before .back .ensures, c .before .before .before .before .before .before .before .before .f32-to-f64-with-nan .ensures, dip-is, dim-is)
+unfolding sides leftOf rightOf ofBits ofInt round
+returns c = cc (c .pick642 .ensures, c .before .pick64 .ensures, c .before .before .f32-to-f64-with-nan3 .ensures, c .before .before .before .side-level2 .ensures, c .before .before .before .before .least .ensures, c .before .before .before .before .before .f32-to-f64-with-nan2 .ensures, c .before .before .before .before .before .before .side-level .ensures, c .before .before .before .before .before .before .before .back .ensures, c .before .before .before .before .before .before .before .before .f32-to-f64-with-nan .ensures)
 
 pub sides-high-spec : {M : Type 1} → statement M
 sides-high-spec =
