@@ -39,6 +39,7 @@ const REPLACEMENTS: &[(&str, &str, &str)] = &[
         "\npub struct Pending {\n    pub message",
     ),
     ("receiver", "    last: f64,\n}", "    pub last: f64,\n}"),
+    ("receiver", "    buf: Vec<f32>,", "    pub buf: Vec<f32>,"),
     ("receiver", "    len: usize,", "    pub len: usize,"),
     ("receiver", "    base: usize,", "    pub base: usize,"),
     ("receiver", "    since_scan: usize,", "    pub since_scan: usize,"),

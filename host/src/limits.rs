@@ -35,6 +35,10 @@ pub fn samples(dbm: &[f32]) -> Checked {
     check(dbm.iter().all(is_dbm), 4)
 }
 
+pub fn order(in_order: bool) -> Checked {
+    check(in_order, 5)
+}
+
 pub fn waiting(n: usize) -> Checked {
     check(n <= MOST_WAITING, 6)
 }

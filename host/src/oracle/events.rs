@@ -1,5 +1,7 @@
 //! `events`: the receiver, call by call, with its state after each.
 
+mod given;
+
 use super::{line, record};
 use crate::limits;
 use crate::rust::receiver::{ReceiverEvent, SigfoxReceiver};
@@ -9,35 +11,51 @@ use crate::text::{Input, hex_bytes, hex64};
 pub struct Receiver {
     rate: u32,
     inner: SigfoxReceiver,
+    /// What 01 says of a state that was handed in; one that grew is in order and has no NaN.
+    in_order: bool,
+    nan: bool,
 }
 
 impl Receiver {
     pub fn new(rate: u32) -> Self {
         // the buffer of a rate that every call refuses stays small
         let inner = SigfoxReceiver::new(if limits::rate(rate).is_ok() { rate } else { 0 });
-        Self { rate, inner }
+        Self {
+            rate,
+            inner,
+            in_order: true,
+            nan: false,
+        }
     }
 
     pub fn push(&mut self, dbm: &[f32]) -> Result<Vec<ReceiverEvent>, u8> {
         limits::rate(self.rate)?;
         limits::sample_count(dbm.len(), self.rate)?;
         limits::samples(dbm)?;
-        limits::waiting(self.inner.pending.len())?;
-        limits::stream(self.inner.base + self.inner.len + dbm.len())?;
+        self.state_takes(dbm.len())?;
         Ok(self.inner.push(dbm))
     }
 
     pub fn push_raw(&mut self, raw: &[u8]) -> Result<Vec<ReceiverEvent>, u8> {
         limits::rate(self.rate)?;
         limits::sample_count(raw.len(), self.rate)?;
-        limits::waiting(self.inner.pending.len())?;
-        limits::stream(self.inner.base + self.inner.len + raw.len())?;
+        self.state_takes(raw.len())?;
         Ok(self.inner.push_raw(raw))
     }
 
     pub fn flush(&mut self) -> Result<Vec<ReceiverEvent>, u8> {
         limits::rate(self.rate)?;
+        limits::order(self.in_order)?;
+        limits::number(!self.nan)?;
         Ok(self.inner.flush())
+    }
+
+    /// Causes 5 to 9 of a push of n samples.
+    fn state_takes(&self, n: usize) -> limits::Checked {
+        limits::order(self.in_order)?;
+        limits::waiting(self.inner.pending.len())?;
+        limits::stream(self.inner.base + self.inner.len + n)?;
+        limits::number(!self.nan)
     }
 
     fn state(&self) -> String {
@@ -60,6 +78,10 @@ pub fn stream(input: &mut Input, out: &mut String) -> Option<()> {
     let mut index = 0;
     while !input.is_empty() {
         let (name, events) = match input.u8()? {
+            3 => {
+                given::take_over(input, &mut receiver)?;
+                continue;
+            }
             0 => ("push", receiver.push(&input.f32s()?)),
             1 => ("push_raw", receiver.push_raw(input.bytes()?)),
             2 => ("flush", receiver.flush()),

@@ -1,7 +1,7 @@
 //! The 120-byte event record of 01's table, as compared: a zero is +0.
 
 use crate::rust::demod::DecodedFrame;
-use crate::rust::frame::{Repair, UplinkFrame};
+use crate::rust::frame::{DeviceId, Repair, UplinkFrame};
 use crate::rust::frequency::FrameSpan;
 use crate::rust::receiver::SigfoxMessage;
 use crate::text::{bits32, bits64};
@@ -101,6 +101,37 @@ pub fn received(d: &DecodedFrame) -> [u8; RECORD] {
             start: d.start,
         },
     )
+}
+
+/// The message that a record was made of.
+pub fn read_message(r: &[u8; RECORD]) -> SigfoxMessage {
+    let u64_at = |at: usize| u64::from_le_bytes(r[at..at + 8].try_into().expect("eight bytes"));
+    let f64_at = |at: usize| f64::from_bits(u64_at(at));
+    let u32_at = |at: usize| u32::from_le_bytes(r[at..at + 4].try_into().expect("four bytes"));
+    let frames: Vec<FrameSpan> = (0..3)
+        .filter(|i| r[44 + i] != 255)
+        .map(|i| FrameSpan {
+            rank: r[44 + i].into(),
+            time: f64_at(64 + 16 * i),
+            end: f64_at(72 + 16 * i),
+        })
+        .collect();
+    SigfoxMessage {
+        device_id: DeviceId(u32_at(8)),
+        counter: u16::from_le_bytes([r[12], r[13]]),
+        payload: r[16..28.min(16 + usize::from(r[3]))].to_vec(),
+        bit: (r[2] & 8 != 0).then_some(r[2] & 16 != 0),
+        downlink: r[2] & 1 != 0,
+        control: r[2] & 2 != 0,
+        auth: r[28..33.min(28 + usize::from(r[4]))].to_vec(),
+        start: u64_at(112) as usize,
+        time: f64_at(48),
+        first_frame_end: (r[2] & 32 != 0).then_some(f64_at(56)),
+        rssi: f32::from_bits(u32_at(40)),
+        ranks: frames.iter().map(|f| f.rank).collect(),
+        frames,
+        clock_error_ppm: u32_at(36) as i32,
+    }
 }
 
 pub fn message(m: &SigfoxMessage) -> [u8; RECORD] {

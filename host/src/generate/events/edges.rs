@@ -21,6 +21,7 @@ pub fn directed() -> Vec<Case> {
     closings(&mut cases);
     sinking_floor(&mut cases);
     refused(&mut cases);
+    super::given::directed(&mut cases);
     cases
 }
 

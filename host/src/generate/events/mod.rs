@@ -1,6 +1,7 @@
 //! Inputs of `events`: a stream of air, cut into calls.
 
 mod edges;
+mod given;
 
 use super::put::Put;
 use super::rng::Rng;
@@ -123,6 +124,9 @@ pub fn random(rng: &mut Rng) -> Case {
         1 => ("busy air", busy(rng, rate, samples)),
         _ => ("a scene", signal::scene(rng, rate, samples)),
     };
+    if rng.chance(0.25) {
+        return given::random(rng, rate, &air);
+    }
     let whole = cut_into_calls(rng, rate, &air).case(label);
     if rng.chance(0.03) {
         cut(rng, HEADER, whole)
