@@ -5,6 +5,7 @@ pub mod Spacing
 pub mod Pigeon
 pub mod Bursts
 pub mod ScanRows
+pub mod Fairness
 pub mod Sizes
 pub mod Entries
 pub mod OpenKinds
