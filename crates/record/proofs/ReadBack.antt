@@ -6,7 +6,7 @@ use Prim.Native.Nat.{ℕ, zero, suc, _+_, _*_, _≤_, _<_}
 use native.Mathlib.Nat.{not-suc-le-zero, le-of-suc-le-suc}
 use native.Mathlib.Omega.{arith}
 use lib.Dec.{T, eqb}
-use lib.ListN.{getD}
+use lib.ListN.{length, getD}
 use lib.Ieee.{Float, binary64, fits, ofBits}
 use lib.Ieee.Bits.{ofBits-toBits}
 use Rattle.endian.specs.Bytes.{bytesOf, bitsOf, numberOf, numberAt}
@@ -20,8 +20,9 @@ use Rattle.record.specs.declared.Reception.{Reception}
 use Rattle.record.specs.declared.FrameSpan.{FrameSpan}
 use Rattle.record.specs.declared.SigfoxMessage.{SigfoxMessage}
 use Rattle.record.proofs.PartLaws.{length-span}
+use Rattle.record.proofs.RecordLaws.{length-spans}
 use Rattle.record.proofs.JoinLaws.{number-part, number-of-part}
-use Rattle.record.proofs.ReaderLaws.{Fields, Held, at-spans, read-place, read-device, read-counter, read-payload, read-auth, read-ppm, read-rssi, read-span-rank, read-time, read-end, read-start}
+use Rattle.record.proofs.ReaderLaws.{Fields, Sized, Held, at-spans, read-place, read-device, read-counter, read-payload, read-auth, read-ppm, read-rssi, read-span-rank, read-time, read-end, read-start}
 
 -- ---- frames
 
@@ -42,6 +43,9 @@ frameFields f r = record {
   spans = spare 48;
   start = r .start;
 }
+
+pub frame-sized : (f : UplinkFrame) (r : Reception) → length (f .payload) ≡ 12 → length (f .auth) ≡ 5 → Sized (frameFields f r)
+frame-sized f r n k = record { payload-held = n; auth-held = k; spans-held = refl }
 
 no-span : (i : ℕ) → i < 3 → getD (rankBytes noRank noRank noRank) i 0 ≡ noRank
 unfolding rankBytes
@@ -80,17 +84,17 @@ frame-read f r h =
       payload-len = refl;
       auth-len = refl;
       repair = refl;
-      place = read-place x h;
-      device = read-device x h;
-      counter = read-counter x h;
-      payload = read-payload x h;
-      auth = read-auth x h;
-      ppm = read-ppm x h;
-      rssi = read-rssi x h;
-      time = read-time x h;
-      end = read-end x h;
-      start = read-start x h;
-      span-rank = λ i b. read-span-rank x h i (omega arith) ∙ no-span i b;
+      place = read-place x (h .sized) (h .place-held);
+      device = read-device x (h .sized) (h .device-held);
+      counter = read-counter x (h .sized) (h .counter-held);
+      payload = read-payload x (h .sized);
+      auth = read-auth x (h .sized);
+      ppm = read-ppm x (h .sized) (h .ppm-held);
+      rssi = read-rssi x (h .sized) (h .rssi-held);
+      time = read-time x (h .sized) (h .time-held);
+      end = read-end x (h .sized) (h .end-held);
+      start = read-start x (h .sized) (h .start-held);
+      span-rank = λ i b. read-span-rank x (h .sized) i (omega arith) ∙ no-span i b;
     }
 
 -- ---- messages
@@ -112,6 +116,9 @@ messageFields m = record {
   spans = spanBytes (spanOf m 0) ++ (spanBytes (spanOf m 1) ++ spanBytes (spanOf m 2));
   start = m .start;
 }
+
+pub message-sized : (m : SigfoxMessage) → length (m .payload) ≡ 12 → length (m .auth) ≡ 5 → Sized (messageFields m)
+message-sized m n k = record { payload-held = n; auth-held = k; spans-held = length-spans m n k }
 
 -- a span's time as it is written: 0 where there is no span
 abbrev pub written : FrameSpan → Float → Float
@@ -156,13 +163,13 @@ module _ (m : SigfoxMessage) (h : Held (messageFields m)) where
 
   in-span : (i o at : ℕ) → i < 3 → o + 8 ≤ 16 → at ≡ 64 + (16 * i + o) → numberAt 8 (messageRecord m) at ≡ numberAt 8 (spanBytes (spanOf m i)) o
   unfolding messageRecord
-  in-span i o at b k e = at-spans (messageFields m) h 8 (16 * i + o) at e (omega arith) ∙ among i o b k
+  in-span i o at b k e = at-spans (messageFields m) (h .sized) 8 (16 * i + o) at e (omega arith) ∙ among i o b k
 
   rank-of-span : (i : ℕ) → i < 3 → spanRankOf (messageRecord m) i ≡ spanOf m i .rank
   unfolding messageRecord rankBytes
-  rank-of-span zero b = read-span-rank (messageFields m) h 0 (omega arith)
-  rank-of-span (suc zero) b = read-span-rank (messageFields m) h 1 (omega arith)
-  rank-of-span (suc (suc zero)) b = read-span-rank (messageFields m) h 2 (omega arith)
+  rank-of-span zero b = read-span-rank (messageFields m) (h .sized) 0 (omega arith)
+  rank-of-span (suc zero) b = read-span-rank (messageFields m) (h .sized) 1 (omega arith)
+  rank-of-span (suc (suc zero)) b = read-span-rank (messageFields m) (h .sized) 2 (omega arith)
   rank-of-span (suc (suc (suc i))) b = absurd (not-suc-le-zero (le-of-suc-le-suc (le-of-suc-le-suc (le-of-suc-le-suc b))))
 
   time-of-span : (i : ℕ) → i < 3 → T (fits binary64 (spanOf m i .time)) → spanTimeOf (messageRecord m) i ≡ written (spanOf m i) (spanOf m i .time)
@@ -203,16 +210,16 @@ message-read m h =
       payload-len = refl;
       auth-len = refl;
       repair = refl;
-      place = read-place x h;
-      device = read-device x h;
-      counter = read-counter x h;
-      payload = read-payload x h;
-      auth = read-auth x h;
-      ppm = read-ppm x h;
-      rssi = read-rssi x h;
-      time = read-time x h;
-      first-frame-end = read-end x h;
-      start = read-start x h;
+      place = read-place x (h .sized) (h .place-held);
+      device = read-device x (h .sized) (h .device-held);
+      counter = read-counter x (h .sized) (h .counter-held);
+      payload = read-payload x (h .sized);
+      auth = read-auth x (h .sized);
+      ppm = read-ppm x (h .sized) (h .ppm-held);
+      rssi = read-rssi x (h .sized) (h .rssi-held);
+      time = read-time x (h .sized) (h .time-held);
+      first-frame-end = read-end x (h .sized) (h .end-held);
+      start = read-start x (h .sized) (h .start-held);
       span-rank = rank-of-span m h;
       span-start = time-of-span m h;
       span-stop = end-of-span m h;

@@ -35,18 +35,22 @@ pub record Fields : Type 0 where
   pub spans : List ℕ
   pub start : ℕ
 
+-- the lists are as long as the table says: then every field stands in its place
+pub record Sized (x : Fields) : Type 0 where
+  pub payload-held : length (x .payload) ≡ 12
+  pub auth-held : length (x .auth) ≡ 5
+  pub spans-held : length (x .spans) ≡ 48
+
 -- each field has the width that the table gives it
 pub record Held (x : Fields) : Type 0 where
+  pub sized : Sized x
   pub place-held : x .head .place < 256 ^ 2
   pub device-held : x .device < 256 ^ 4
   pub counter-held : x .counter < 256 ^ 2
-  pub payload-held : length (x .payload) ≡ 12
-  pub auth-held : length (x .auth) ≡ 5
   pub ppm-held : mag (x .ppm) < 2 ^ 31
   pub rssi-held : T (fits binary32 (x .rssi))
   pub time-held : T (fits binary64 (x .time))
   pub end-held : T (fits binary64 (x .end))
-  pub spans-held : length (x .spans) ≡ 48
   pub start-held : x .start < 256 ^ 8
 
 abbrev pub identity : Fields → List ℕ
@@ -85,7 +89,8 @@ module _ (x : Fields) where
   unfolding headBytes
   read-repair = refl
 
-module _ (x : Fields) (h : Held x) where
+-- a reader needs the width of its own field alone
+module _ (x : Fields) (h : Sized x) where
   n1 : length (headBytes (x .head)) ≡ 8
   n1 = length-head (x .head)
 
@@ -110,71 +115,71 @@ module _ (x : Fields) (h : Held x) where
   pub at-spans : (k i at : ℕ) → at ≡ 64 + i → i + k ≤ 48 → numberAt k (made x) at ≡ numberAt k (x .spans) i
   at-spans k i at e b = at-part 5 k i at (omega (arith, n1, n2, n3, n4, n5)) (omega (arith, h .spans-held))
 
-  pub read-place : placeOf (made x) ≡ x .head .place
+  pub read-place : x .head .place < 256 ^ 2 → placeOf (made x) ≡ x .head .place
   unfolding headBytes
-  read-place =
+  read-place b =
       at-part 0 2 6 6 refl (omega (arith, n1))
       ∙ number-of-part (x .head .kind ∷ x .head .rank ∷ x .head .flags ∷ x .head .«payload_len» ∷ x .head .«auth_len» ∷ x .head .repair ∷ [])
-      (bytesOf 2 (x .head .place) ∷ []) 1 6 2 (x .head .place) refl refl (h .place-held)
+      (bytesOf 2 (x .head .place) ∷ []) 1 6 2 (x .head .place) refl refl b
 
   -- the identity's fields
   abbrev later : List (List ℕ)
   later = bytesOf 2 (x .counter) ∷ spare 2 ∷ x .payload ∷ x .auth ∷ spare 3 ∷ []
 
-  pub read-device : deviceOf (made x) ≡ x .device
+  pub read-device : x .device < 256 ^ 4 → deviceOf (made x) ≡ x .device
   unfolding identityBytes
-  read-device =
+  read-device b =
       at-part 1 4 0 8 (omega (arith, n1)) (omega (arith, n2))
-      ∙ number-of-part (bytesOf 4 (x .device)) later 0 0 4 (x .device) refl refl (h .device-held)
+      ∙ number-of-part (bytesOf 4 (x .device)) later 0 0 4 (x .device) refl refl b
 
-  pub read-counter : counterOf (made x) ≡ x .counter
+  pub read-counter : x .counter < 256 ^ 2 → counterOf (made x) ≡ x .counter
   unfolding identityBytes
-  read-counter =
+  read-counter b =
       at-part 1 2 4 12 (omega (arith, n1)) (omega (arith, n2))
-      ∙ number-of-part (bytesOf 4 (x .device)) later 1 4 2 (x .counter) (omega (arith, bytes-length 4 (x .device))) refl (h .counter-held)
+      ∙ number-of-part (bytesOf 4 (x .device)) later 1 4 2 (x .counter) (omega (arith, bytes-length 4 (x .device))) refl b
 
-  pub read-ppm : ppmOf (made x) ≡ x .ppm
+  pub read-ppm : mag (x .ppm) < 2 ^ 31 → ppmOf (made x) ≡ x .ppm
   unfolding levelBytes
-  read-ppm =
+  read-ppm b =
       ap (signedOf 32)
       (at-part 2 4 0 36 (omega (arith, n1, n2)) (omega (arith, n3))
       ∙ number-of-part (bytesOf 4 (signedBits 32 (x .ppm))) (bytesOf 4 (bitsOf binary32 (x .rssi)) ∷ []) 0 0 4 (signedBits 32 (x .ppm)) refl refl
-      (signed-small 31 4 (x .ppm) refl (h .ppm-held)))
-      ∙ signed-back 31 (x .ppm) (h .ppm-held)
+      (signed-small 31 4 (x .ppm) refl b))
+      ∙ signed-back 31 (x .ppm) b
 
-  pub read-rssi : rssiOf (made x) ≡ x .rssi
+  pub read-rssi : T (fits binary32 (x .rssi)) → rssiOf (made x) ≡ x .rssi
   unfolding levelBytes
-  read-rssi =
+  read-rssi b =
       ap (ofBits binary32)
       (at-part 2 4 4 40 (omega (arith, n1, n2)) (omega (arith, n3))
       ∙ number-of-part (bytesOf 4 (signedBits 32 (x .ppm))) (bytesOf 4 (bitsOf binary32 (x .rssi)) ∷ []) 1 4 4 (bitsOf binary32 (x .rssi))
-      (omega (arith, bytes-length 4 (signedBits 32 (x .ppm)))) refl (pattern-small binary32 4 (x .rssi) refl (h .rssi-held)))
-      ∙ ofBits-toBits binary32 (x .rssi) (h .rssi-held)
+      (omega (arith, bytes-length 4 (signedBits 32 (x .ppm)))) refl (pattern-small binary32 4 (x .rssi) refl b))
+      ∙ ofBits-toBits binary32 (x .rssi) b
 
   pub read-span-rank : (i : ℕ) → i < 4 → spanRankOf (made x) i ≡ getD (rankBytes (x .rank0) (x .rank1) (x .rank2)) i 0
   read-span-rank i b = byte-part (headBytes (x .head)) (parts x) 3 (44 + i) i (omega (arith, n1, n2, n3)) (omega (arith, n4))
 
-  pub read-time : timeOf (made x) ≡ x .time
+  pub read-time : T (fits binary64 (x .time)) → timeOf (made x) ≡ x .time
   unfolding timeBytes
-  read-time =
+  read-time b =
       ap (ofBits binary64)
       (at-part 4 8 0 48 (omega (arith, n1, n2, n3, n4)) (omega (arith, n5))
       ∙ number-of-part (bytesOf 8 (bitsOf binary64 (x .time))) (bytesOf 8 (bitsOf binary64 (x .end)) ∷ []) 0 0 8 (bitsOf binary64 (x .time)) refl refl
-      (pattern-small binary64 8 (x .time) refl (h .time-held)))
-      ∙ ofBits-toBits binary64 (x .time) (h .time-held)
+      (pattern-small binary64 8 (x .time) refl b))
+      ∙ ofBits-toBits binary64 (x .time) b
 
-  pub read-end : endOf (made x) ≡ x .end
+  pub read-end : T (fits binary64 (x .end)) → endOf (made x) ≡ x .end
   unfolding timeBytes
-  read-end =
+  read-end b =
       ap (ofBits binary64)
       (at-part 4 8 8 56 (omega (arith, n1, n2, n3, n4)) (omega (arith, n5))
       ∙ number-of-part (bytesOf 8 (bitsOf binary64 (x .time))) (bytesOf 8 (bitsOf binary64 (x .end)) ∷ []) 1 8 8 (bitsOf binary64 (x .end))
-      (omega (arith, bytes-length 8 (bitsOf binary64 (x .time)))) refl (pattern-small binary64 8 (x .end) refl (h .end-held)))
-      ∙ ofBits-toBits binary64 (x .end) (h .end-held)
+      (omega (arith, bytes-length 8 (bitsOf binary64 (x .time)))) refl (pattern-small binary64 8 (x .end) refl b))
+      ∙ ofBits-toBits binary64 (x .end) b
 
-  pub read-start : startOf (made x) ≡ x .start
-  read-start =
-      number-of-part (headBytes (x .head)) (parts x) 6 112 8 (x .start) (omega (arith, n1, n2, n3, n4, n5, h .spans-held)) refl (h .start-held)
+  pub read-start : x .start < 256 ^ 8 → startOf (made x) ≡ x .start
+  read-start b =
+      number-of-part (headBytes (x .head)) (parts x) 6 112 8 (x .start) (omega (arith, n1, n2, n3, n4, n5, h .spans-held)) refl b
 
   pub read-payload : payloadOf (made x) ≡ x .payload
   unfolding identityBytes
@@ -211,15 +216,13 @@ edgeFields = record {
 edge-held : Held edgeFields
 unfolding ofBits fits
 edge-held = record {
+  sized = record { payload-held = refl; auth-held = refl; spans-held = refl };
   place-held = lit< tt;
   device-held = lit< tt;
   counter-held = lit< tt;
-  payload-held = refl;
-  auth-held = refl;
   ppm-held = lit< tt;
   rssi-held = tt;
   time-held = tt;
   end-held = tt;
-  spans-held = refl;
   start-held = lit< tt;
 }

@@ -56,7 +56,7 @@ module _ (m : SigfoxMessage) (n : length (m .payload) ≡ 12) (k : length (m .au
   abbrev spans : List ℕ
   spans = spanBytes (spanOf m 0) ++ (spanBytes (spanOf m 1) ++ spanBytes (spanOf m 2))
 
-  length-spans : length spans ≡ 48
+  pub length-spans : length spans ≡ 48
   length-spans =
       omega (
         arith,
