@@ -1,18 +1,22 @@
--- What every frame of a burst obeys: its rank is at most 2, its payload at most 12 bytes and its authentication at most 5, in 12 and 5 places. Assumes nothing.
+-- What every frame of a burst obeys: its rank is at most 2, its payload at most 12 bytes and its authentication at most 5, in 12 and 5 places, its device has
+-- 4 bytes and its counter 2; its time is a binary64 number, and its RSSI a binary32 one where the burst's peak is. Assumes nothing.
 use mathlib.Core.Path.{_≡_, refl, _∙_}
 use mathlib.Core.Bool.{Bool, true, false, cond}
 use mathlib.Core.List.{List, _∷_, map}
-use Prim.Native.Nat.{ℕ, zero, suc, _+_, _-_, _*_, _≤_}
+use Prim.Native.Nat.{ℕ, zero, suc, _+_, _-_, _*_, _^_, _≤_, _<_}
 use native.Mathlib.Omega.{arith}
-use lib.Dec.{leb, lit≤}
+use lib.Dec.{T, leb, lit≤, lit<}
 use lib.ListN.{length, take, drop, replicate, length-append, length-take, length-replicate}
-use lib.Ieee.{Float}
+use lib.Ieee.{Float, binary32, binary64, div, fits, ofInt, round}
+use lib.Ieee.Fits.{add-fits}
+use Rattle.floats.specs.Number.{num}
+use Rattle.endian.proofs.Numbers.{number-lt}
 use Rattle.rates.specs.Rates.{nominalOf}
 use Rattle.coding.specs.Bits.{odd, value}
 use Rattle.coding.specs.Convolution.{fresh, deconvolved}
 use Rattle.frame.specs.Kinds.{syncSize, kinds, kindOf}
 use Rattle.frame.specs.Sizes.{headerSize, mostPayload, mostAuth, payloadSize, authSize, bodyBytes}
-use Rattle.frame.specs.Fields.{li, toBytes, padded, frameFrom}
+use Rattle.frame.specs.Fields.{toBytes, byteAt, li, padded, frameFrom}
 use Rattle.frame.specs.Repairs.{repaired, repairs, firstOf}
 use Rattle.frame.specs.Decode.{blankFrame, nothing, found, passes, parseBody, decodeBody, decideAt, firstStart, starts, searchFrom, decodeUplink}
 use Rattle.frame.specs.declared.kinds.FrameKind.{FrameKind}
@@ -25,10 +29,10 @@ use Rattle.frame.specs.declared.Outcome.{Outcome}
 use Rattle.frame.specs.declared.Outcome.the-variants.{Refused, Nothing, Frame}
 use Rattle.frame.proofs.KindLaws.{found-rank, found-class}
 use Rattle.frame.proofs.SizeLaws.{payload-most, auth-most}
-use Rattle.frame.proofs.FieldLaws.{li-lt}
+use Rattle.frame.proofs.FieldLaws.{byte-lt, li-lt}
 use Rattle.bursts.specs.declared.Burst.{Burst}
 use Rattle.clock.specs.Bits as bits
-use Rattle.demod.specs.Decode.{segmentOf, timeAt, heardAs, withBurst, heardIn, decodeBurst}
+use Rattle.demod.specs.Decode.{blankDecoded, segmentOf, timeAt, heardAs, withBurst, heardIn, decodeBurst}
 use Rattle.demod.specs.declared.DecodedFrame.{DecodedFrame}
 
 pub record Lawful (f : UplinkFrame) : Type 0 where
@@ -37,9 +41,11 @@ pub record Lawful (f : UplinkFrame) : Type 0 where
   pub auth : f .«auth_len» ≤ mostAuth
   pub payload-places : length (f .payload) ≡ mostPayload
   pub auth-places : length (f .auth) ≡ mostAuth
+  pub device : f .«device_id» < 256 ^ 4
+  pub counter : f .counter < 256 ^ 2
 
 blank : Lawful blankFrame
-blank = record { rank = lit≤ tt; payload = lit≤ tt; auth = lit≤ tt; payload-places = refl; auth-places = refl }
+blank = record { rank = lit≤ tt; payload = lit≤ tt; auth = lit≤ tt; payload-places = refl; auth-places = refl; device = lit< tt; counter = lit< tt }
 
 places : (n k : ℕ) (l : List ℕ) → k ≤ n → length (padded n (take k l)) ≡ n
 places n k l h =
@@ -51,15 +57,19 @@ parsed kind how body r c = go (leb (8 * bodyBytes (kind .class)) (length (repair
   where
     go : (t : Bool) → Lawful ((cond t (found (frameFrom kind how (toBytes (bodyBytes (kind .class)) (deconvolved (kind .rank) fresh (repaired how body))))) nothing) .frame)
     go true =
-        let bytes = toBytes (bodyBytes (kind .class)) (deconvolved (kind .rank) fresh (repaired how body)) in
+        let plain = deconvolved (kind .rank) fresh (repaired how body) in
+        let bytes = toBytes (bodyBytes (kind .class)) plain in
+        let small : (i : ℕ) → byteAt bytes i < 256 = λ i. byte-lt (bodyBytes (kind .class)) i plain in
         let p = payload-most (kind .class) (li bytes) c in
-        let a = auth-most (kind .class) (li bytes) (li-lt (bodyBytes (kind .class)) (deconvolved (kind .rank) fresh (repaired how body))) in
+        let a = auth-most (kind .class) (li bytes) (li-lt (bodyBytes (kind .class)) plain) in
         record {
           rank = r;
           payload = p;
           auth = a;
           payload-places = places mostPayload (payloadSize (kind .class) (li bytes)) (drop headerSize bytes) p;
           auth-places = places mostAuth (authSize (kind .class) (li bytes)) (drop (headerSize + payloadSize (kind .class) (li bytes)) bytes) a;
+          device = number-lt 4 bytes 2 small;
+          counter = omega (arith, small 0, small 1);
         }
     go false = blank
 
@@ -99,3 +109,33 @@ burst-in rate t e r (bits.some l c level) =
 pub burst-lawful : (dbm : List Float) (rate : ℕ) (b : Burst) (t0 : Float) → Lawful (decodeBurst dbm rate b t0 .decoded .frame)
 unfolding decodeBurst
 burst-lawful dbm rate b t0 = burst-in rate (timeAt t0 rate (b .start)) (timeAt t0 rate (b .end)) (b .«peak_dbm») (bits.outcome (segmentOf dbm rate b) rate)
+
+-- ---- times and levels
+
+pub record Written (d : DecodedFrame) : Type 0 where
+  pub time : T (fits binary64 (d .time))
+  pub rssi : T (fits binary32 (d .rssi))
+
+blank-written : Written blankDecoded
+unfolding fits ofInt round
+blank-written = record { time = tt; rssi = tt }
+
+heard-written : (o : Outcome) (d : DecodedFrame) → Written d → Written (heardAs o d .decoded)
+unfolding heardAs
+heard-written (Refused n) d w = blank-written
+heard-written Nothing d w = blank-written
+heard-written Frame d w = w
+
+written-in : (rate : ℕ) (t e r : Float) (o : bits.Outcome) → T (fits binary64 t) → T (fits binary32 r) → Written (heardIn rate t e r o .decoded)
+unfolding heardIn withBurst
+written-in rate t e r bits.none p q = blank-written
+written-in rate t e r (bits.some l c level) p q =
+    heard-written (decodeUplink (map odd l) .outcome)
+    (record { frame = decodeUplink (map odd l) .frame; time = t; end = e; rssi = r; «clock_error_ppm» = bits.ppmOf (c .period) (nominalOf rate) })
+    (record { time = p; rssi = q })
+
+pub burst-written : (dbm : List Float) (rate : ℕ) (b : Burst) (t0 : Float) → T (fits binary32 (b .«peak_dbm»)) → Written (decodeBurst dbm rate b t0 .decoded)
+unfolding decodeBurst
+burst-written dbm rate b t0 h =
+    written-in rate (timeAt t0 rate (b .start)) (timeAt t0 rate (b .end)) (b .«peak_dbm») (bits.outcome (segmentOf dbm rate b) rate)
+    (add-fits binary64 t0 (div binary64 (num (b .start)) (num rate))) h

@@ -1,13 +1,15 @@
--- No NaN stands in what a burst of valid samples gives: its peak, and its times where the first sample's time is in range. Assumes nothing.
+-- No NaN stands in what a burst of valid samples gives: its peak, and its times where the first sample's time is in range; and the peak of binary32
+-- samples is a binary32 number. Assumes nothing.
 use mathlib.Core.Path.{_≡_, sym, subst}
 use mathlib.Core.Bool.{Bool, Bool·beq, true, false, cond, not, _&&_, true≢false}
-use mathlib.Core.List.{List, [], _∷_}
+use mathlib.Core.List.{List, [], _∷_, _++_}
 use Prim.Native.Nat.{ℕ, zero, suc, _+_, _-_, _*_, _^_, _≤_}
 use native.Mathlib.Nat.{le-trans}
 use native.Mathlib.Omega.{arith}
 use lib.Dec.{T, ltb, lit≤}
 use lib.ListN.{take, drop}
-use lib.Ieee.{Float, Format, nan, inf, fin, prec, low, emax, up, down, odd, units, round, sum, add, div, neg, le, lt, eq, isNan, ofInt, binary64}
+use lib.Ieee.{Float, Format, nan, inf, fin, prec, low, emax, up, down, odd, units, round, sum, add, div, neg, le, lt, eq, isNan, fits, ofInt, binary32, binary64}
+use lib.Ieee.Fits.{cond-fits}
 use Rattle.floats.specs.Number.{num}
 use Rattle.floats.specs.Fold.{maxOf, maxFrom}
 use Rattle.limits.specs.Limits.{lowestRate, highestRate, longestStream, farthestS}
@@ -15,7 +17,7 @@ use Rattle.limits.specs.Samples.{isDbm, allDbm}
 use Rattle.limits.proofs.Samples.{and-left, and-right, number, all-take, all-drop}
 use Rattle.rates.proofs.Near.{div-at, int-value}
 use Rattle.bursts.specs.Numbers.{lowestPeak}
-use Rattle.bursts.specs.Bursts.{Cluster, longEnough, threshold, gapSamples, none, clusters, burstOf, burstsIn, burstsOf}
+use Rattle.bursts.specs.Bursts.{Cluster, longEnough, threshold, gapSamples, none, clusters, between, burstOf, burstsIn, burstsOf}
 use Rattle.bursts.specs.declared.BurstOptions.{BurstOptions}
 use Rattle.bursts.specs.declared.Burst.{Burst}
 use Rattle.demod.specs.Decode.{timeAt, timeOk}
@@ -100,3 +102,58 @@ module _ (dbm : List Float) (rate : ℕ) (o : BurstOptions) (floor : Float) (v :
   pub bursts-peaked : Peaked (burstsOf dbm rate o floor)
   unfolding burstsOf
   bursts-peaked = peaked-in (clusters (threshold o floor) (gapSamples o rate) none 0 dbm)
+
+-- ---- binary32
+
+abbrev pub Single : Float → Type 0
+Single x = T (fits binary32 x)
+
+abbrev pub Singles : List Float → Type 0
+Singles [] = Unit
+Singles (x ∷ l) = Single x × Singles l
+
+pub singles-take : (n : ℕ) (l : List Float) → Singles l → Singles (take n l)
+singles-take zero l w = tt
+singles-take (suc n) [] w = tt
+singles-take (suc n) (x ∷ l) w = (w .0, singles-take n l (w .1))
+
+pub singles-drop : (n : ℕ) (l : List Float) → Singles l → Singles (drop n l)
+singles-drop zero l w = w
+singles-drop (suc n) [] w = tt
+singles-drop (suc n) (x ∷ l) w = singles-drop n l (w .1)
+
+pub singles-join : (a b : List Float) → Singles a → Singles b → Singles (a ++ b)
+singles-join [] b w v = v
+singles-join (x ∷ a) b w v = (w .0, singles-join a b (w .1) v)
+
+max-single : (m : Float) (l : List Float) → Single m → Singles l → Single (maxFrom m l)
+unfolding maxFrom
+max-single m [] n w = n
+max-single m (x ∷ l) n w = max-single (maxOf m x) l (cond-fits binary32 (lt m x) x m (w .0) n) (w .1)
+
+lowest-single : Single lowestPeak
+unfolding neg ofInt round fits
+lowest-single = tt
+
+-- every burst has such a peak
+abbrev pub SinglePeaks : List Burst → Type 0
+SinglePeaks [] = Unit
+SinglePeaks (b ∷ bs) = Single (b .«peak_dbm») × SinglePeaks bs
+
+module _ (dbm : List Float) (rate : ℕ) (o : BurstOptions) (floor : Float) (w : Singles dbm) where
+  single-in : (cs : List Cluster) → SinglePeaks (burstsIn dbm rate o floor cs)
+  unfolding burstsIn burstOf
+  single-in [] = tt
+  single-in (c ∷ cs) = go (longEnough o rate c) (single-in cs)
+    where
+      go : (t : Bool) → SinglePeaks (burstsIn dbm rate o floor cs) → SinglePeaks (cond t (burstOf dbm floor c ∷ burstsIn dbm rate o floor cs) (burstsIn dbm rate o floor cs))
+      go true p = (
+        max-single lowestPeak (between (c .first) (c .last) dbm) lowest-single
+            (singles-take (c .last + 1 - c .first) (drop (c .first) dbm) (singles-drop (c .first) dbm w)),
+        p,
+      )
+      go false p = p
+
+  pub bursts-single : SinglePeaks (burstsOf dbm rate o floor)
+  unfolding burstsOf
+  bursts-single = single-in (clusters (threshold o floor) (gapSamples o rate) none 0 dbm)
