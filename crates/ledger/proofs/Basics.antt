@@ -49,3 +49,21 @@ nothing-of x l e = let w : _≡_ {A = ℕ} 0 1 = cc in absurd (omega arith)
 pub map-join : {A B : Type 0} (f : A → B) (l k : List A) → map f (l ++ k) ≡ map f l ++ map f k
 map-join f [] k = refl
 map-join {B = B} f (x ∷ l) k = ap (λ (t : List B). f x ∷ t) (map-join f l k)
+
+-- P holds of every element
+abbrev pub Every : {A : Type 0} → (A → Type 0) → List A → Type 0
+Every P [] = Unit
+Every P (x ∷ l) = P x × Every P l
+
+pub every-join : {A : Type 0} (P : A → Type 0) (l k : List A) → Every P l → Every P k → Every P (l ++ k)
+every-join P [] k w v = v
+every-join P (x ∷ l) k w v = (w .0, every-join P l k (w .1) v)
+
+pub every-map : {A B : Type 0} (P : B → Type 0) (f : A → B) (l : List A) → Every (λ x. P (f x)) l → Every P (map f l)
+every-map P f [] w = tt
+every-map P f (x ∷ l) w = (w .0, every-map P f l (w .1))
+
+-- what follows of each
+pub every-then : {A : Type 0} (P Q : A → Type 0) → ((x : A) → P x → Q x) → (l : List A) → Every P l → Every Q l
+every-then P Q h [] w = tt
+every-then P Q h (x ∷ l) w = (h x (w .0), every-then P Q h l (w .1))

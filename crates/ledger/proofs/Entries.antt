@@ -13,7 +13,7 @@ use Rattle.ledger.specs.Frames.{Frame, keyOf, rankOf, rssiOf, timeOf, st
 use Rattle.ledger.specs.Merge.{entryKey, has, threeRanks, louder, openEntry, merge, mergeAll, expires}
 use Rattle.ledger.specs.Ledger.{Message, frames, messageKey, summary, ranked, latest, complete}
 use Rattle.ledger.specs.Causes.{mostPayload, mostAuth, spansFit, entryFits}
-use Rattle.ledger.proofs.Basics.{and-true}
+use Rattle.ledger.proofs.Basics.{and-true, Every}
 use Rattle.ledger.proofs.Spans.{meet-length, meet-fit, has-meet, open-has, open-spans, any-kept}
 
 -- ---- frames that fit: rank 0 to 2, payload at most 12 and auth at most 5 bytes
@@ -67,19 +67,29 @@ merge-snoc e (g ∷ l) f = merge-snoc (merge e g) l f
 -- what stays the first frame's
 pub record Same (e d : Pending) : Type 0 where
   pub key : entryKey d ≡ entryKey e
+  pub payload : d .message .payload ≡ e .message .payload
+  pub auth : d .message .auth ≡ e .message .auth
   pub time : d .message .time ≡ e .message .time
   pub start : d .message .start ≡ e .message .start
 
 all-same : (e : Pending) (l : List Frame) → Same e (mergeAll e l)
 unfolding mergeAll merge entryKey
-all-same e [] = record { key = refl; time = refl; start = refl }
+all-same e [] = record { key = refl; payload = refl; auth = refl; time = refl; start = refl }
 all-same e (f ∷ l) =
     let i = all-same (merge e f) l in
-    record { key = i .key; time = i .time; start = i .start }
+    record { key = i .key; payload = i .payload; auth = i .auth; time = i .time; start = i .start }
 
 pub summary-key : (m : Message) → entryKey (summary m) ≡ messageKey m
 unfolding openEntry keyOf entryKey
 summary-key m = all-same (openEntry (m .first)) (m .more) .key
+
+pub summary-payload : (m : Message) → summary m .message .payload ≡ m .first .uplink .payload
+unfolding openEntry
+summary-payload m = all-same (openEntry (m .first)) (m .more) .payload
+
+pub summary-auth : (m : Message) → summary m .message .auth ≡ m .first .uplink .auth
+unfolding openEntry
+summary-auth m = all-same (openEntry (m .first)) (m .more) .auth
 
 pub summary-time : (m : Message) → summary m .message .time ≡ timeOf (m .first)
 unfolding openEntry timeOf
@@ -115,12 +125,7 @@ summary-rssi m = all-rssi (openEntry (m .first)) (m .more)
 -- ---- ranks
 
 abbrev pub RanksFit : List Frame → Type 0
-RanksFit [] = Unit
-RanksFit (f ∷ l) = (rankOf f ≤ 2) × RanksFit l
-
-pub ranks-snoc : (l : List Frame) (f : Frame) → RanksFit l → rankOf f ≤ 2 → RanksFit (l ++ (f ∷ []))
-ranks-snoc [] f w h = (h, tt)
-ranks-snoc (g ∷ l) f w h = (w .0, ranks-snoc l f (w .1) h)
+RanksFit l = Every (λ f. rankOf f ≤ 2) l
 
 all-has : (r : ℕ) (e : Pending) (l : List Frame) → r ≤ 2 → length (e .message .spans) ≡ 3 → spansFit (e .message .spans) ≡ true → RanksFit l
     → has r (mergeAll e l .message .spans) ≡ has r (e .message .spans) || ranked r l
@@ -130,6 +135,17 @@ all-has r e (f ∷ l) h n q w =
     all-has r (merge e f) l h (meet-length (e .message .spans) f ∙ n) (meet-fit (e .message .spans) f (w .0) q) (w .1)
     ∙ ap (λ (t : Bool). t || ranked r l) (has-meet r (e .message .spans) f n q (w .0) h)
     ∙ or-assoc (has r (e .message .spans)) (eqb (rankOf f) r) (ranked r l)
+
+-- three places, of different ranks
+all-fit : (e : Pending) (l : List Frame) → length (e .message .spans) ≡ 3 → spansFit (e .message .spans) ≡ true → RanksFit l
+    → (length (mergeAll e l .message .spans) ≡ 3) × (spansFit (mergeAll e l .message .spans) ≡ true)
+unfolding mergeAll merge
+all-fit e [] n q w = (n, q)
+all-fit e (f ∷ l) n q w = all-fit (merge e f) l (meet-length (e .message .spans) f ∙ n) (meet-fit (e .message .spans) f (w .0) q) (w .1)
+
+pub summary-fit : (m : Message) → RanksFit (frames m) → (length (summary m .message .spans) ≡ 3) × (spansFit (summary m .message .spans) ≡ true)
+unfolding openEntry
+summary-fit m w = all-fit (openEntry (m .first)) (m .more) refl (open-spans (m .first) (w .0)) (w .1)
 
 pub summary-ranks : (r : ℕ) (m : Message) → r ≤ 2 → RanksFit (frames m) → has r (summary m .message .spans) ≡ ranked r (frames m)
 unfolding openEntry ranked

@@ -16,6 +16,7 @@ pub mod Orders
 pub mod Orderly
 pub mod NoCap
 pub mod Raw
+pub mod Throughout
 pub mod Ranks
 pub mod Carry
 pub mod Records
