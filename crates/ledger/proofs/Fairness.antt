@@ -1,5 +1,4 @@
 -- Demand 2's demodulation is as the bounds need it: its bursts lie in a row, and its frames' arrays are as long as an open message's.
-use mathlib.Core.List.{List}
 use Prim.Native.Nat.{ℕ, _≤_}
 use Rattle.limits.specs.Limits.{lowestRate, highestRate}
 use Rattle.demod.proofs.DecodedFacts.{burst-lawful}

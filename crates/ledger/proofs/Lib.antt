@@ -18,6 +18,9 @@ pub mod NoCap
 pub mod Raw
 pub mod Throughout
 pub mod Ranks
+pub mod Readable
+pub mod Seeing
+pub mod Sound
 pub mod Carry
 pub mod Records
 pub mod Loud

@@ -15,7 +15,7 @@ use Rattle.ledger.specs.Causes.{spansFit}
 use Rattle.ledger.proofs.Basics.{either, clash, or-false, and-true}
 
 -- a rank 0 to 2 is not that of an empty place
-not-empty : (n r : ℕ) → eqb n noSpan ≡ true → r ≤ 2 → eqb n r ≡ false
+pub not-empty : (n r : ℕ) → eqb n noSpan ≡ true → r ≤ 2 → eqb n r ≡ false
 not-empty n r e h = ⊎-elim (λ g. absurd (apart (eqb-true n noSpan e) (eqb-true n r g))) (λ g. g) (either (eqb n r))
   where
     apart : n ≡ noSpan → n ≡ r → ⊥
@@ -77,7 +77,7 @@ meet-length l f = ⊎-elim (λ g. rw g refl) (λ g. rw g (place-length f l)) (ei
 
 -- ---- different ranks 0 to 2
 
-fit-head : (s : FrameSpan) (l : List FrameSpan) → spansFit (s ∷ l) ≡ true
+pub fit-head : (s : FrameSpan) (l : List FrameSpan) → spansFit (s ∷ l) ≡ true
     → (eqb (s .rank) noSpan || (leb (s .rank) 2 && not (has (s .rank) l)) ≡ true) × (spansFit l ≡ true)
 unfolding spansFit
 fit-head s l e = and-true (eqb (s .rank) noSpan || (leb (s .rank) 2 && not (has (s .rank) l))) (spansFit l) e
@@ -87,7 +87,7 @@ unfolding spansFit
 fit-cons s l p q e = rw (p, q, or-true (eqb (s .rank) noSpan)) e
 
 -- a place that holds a span
-fit-used : (s : FrameSpan) (l : List FrameSpan) → eqb (s .rank) noSpan ≡ false → spansFit (s ∷ l) ≡ true
+pub fit-used : (s : FrameSpan) (l : List FrameSpan) → eqb (s .rank) noSpan ≡ false → spansFit (s ∷ l) ≡ true
     → (leb (s .rank) 2 ≡ true) × (has (s .rank) l ≡ false)
 fit-used s l g e =
     let h : leb (s .rank) 2 && not (has (s .rank) l) ≡ true = rw g at (fit-head s l e .0) in

@@ -14,8 +14,13 @@ use Rattle.ledger.specs.Types.{DecodedFrame, Burst}
 use Rattle.ledger.specs.Frames.{same, Frame, frameAt, keyOf, rightCrc}
 use Rattle.ledger.specs.Ledger.{Message, frames, messageKey, byFrames, Demod, capacity, tail, seconds, near, Ledger, join, Call, push, flush, chosen, others, hear, remember, takes, takeOne, takeEach, forget, scan, halve, amount, add, scanned, due, fill, fills, startCall, scans}
 use Rattle.ledger.proofs.Basics.{either, and-true, Every, every-join}
-use Rattle.ledger.proofs.Sizes.{one-still, due-held}
+use Rattle.ledger.proofs.Sizes.{one-still, scan-still, due-held}
 use Rattle.ledger.proofs.Opens.{chosen-yes, chosen-no, others-yes, others-no, join-at, join-past}
+
+-- the samples of a call
+abbrev pub given : Call → List Float
+given (push xs) = xs
+given flush = []
 
 -- of those that pass a test, and of the others
 module _ {A : Type 0} (P : A → Type 0) (p : A → Bool) where
@@ -128,12 +133,22 @@ module _ (rate : ℕ) (d : Demod) (P : Frame → Type 0) where
         let f = fed l (x ∷ xs) q in
         fills-holds n (due rate d k) rest (rw (s .0, s .1) f) (due-holds k rest f (add-holds l (x ∷ xs) w))
 
-    -- the samples of a call
-    abbrev pub given : Call → List Float
-    given (push xs) = xs
-    given flush = []
-
     pub scans-holds : (l : Ledger byFrames) (c : Call) → Q (l .held) (l .base) (given c) → EveryOpen P (l .waiting) → Holds P (scans rate d l c)
     unfolding scans startCall
     scans-holds l (push xs) q w = fills-holds (length xs) (startCall l) xs q (record { heard = tt; waiting = w })
     scans-holds l flush q w = scan-holds 0 (startCall l) (gives (l .held) [] (l .base) q) (record { heard = tt; waiting = w })
+
+    -- and Q is known of what the call leaves
+    fills-known : (n : ℕ) (l : Ledger byFrames) (xs : List Float) → Q (l .held) (l .base) xs → (ys : List Float) × Q (fills rate d n l xs .held) (fills rate d n l xs .base) ys
+    unfolding fills fill
+    fills-known zero l xs q = (xs, q)
+    fills-known (suc n) l [] q = ([], q)
+    fills-known (suc n) l (x ∷ xs) q =
+        let k = add rate (halve rate l) (x ∷ xs) in
+        let s = due-held rate d k in
+        fills-known n (due rate d k) (drop (amount rate (halve rate l) (x ∷ xs)) (x ∷ xs)) (rw (s .0, s .1) (fed l (x ∷ xs) q))
+
+    pub scans-known : (l : Ledger byFrames) (c : Call) → Q (l .held) (l .base) (given c) → (ys : List Float) × Q (scans rate d l c .held) (scans rate d l c .base) ys
+    unfolding scans startCall
+    scans-known l (push xs) q = fills-known (length xs) (startCall l) xs q
+    scans-known l flush q = let s = scan-still rate d 0 (startCall l) in ([], rw (s .held, s .base) q)
