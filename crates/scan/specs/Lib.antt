@@ -1,0 +1,2 @@
+-- The definitions that the contracts of `scan` cite.
+pub mod Midway
