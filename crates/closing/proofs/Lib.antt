@@ -1,0 +1,2 @@
+-- Laws that the proofs of `closing` cite.
+pub mod WrittenLaws
