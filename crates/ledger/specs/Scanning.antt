@@ -3,14 +3,19 @@ use Prim.Native.Nat.{ℕ}
 use mathlib.Core.List.{List}
 use lib.Ieee.{Float}
 use Rattle.floats.specs.Number.{num}
+use Rattle.rates.specs.Numbers.{gapMs}
+use Rattle.bursts.specs.Numbers.{aboveDb}
 use Rattle.bursts.specs.declared.Burst.{Burst}
 use Rattle.bursts.specs.declared.BurstOptions.{BurstOptions}
 use Rattle.bursts.specs.Levels.{noiseFloor}
 use Rattle.bursts.specs.Bursts.{burstsOf}
 
--- 15 dB, 300 ms, 40 ms: the bounds on starts, messages and records rest on the last two
+-- 300 ms: a scan's own, because the bounds on starts, messages and records rest on it
+abbrev pub scanMinMs : Float
+scanMinMs = num 300
+
 abbrev pub scanOptions : BurstOptions
-scanOptions = record { «above_db» = num 15; «min_ms» = num 300; «gap_ms» = num 40 }
+scanOptions = record { «above_db» = aboveDb; «min_ms» = scanMinMs; «gap_ms» = gapMs }
 
 abbrev pub heldBursts : ℕ → List Float → List Burst
 heldBursts rate held = burstsOf held rate scanOptions (noiseFloor held)

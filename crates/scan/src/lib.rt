@@ -28,12 +28,8 @@ const OPEN_PLACES: usize = 168;
 // The records that the event buffer holds.
 const EVENT_PLACES: usize = 256;
 
-// Which bursts a scan looks at; the bounds on starts, messages and records rest on the last two.
-const ABOVE_DB: f64 = 15.0;
-
+// A scan's own shortest burst: the bounds on starts, messages and records rest on it.
 const MIN_MS: f64 = 300.0;
-
-const GAP_MS: f64 = 40.0;
 
 // What a scan leaves, besides the event buffer; `count` is the records of the call so far.
 pub struct Scanned {
@@ -46,9 +42,9 @@ fn options() -> BurstOptions
     ensures { λ r. ⌜ r ≡ scanOptions ⌝ }
 {
     BurstOptions {
-        above_db: ABOVE_DB,
+        above_db: BurstOptions::ABOVE_DB,
         min_ms: MIN_MS,
-        gap_ms: GAP_MS,
+        gap_ms: BurstOptions::GAP_MS,
     }
 }
 
