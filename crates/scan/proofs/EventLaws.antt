@@ -1,6 +1,6 @@
 -- One record more in the event buffer. Assumes nothing.
 use mathlib.Core.Path.{_≡_, refl, sym, ap, _∙_}
-use mathlib.Core.List.{List, [], _∷_, _++_, map, append-assoc, append-nil}
+use mathlib.Core.List.{List, [], _∷_, _++_, map, append-nil}
 use Prim.Native.Nat.{ℕ, _+_, _*_, _≤_}
 use native.Mathlib.Omega.{arith}
 use lib.ListN.{length, take, drop, length-append}
@@ -53,8 +53,7 @@ length-records [] = refl
 length-records (f ∷ fs) = omega (arith, length-records fs)
 
 pub records-more : (fs : List Frame) (f : Frame) → recordsOf (fs ++ (f ∷ [])) ≡ recordsOf fs ++ (recordOf (ofFrame f) ∷ [])
-records-more [] f = refl
-records-more (g ∷ fs) f = ap (λ (t : List (List ℕ)). recordOf (ofFrame g) ∷ t) (records-more fs f)
+records-more fs f = ap (map recordOf) (map-join ofFrame fs (f ∷ [])) ∙ map-join recordOf (map ofFrame fs) (ofFrame f ∷ [])
 
 pub frame-sized : (f : Frame) → Lawful (f .uplink) → length (recordOf (ofFrame f)) ≡ recordSize
 unfolding recordOf

@@ -1,24 +1,23 @@
 -- A burst that is looked at: the code's numbers are the ledger's, and what is done with a burst that is taken. Assumes nothing.
-use mathlib.Core.Path.{_≡_, refl, sym, ap, _∙_}
-use mathlib.Core.Option.{Option, none, some}
+use mathlib.Core.Path.{_≡_, sym, ap, _∙_}
+use mathlib.Core.Option.{none, some}
 use mathlib.Core.List.{List, [], _∷_, _++_}
 use mathlib.Core.Bool.{Bool, true, false, _&&_, cond}
 use Prim.Native.Nat.{ℕ, _+_, _*_, _≤_, _<_}
 use native.Mathlib.Omega.{arith}
-use lib.ListN.{length, take, length-append, length-take}
+use lib.ListN.{length, length-append, length-take}
 use lib.Seq.{sets}
 use lib.Dec.{ltb}
 use lib.Ieee.{Float}
 use borrow.Author.Tests.{ltb-true}
 use Rattle.limits.specs.Limits.{recordSize}
-use Rattle.frame.specs.declared.Outcome.the-variants.{Refused, Nothing, Frame}
 use Rattle.bursts.specs.declared.Burst.{Burst}
 use Rattle.demod.specs.Decode.{decodeBurst}
 use Rattle.demod.specs.declared.BurstFrame.{BurstFrame}
 use Rattle.demod.specs.declared.DecodedFrame.{DecodedFrame}
 use Rattle.demod.proofs.DecodedFacts.{Lawful, burst-lawful}
 use Rattle.ledger.specs.Frames.{frameAt, rightCrc}
-use Rattle.ledger.specs.Ledger.{Ledger, byEntry, ofFrame, near, seconds, join, hear, remember, takes, takeOne}
+use Rattle.ledger.specs.Ledger.{Ledger, byEntry, ofFrame, seconds, join, hear, remember, takes, takeOne}
 use Rattle.ledger.specs.Room.{openPlaces, eventPlaces, room, takeOneIf}
 use Rattle.ledger.specs.Causes.{mostStarts}
 use Rattle.ledger.specs.Demodulation.{frameIn, heldFrame, demodOf}

@@ -95,8 +95,9 @@ fn hear(d: DecodedFrame, start: u64, waiting: Waiting, events: &mut [u8], count:
         end: d.end,
         start,
     };
+    let right = f.crc_ok;
     record::put_frame(f, r, events, limits::RECORD * count);
-    if f.crc_ok {
+    if right {
         return waiting::join(waiting, f, r);
     }
     waiting
@@ -123,23 +124,21 @@ fn take_burst(
     let x = demod::decode_within(held, rate, burst, seconds(rate, base), scratch);
     let outcome = x.outcome;
     let d = x.decoded;
+    let unheard = Scanned {
+        starts,
+        waiting,
+        count: s.count,
+    };
     match outcome {
-        frame::Outcome::Refused(_) => Scanned {
-            starts,
-            waiting,
-            count: s.count,
-        },
-        frame::Outcome::Nothing => Scanned {
-            starts,
-            waiting,
-            count: s.count,
-        },
+        frame::Outcome::Refused(_) => unheard,
+        frame::Outcome::Nothing => unheard,
         frame::Outcome::Frame => {
             let w = hear(d, start, waiting, events, s.count);
+            let n = s.count + 1;
             Scanned {
                 starts,
                 waiting: w,
-                count: s.count + 1,
+                count: n,
             }
         }
     }

@@ -1,6 +1,6 @@
 -- `scan::scan` meets its contract. Assumes nothing.
 use borrow.Author.Needs.{needs}
-use mathlib.Core.Path.{_≡_, ap, _∙_}
+use mathlib.Core.Path.{ap, _∙_}
 use Prim.Native.Nat.{ℕ}
 use Rattle.ledger.specs.Ledger.{startsFrom}
 use Rattle.starts.specs.Starts.{remembered}

@@ -1,14 +1,9 @@
 -- `scan::take_burst` meets its contract. Assumes nothing.
 use borrow.Author.Needs.{needs}
-use mathlib.Core.Path.{_≡_, refl, sym, ap, _∙_}
-use Prim.Native.Nat.{_+_, _*_, _≤_}
+use mathlib.Core.Path.{ap, _∙_}
 use native.Mathlib.Omega.{arith}
-use lib.ListN.{length}
-use Rattle.limits.specs.Limits.{recordSize}
 use Rattle.frame.specs.declared.Outcome.{Outcome}
 use Rattle.demod.specs.Decode.{decodeBurst}
-use lib.Ieee.{Float}
-use Rattle.ledger.specs.Ledger.{seconds}
 use Rattle.ledger.specs.Demodulation.{frameIn}
 use Rattle.scan.proofs.TakeLaws.{does-without, does-frame}
 use Rattle.scan.proofs.take_burst.Statement.{statement}
@@ -38,8 +33,8 @@ enum-told-3 c = search needs
 hear-requires : tie.Need-hear-requires
 hear-requires c κs = search needs
 
-add-t23 : tie.Need-add-t23
-add-t23 c = search needs
+add-n : tie.Need-add-n
+add-n c = search needs
 
 same-length : tie.Need-same-length
 same-length c = search needs
@@ -97,7 +92,7 @@ take-burst-spec =
     enum-told-2
     enum-told-3
     hear-requires
-    add-t23
+    add-n
     same-length
     returns
     same-length-2

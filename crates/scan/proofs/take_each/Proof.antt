@@ -1,7 +1,7 @@
 -- `scan::take_each` meets its contract. The invariant: what is left to be done is what was to be done, less the bursts passed. Assumes nothing.
 use borrow.Author.Needs.{needs}
 use mathlib.Core.Path.{_≡_, refl, sym, _∙_}
-use Prim.Native.Nat.{_+_, _-_, _*_, _≤_, _<_}
+use Prim.Native.Nat.{_-_, _<_}
 use native.Mathlib.Omega.{arith}
 use lib.ListN.{length}
 use Rattle.bursts.specs.Levels.{noiseFloor}
