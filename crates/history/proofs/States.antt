@@ -1,0 +1,133 @@
+-- The state and the sample buffer of the port stand for 01's ledger, with the entry that the Rust merges of each open message; and so after a call.
+use mathlib.Core.Path.{_≡_, refl, sym, ap, _∙_}
+use mathlib.Core.Bool.{Bool, true, false, not, _||_, cond}
+use mathlib.Core.List.{List, map}
+use Prim.Native.Nat.{ℕ, zero, suc, _-_, _≤_}
+use native.Mathlib.Omega.{arith}
+use lib.Dec.{ltb}
+use lib.Ieee.{Float}
+use lib.ListN.{length, take, replicate}
+use lib.Seq.{take-append-seam}
+use borrow.Author.Tests.{ltb-false}
+use Rattle.limits.specs.Limits.{badRate, short}
+use Rattle.limits.specs.Samples.{rateOk}
+use Rattle.ledger.specs.Ledger.{byFrames, byEntry, capacity, Ledger, Call, push, flush, startCall, scans, closed, events}
+use Rattle.ledger.specs.Causes.{mostStarts, orderly, Lent, tooShort, callCause, cause, afterCall, callEvents}
+use Rattle.ledger.specs.Causes as causes
+use Rattle.ledger.specs.Room.{openPlaces}
+use Rattle.ledger.specs.Demodulation.{demodOf}
+use Rattle.ledger.specs.Records.{recordOf}
+use Rattle.ledger.proofs.Orders.{passed, rate-pos}
+use Rattle.ledger.proofs.Sizes.{scan-still}
+use Rattle.ledger.proofs.Ranks.{AllRanked}
+use Rattle.ledger.proofs.Carry.{carry, cause-carry, call-carry, call-events-carry}
+use Rattle.samples.specs.Buffer.{allFilled}
+use Rattle.samples.proofs.Fillings.{held-length}
+use Rattle.starts.specs.Starts as starts
+use Rattle.waiting.specs.Waiting as waiting
+use Rattle.receiver.specs.State.{ledgerOf, countsOf, stateOf}
+use Rattle.receiver.specs.Calls.{Memory, lengthsOf, refusalOf, recordsOf, stateAfter, samplesAfter}
+use Rattle.history.proofs.Buffers.{fills-keeps}
+
+-- a call looks at no frame that was heard before it
+module _ (rate : ℕ) (l : Ledger byEntry) where
+  cause-start : (b : Lent) (c : Call) → cause rate b (causes.countsOf l) (startCall l) c ≡ cause rate b (causes.countsOf l) l c
+  unfolding cause callCause orderly startCall
+  cause-start b (push xs) = refl
+  cause-start b flush = refl
+
+  scans-start : (c : Call) → scans rate (demodOf rate) (startCall l) c ≡ scans rate (demodOf rate) l c
+  unfolding scans startCall
+  scans-start (push xs) = refl
+  scans-start flush = refl
+
+  events-start : (c : Call) (n : ℕ) → callEvents rate (demodOf rate) (startCall l) c n ≡ callEvents rate (demodOf rate) l c n
+  unfolding callEvents
+  events-start c zero = ap (events rate c) (scans-start c)
+  events-start c (suc n) = refl
+
+  -- the state for a ledger stands for it
+  ledger-is : (buf : List Float) → take (length (l .held)) buf ≡ l .held → ledgerOf (stateOf rate l) buf ≡ startCall l
+  unfolding stateOf starts.cleared waiting.cleared startCall
+  ledger-is buf h =
+      rw (h, take-append-seam (l .starts) (replicate (mostStarts - length (l .starts)) 0), take-append-seam (l .waiting) (replicate (openPlaces - length (l .waiting)) waiting.blank))
+      refl
+
+  counts-are : countsOf (stateOf rate l) ≡ causes.countsOf l
+  unfolding stateOf starts.cleared waiting.cleared
+  counts-are = refl
+
+  rate-is : stateOf rate l .rate ≡ rate
+  unfolding stateOf
+  rate-is = refl
+
+-- an accepted call has a sample buffer that is long enough
+wide : (rate : ℕ) (b : Lent) (l : Ledger byFrames) (c : Call) → cause rate b (causes.countsOf l) l c ≡ 0 → capacity rate ≤ b .samples
+unfolding cause
+wide rate b l c e = ltb-false (b .samples) (capacity rate) (first (ltb (b .samples) (capacity rate)) _ (second (rateOk rate) (tooShort rate b) _ e))
+  where
+    first : (x y : Bool) → x || y ≡ false → x ≡ false
+    first true y q = q
+    first false y q = refl
+
+    second : (x y : Bool) (k : ℕ) → cond (not x) badRate (cond y short k) ≡ 0 → y ≡ false
+    second true true k q = absurd (omega arith)
+    second true false k q = refl
+    second false y k q = absurd (omega arith)
+
+module _ (rate : ℕ) (l : Ledger byFrames) (ranked : AllRanked (l .waiting)) (c : Call) (b : Memory) (holds : take (length (l .held)) (b .samples) ≡ l .held) where
+  pub number-is : refusalOf (stateOf rate (carry l)) c b ≡ cause rate (lengthsOf b) (causes.countsOf l) l c
+  number-is =
+      rw (ledger-is rate (carry l) (b .samples) holds, counts-are rate (carry l), rate-is rate (carry l))
+      (cause-start rate (carry l) (lengthsOf b) c ∙ cause-carry rate (lengthsOf b) l c)
+
+  pub records-are : (n : ℕ) → recordsOf (stateOf rate (carry l)) c (b .samples) n ≡ map recordOf (callEvents rate (demodOf rate) l c n)
+  unfolding stateOf
+  records-are n =
+      ap (map recordOf)
+      (ap (λ (k : Ledger byEntry). callEvents rate (demodOf rate) k c n) (ledger-is rate (carry l) (b .samples) holds)
+      ∙ events-start rate (carry l) c n
+      ∙ sym (call-events-carry rate (demodOf rate) l c n ranked))
+
+  pub state-is : (n : ℕ) → stateAfter (stateOf rate (carry l)) c (b .samples) n ≡ stateOf rate (carry (afterCall rate (demodOf rate) l c n))
+  unfolding stateAfter afterCall stateOf
+  state-is zero =
+      ap (stateOf rate)
+      (ap (λ (k : Ledger byEntry). closed rate c (scans rate (demodOf rate) k c)) (ledger-is rate (carry l) (b .samples) holds)
+      ∙ ap (closed rate c) (scans-start rate (carry l) c)
+      ∙ sym (call-carry rate (demodOf rate) l c 0 ranked))
+  state-is (suc n) = refl
+
+-- ---- the sample buffer
+
+-- a push leaves in it what the ledger holds then, and every call its length
+module _ (rate : ℕ) (l : Ledger byFrames) (b : Memory) (holds : take (length (l .held)) (b .samples) ≡ l .held) where
+  pub record Kept (k : Ledger byFrames) (now : List Float) : Type 0 where
+    pub size : length now ≡ length (b .samples)
+    pub held : take (length (k .held)) now ≡ k .held
+
+  push-kept : (xs : List Float) → cause rate (lengthsOf b) (causes.countsOf l) l (push xs) ≡ 0
+      → Kept (scans rate (demodOf rate) l (push xs)) (allFilled rate (length xs) (record { held = length (l .held); places = b .samples }) xs .places)
+  unfolding scans startCall
+  push-kept xs e =
+      let p = passed rate (lengthsOf b) l (push xs) e in
+      let w = wide rate (lengthsOf b) l (push xs) e in
+      let k = fills-keeps rate (length (b .samples)) (demodOf rate) (rate-pos rate (p .rated)) w (length xs) (record { held = length (l .held); places = b .samples }) (startCall l) xs
+      (record { size = refl; fits = p .order .room; holds = holds }) in
+      let end = allFilled rate (length xs) (record { held = length (l .held); places = b .samples }) xs in
+      record {
+        size = k .size;
+        held = rw (held-length rate (end .held) (end .places) (scans rate (demodOf rate) l (push xs)) (k .fits) (omega (arith, k .size)) (k .holds)) (k .holds);
+      }
+
+  flush-kept : Kept (scans rate (demodOf rate) l flush) (b .samples)
+  unfolding scans startCall
+  flush-kept = record { size = refl; held = rw (scan-still rate (demodOf rate) 0 (startCall l) .held) holds }
+
+  pub samples-kept : (c : Call) (n : ℕ) → cause rate (lengthsOf b) (causes.countsOf l) l c ≡ n
+      → Kept (afterCall rate (demodOf rate) l c n) (samplesAfter (stateOf rate (carry l)) c (b .samples) n)
+  unfolding samplesAfter afterCall closed stateOf
+  samples-kept (push xs) zero e = let k = push-kept xs e in record { size = k .size; held = k .held }
+  samples-kept flush zero e = record { size = refl; held = flush-kept .held }
+  samples-kept (push xs) (suc n) e = record { size = refl; held = holds }
+  samples-kept flush (suc n) e = record { size = refl; held = holds }

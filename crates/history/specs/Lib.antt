@@ -1,0 +1,3 @@
+-- Runs of the port, and demand 3's theorem over them.
+pub mod Runs
+pub mod Theorem
