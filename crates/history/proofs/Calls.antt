@@ -1,5 +1,5 @@
 -- One call of the port: what it answers is what 01's ledger says, and it leaves a port that stands for the ledger after it.
-use mathlib.Core.Path.{_≡_, refl, sym, ap, _∙_}
+use mathlib.Core.Path.{_≡_, refl, sym, ap, ap₂, _∙_}
 use mathlib.Core.List.{List, [], _∷_, map}
 use Prim.Native.Nat.{ℕ, zero, suc}
 use lib.Ieee.{Float, binary32, neg, ofInt}
@@ -12,7 +12,7 @@ use Rattle.ledger.specs.Ledger.{byFrames, Ledger, Call, push, flush, dbmOf, fre
 use Rattle.ledger.specs.Causes.{number, cause, afterCall, callEvents}
 use Rattle.ledger.specs.Causes as causes
 use Rattle.ledger.specs.Demodulation.{demodOf}
-use Rattle.ledger.specs.Records.{recordOf, withRecords}
+use Rattle.ledger.specs.Records.{recordOf, withRecords, recordsIn}
 use Rattle.ledger.specs.History.{turnOf}
 use Rattle.ledger.proofs.Basics.{Every}
 use Rattle.ledger.proofs.Throughout.{given}
@@ -124,7 +124,7 @@ module _ (rate : ℕ) (first : List Float) (p : Port) (l : Ledger byFrames) (st 
   events = answered .events ∙ ap (λ (r : List (List ℕ)). withRecords r (x .asked .events)) records-is
 
   pub records : recordsFrom x ≡ written
-  records = rw (count, events) (records-in written (x .asked .events) (events-size (callEvents rate (demodOf rate) l c n) (after-sound .1)))
+  records = ap₂ recordsIn count events ∙ records-in written (x .asked .events) (events-size (callEvents rate (demodOf rate) l c n) (after-sound .1))
 
   pub rest : x .reply .after .events ≡ withRecords (recordsFrom x) (x .asked .events)
   rest = events ∙ ap (λ (r : List (List ℕ)). withRecords r (x .asked .events)) (sym records)

@@ -1,4 +1,4 @@
--- Every list of calls has a run: what the theorem says is not empty. Its records are computed in the ledger's Example.
+-- What the theorem says is not empty: every list of calls has a run, and one is worked out. A run with a frame and a message is in the ledger's Example.
 use mathlib.Core.Path.{_≡_, refl, ap, _∙_}
 use mathlib.Core.List.{List, [], _∷_, map}
 use Prim.Native.Nat.{ℕ, zero, suc}
@@ -22,28 +22,31 @@ use Rattle.receiver.specs.Calls.{lengthsOf, refusalOf, recordsOf, stateAfter, s
 use Rattle.history.specs.Runs.{Request, askRaw, askFlush, callOf, Typed, Asked, Exchange, Port, memoryOf, Did, portAfter, Run, freshPort, turnFrom, attemptOf}
 use Rattle.history.proofs.Theorem.{theorem}
 
--- a call that does what its contract says, and leaves the scratch as it was
-abbrev answerTo : Port → Asked → Exchange
-answerTo p a =
+-- a call with the number n that does what its contract says, and leaves the scratch as it was
+abbrev answerWith : ℕ → Port → Asked → Exchange
+answerWith n p a =
     record {
       asked = a;
       reply =
           record {
             received =
                 record {
-                  refused = refusalOf (p .receiver) (callOf (a .request)) (memoryOf p a);
-                  count = length (recordsOf (p .receiver) (callOf (a .request)) (p .samples) (refusalOf (p .receiver) (callOf (a .request)) (memoryOf p a)));
-                  receiver = stateAfter (p .receiver) (callOf (a .request)) (p .samples) (refusalOf (p .receiver) (callOf (a .request)) (memoryOf p a));
+                  refused = n;
+                  count = length (recordsOf (p .receiver) (callOf (a .request)) (p .samples) n);
+                  receiver = stateAfter (p .receiver) (callOf (a .request)) (p .samples) n;
                 };
             after =
                 record {
-                  samples = samplesAfter (p .receiver) (callOf (a .request)) (p .samples) (refusalOf (p .receiver) (callOf (a .request)) (memoryOf p a));
-                  events = withRecords (recordsOf (p .receiver) (callOf (a .request)) (p .samples) (refusalOf (p .receiver) (callOf (a .request)) (memoryOf p a))) (a .events);
+                  samples = samplesAfter (p .receiver) (callOf (a .request)) (p .samples) n;
+                  events = withRecords (recordsOf (p .receiver) (callOf (a .request)) (p .samples) n) (a .events);
                   scratch32 = a .scratch32;
                   scratch64 = a .scratch64;
                 };
           };
     }
+
+abbrev answerTo : Port → Asked → Exchange
+answerTo p a = answerWith (refusalOf (p .receiver) (callOf (a .request)) (memoryOf p a)) p a
 
 free : (n : ℕ) (l : List Float) → Free n l l
 unfolding Free

@@ -1,4 +1,8 @@
--- DEMAND 3 OF THE PORT: what is proved of every run, for every rate, every sample buffer and every list of calls, refused ones included. Assumes nothing.
+-- DEMAND 3 OF THE PORT: "Take every list of the calls push, push_raw and flush, refused ones included, from a fresh receiver." Assumes nothing.
+-- Read `Runs` first: a call is what the contracts of push, push_raw and flush say (`Answered`), a run is a list of calls in which "each gets the state that
+-- the last one returned and the sample buffer as the last one left it", and `turnFrom` is what a client reads off a call's number, count and bytes.
+-- Then this file; then what it cites of the crate ledger, which has no word of the port: `Ledger` and `Causes` (01's ledger and its refusals), `Demodulation`
+-- (demand 2's frames), `Records` (the table's bytes and their readers), `Demand3` (the claims).
 use mathlib.Core.Path.{_≡_}
 use mathlib.Core.List.{List, [], _∷_, map}
 use Prim.Native.Nat.{ℕ}
@@ -10,6 +14,8 @@ use Rattle.ledger.specs.Records.{recordOf, withRecords}
 use Rattle.ledger.specs.Demand3.{Demand3}
 use Rattle.ledger.specs.History.{runOf}
 use Rattle.history.specs.Runs.{Exchange, Port, memoryOf, portAfter, Run, freshPort, recordsFrom, turnFrom, attemptOf}
+
+-- ---- what is said of each call
 
 -- the records of 01's ledger, call by call, as bytes
 unfoldable pub ledgerRecords : ℕ → Demod → Ledger byFrames → List Attempt → List (List (List ℕ))
@@ -31,16 +37,31 @@ abbrev pub RestKept : List Exchange → Type 0
 RestKept [] = Unit
 RestKept (x ∷ xs) = (x .reply .after .events ≡ withRecords (recordsFrom x) (x .asked .events)) × RestKept xs
 
+-- ---- THE THEOREM
+
 pub record Holds (rate : ℕ) (samples : List Float) (xs : List Exchange) : Type 0 where
-  -- "The port accepts exactly the calls to which no cause .. applies; a cause that looks at state or held samples looks at the ledger's": the numbers and
-  -- what is seen of the records are those of 01's ledger, call by call
+  -- "The port accepts exactly the calls to which no cause .. applies; a cause that looks at state or held samples looks at the ledger's": the number that came
+  -- back and what is read off the records are those of 01's ledger, which is fed the calls and the lengths of what was lent, "and nothing that the port answers"
   pub as-ledger : map turnFrom xs ≡ runOf rate (demodOf rate) (map (attemptOf samples) xs)
-  -- "frame records of each call equal those of 01's ledger, in order", "in all else the bytes of the ledger's message": byte by byte, a zero's sign included
+  -- "the frame records of each call equal those of 01's ledger, in order", and of a message "in all else the bytes of the ledger's message": as many records as
+  -- the count names, byte by byte, a zero's sign included
   pub same-bytes : map recordsFrom xs ≡ ledgerRecords rate (demodOf rate) fresh (map (attemptOf samples) xs)
+  -- "A refusal .. leaves state and lent memory unchanged"
   pub refused : RefusedUntouched (freshPort rate samples) xs
   pub rest-kept : RestKept xs
-  -- the claims about the records of the whole history
+  -- "No two frames start under 0.3 s apart" to "over 10 s past the start of the frame that had joined last": each sentence is a field of `Demand3`, and all of
+  -- them are of what a client reads off the bytes, in the whole history
   pub claims : Demand3 rate (map turnFrom xs)
 
+-- "A fresh receiver has any rate", "The sample buffer has any length and first contents; event buffer and scratch may be others at each call, of any length"
 abbrev pub Theorem : Type 0
 Theorem = (rate : ℕ) (samples : List Float) (xs : List Exchange) → Run (freshPort rate samples) xs → Holds rate samples xs
+
+-- ---- WRONG PROGRAMS, and the fields that each fails (claims: the list at the end of `Demand3`)
+-- as-ledger: refuses all, or for a state that it spoiled itself, or accepts what a cause refuses · swallows samples · never writes · hears the first push, shams the
+--   later ones · the same frame always · a burst at index 0 or too near the newest sample taken · a start forgotten too early, or never · a dip of other depth, a
+--   frame that demand 2 does not find · a message late, early, twice, joined again
+-- same-bytes: a count that is not that of the records · records of a call in another order · a span, end, repair, clock error, length or spare byte that is not the
+--   table's · a first-frame end that is not the Rust's
+-- refused: moves its state, its samples, an event byte or a scratch number, and then refuses · rest-kept: writes past the count
+-- claims: wrong even where port and ledger would be wrong together
