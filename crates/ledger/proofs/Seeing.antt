@@ -27,6 +27,7 @@ use Rattle.ledger.specs.Frames.{Key, Frame, keyOf, rankOf, rightCrc, rss
 use Rattle.ledger.specs.Merge.{noSpan, entryKey, has, louder, finished}
 use Rattle.ledger.specs.Ledger.{Message, frames, byFrames, summary, Ledger, Call, ready, now, messages, Event, ofFrame, ofMessage, eventOf, events}
 use Rattle.ledger.specs.Causes.{spansFit}
+use Rattle.ledger.specs.Demand3.{frame}
 use Rattle.ledger.specs.History.{seeFrame, maskOf, seeMessage, see}
 use Rattle.ledger.specs.Records.{recordOf, withRecords, recordsIn, seenIn}
 use Rattle.ledger.proofs.Basics.{either, Every, every-join, every-map, every-then}
@@ -93,7 +94,9 @@ three-bits (a ∷ b ∷ c ∷ d ∷ l) n = absurd (omega arith)
 by-frame : (r : List ℕ) (f : Frame) → kindOf r ≡ frameKind → read.rankOf r ≡ rankOf f → flagsOf r ≡ frameFlags (f .uplink) → deviceOf r ≡ f .uplink .«device_id»
     → counterOf r ≡ f .uplink .counter → read.rssiOf r ≡ rssiOf f → read.timeOf r ≡ timeOf f → read.startOf r ≡ startOf f → seenIn r ≡ see (ofFrame f)
 unfolding seenIn see seeFrame keyOf rightCrc
-by-frame r f k a b c d e g h = rw (k, a, b, c, d, e, g, h, crc-flag (f .uplink)) refl
+by-frame r f k a b c d e g h =
+    rw (k, a, b, c, d, e, g, h)
+    (ap (λ (t : Bool). frame (record { key = keyOf f; rank = rankOf f; right = t; rssi = rssiOf f; time = timeOf f; start = startOf f })) (crc-flag (f .uplink)))
 
 frame-seen : (f : Frame) → Readable f → seenIn (recordOf (ofFrame f)) ≡ see (ofFrame f)
 unfolding recordOf frameRecord headBytes rankOf rssiOf timeOf startOf
