@@ -6,6 +6,8 @@ use frame::SingleBit;
 use frame::control::ControlMessage;
 use frame::header::UplinkFields;
 use frame::header::UplinkHeader;
+use message::Estimated;
+use record::FirstFrameEnd;
 use replay::Head;
 
 // CRC-16 of bytes.
@@ -232,6 +234,36 @@ fn noise_floor_row() -> bool {
     }
 }
 
+fn print_first_frame_end(e: FirstFrameEnd) -> bool {
+    match e {
+        FirstFrameEnd::Unknown => {
+            replay::print(b"ffe -");
+            replay::print_end()
+        }
+        FirstFrameEnd::Known(t) => {
+            replay::print(b"ffe ");
+            replay::print_f64(t);
+            replay::print_end()
+        }
+    }
+}
+
+fn estimate_first_frame_end_row() -> bool {
+    let mut part = [0u8; 1];
+    if !replay::read_part(&mut part) {
+        return replay::print_short();
+    }
+    let spans = records::spans::read_spans(part[0]);
+    if !spans.whole {
+        return replay::print_short();
+    }
+    let three = spans.three;
+    match message::estimate_first_frame_end(three) {
+        Estimated::Refused(n) => replay::print_refusal(n),
+        Estimated::End(e) => print_first_frame_end(e),
+    }
+}
+
 // The case of a row; whether there may be another case.
 fn row(n: u8) -> bool {
     match n {
@@ -245,6 +277,7 @@ fn row(n: u8) -> bool {
         7 => trig_row(),
         8 => atan2_row(),
         9 => noise_floor_row(),
+        10 => estimate_first_frame_end_row(),
         11 => round_row(),
         _ => replay::print_short(),
     }

@@ -1,0 +1,27 @@
+// Frames' spans in the input.
+use record::FrameSpan;
+use replay::Span;
+
+pub struct Spans {
+    pub whole: bool,
+    pub three: [FrameSpan; 3],
+}
+
+pub fn span_of(s: Span) -> FrameSpan {
+    FrameSpan {
+        rank: s.rank,
+        time: s.time,
+        end: s.end,
+    }
+}
+
+// As many spans as a message has, three at most.
+pub fn read_spans(count: u8) -> Spans {
+    let a = replay::read_span(0 < count);
+    let b = replay::read_span(1 < count);
+    let c = replay::read_span(2 < count);
+    Spans {
+        whole: a.whole & (b.whole & c.whole),
+        three: [span_of(a), span_of(b), span_of(c)],
+    }
+}
