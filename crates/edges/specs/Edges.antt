@@ -24,7 +24,7 @@ use Rattle.cfo.specs.Cfo.{signed, stepHz}
 use Rattle.cfo.specs.declared.StepHz.the-variants.{Hz}
 use Rattle.lists.specs.Lists.{Reading}
 use Rattle.measure.specs.Measured.{frame1}
-use Rattle.measure.specs.declared.FrameSpan.{FrameSpan}
+use Rattle.record.specs.declared.FrameSpan.{FrameSpan}
 use Rattle.measure.specs.declared.Frequency.the-variants as frequency
 
 -- ---- P5 and P6: what is heard over a floor of -100 dBm

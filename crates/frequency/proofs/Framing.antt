@@ -11,7 +11,7 @@ use lib.Ieee.{Float, nan}
 use Rattle.limits.specs.Samples.{rateOk}
 use Rattle.limits.proofs.Samples.{and-left, and-right}
 use Rattle.lists.specs.Lists.{Reading, noNan, lastOr}
-use Rattle.measure.specs.declared.FrameSpan.{FrameSpan}
+use Rattle.record.specs.declared.FrameSpan.{FrameSpan}
 use Rattle.measure.specs.declared.Frequency.{Frequency}
 use Rattle.measure.specs.declared.Measured.{Measured}
 use Rattle.measure.specs.Gathered.{Free}

@@ -13,7 +13,7 @@ use Rattle.measure.specs.declared.Frequency.{Frequency}
 use Rattle.measure.specs.declared.Frequency.the-variants.{Nothing, Hz}
 use Rattle.measure.specs.declared.Measured.{Measured}
 use Rattle.measure.specs.declared.Measured.the-variants.{Unmeasured, Found}
-use Rattle.measure.specs.declared.FrameSpan.{FrameSpan}
+use Rattle.record.specs.declared.FrameSpan.{FrameSpan}
 use Rattle.measure.specs.Measured.{readingsOf, frameFrequency, frame1}
 use Rattle.tuning.specs.Ranges.{spanOk, spansOk}
 use Rattle.frequency.specs.declared.FrequencyTracker.{FrequencyTracker}

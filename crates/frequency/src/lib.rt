@@ -530,7 +530,7 @@ impl FrequencyTracker {
     // refusals 1, 2, 5, 9.
     pub fn frame_frequency(
         self,
-        f: measure::FrameSpan,
+        f: record::FrameSpan,
         at: &[u64],
         lo: &[u32],
         hz: &[f64],
@@ -550,7 +550,7 @@ impl FrequencyTracker {
     // frequency. Refusals 1, 2, 5, 9.
     pub fn frame1(
         self,
-        spans: [measure::FrameSpan; 3],
+        spans: [record::FrameSpan; 3],
         downlink: bool,
         at: &[u64],
         lo: &[u32],

@@ -18,7 +18,7 @@ use Rattle.measure.specs.declared.Frequency.{Frequency}
 use Rattle.measure.specs.declared.Frequency.the-variants.{Nothing, Hz}
 use Rattle.measure.specs.declared.Measured.{Measured}
 use Rattle.measure.specs.declared.Measured.the-variants.{Unmeasured, Found}
-use Rattle.measure.specs.declared.FrameSpan.{FrameSpan}
+use Rattle.record.specs.declared.FrameSpan.{FrameSpan}
 
 -- hz.len() >= 5
 abbrev pub fewest : ℕ

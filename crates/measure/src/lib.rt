@@ -43,13 +43,6 @@ pub enum Measured {
     Found(f64, u32),
 }
 
-// When one frame was on air, in stream seconds; rank 255: no span in this place.
-pub struct FrameSpan {
-    pub rank: u8,
-    pub time: f64,
-    pub end: f64,
-}
-
 // How many readings lie in a frame, and the receiver frequency of the last.
 struct Scan {
     seen: usize,

@@ -1,6 +1,5 @@
 // The frequency tracker, one call a line (docs/REPLAY.md, `tracker`).
 mod lines; // what is printed
-mod spans; // frames' spans
 
 use crate::lines::print_frame_frequency;
 use crate::lines::print_frame1;
@@ -9,9 +8,9 @@ use crate::lines::print_next;
 use crate::lines::print_readings;
 use crate::lines::print_samples;
 use crate::lines::print_tuned;
-use crate::spans::read_spans;
-use crate::spans::span_of;
 use frequency::FrequencyTracker;
+use records::spans::read_spans;
+use records::spans::span_of;
 use replay::Head;
 
 // Between two calls: whether there may be another one, the refusal of `new` or 0, and the tracker.

@@ -4,7 +4,7 @@ use mathlib.Core.List.{List, [], _∷_}
 use Prim.Native.Nat.{ℕ}
 use borrow.Author.Tests.{eq-eqb, ne-eqb}
 use Rattle.lists.specs.Lists.{Reading}
-use Rattle.measure.specs.declared.FrameSpan.{FrameSpan}
+use Rattle.record.specs.declared.FrameSpan.{FrameSpan}
 use Rattle.measure.specs.declared.Measured.the-variants.{Unmeasured}
 use Rattle.measure.specs.Measured.{frameFrequency, ofRank}
 

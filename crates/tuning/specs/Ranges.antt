@@ -7,7 +7,7 @@ use lib.Ieee.{Float, lt, le, neg}
 use Rattle.floats.specs.Number.{num}
 use Rattle.limits.specs.Limits.{farthestS}
 use Rattle.lists.specs.Lists.{every}
-use Rattle.measure.specs.declared.FrameSpan.{FrameSpan}
+use Rattle.record.specs.declared.FrameSpan.{FrameSpan}
 
 -- number 9: 'step not over 0 to 10,000'
 abbrev pub highestStep : ℕ

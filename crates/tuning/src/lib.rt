@@ -78,7 +78,7 @@ pub fn time_ok(x: f64) -> bool
     low & high
 }
 
-pub fn span_ok(f: measure::FrameSpan) -> bool
+pub fn span_ok(f: record::FrameSpan) -> bool
     ensures { λ r. ⌜ r ≡ spanOk f ⌝ }
 {
     let rank = f.rank <= HIGHEST_RANK;
@@ -86,14 +86,14 @@ pub fn span_ok(f: measure::FrameSpan) -> bool
     rank & (time & time_ok(f.end))
 }
 
-pub fn place_ok(f: measure::FrameSpan) -> bool
+pub fn place_ok(f: record::FrameSpan) -> bool
     ensures { λ r. ⌜ r ≡ (eqb (f .rank) noSpan || spanOk f) ⌝ }
 {
     let none = f.rank == NO_SPAN;
     none | span_ok(f)
 }
 
-pub fn spans_ok(a: measure::FrameSpan, b: measure::FrameSpan, c: measure::FrameSpan) -> bool
+pub fn spans_ok(a: record::FrameSpan, b: record::FrameSpan, c: record::FrameSpan) -> bool
     ensures { λ r. ⌜ r ≡ spansOk (a ∷ b ∷ c ∷ []) ⌝ }
 {
     let x = place_ok(a);
@@ -160,9 +160,9 @@ pub fn retuned_by(step: Step, old: bool) -> bool
 pub fn of_rank(
     rate: u32,
     rank: u8,
-    a: measure::FrameSpan,
-    b: measure::FrameSpan,
-    c: measure::FrameSpan,
+    a: record::FrameSpan,
+    b: record::FrameSpan,
+    c: record::FrameSpan,
     count: usize,
     at: &[u64],
     lo: &[u32],
