@@ -1,6 +1,6 @@
 -- Records written behind others, on plain lists. Assumes nothing.
 use mathlib.Core.Bool.{Bool, true, false, cond}
-use mathlib.Core.List.{List, [], _∷_, _++_, map, append-nil}
+use mathlib.Core.List.{List, [], _∷_, _++_, append-nil}
 use mathlib.Core.Logic.{_⊎_, inl, inr, ⊎-elim}
 use mathlib.Core.Path.{_≡_, _∙_, refl, sym, ap, ap₂}
 use Prim.Native.Nat.{ℕ, zero, suc, _+_, _*_, _≤_, _<_}
@@ -17,7 +17,7 @@ use Rattle.record.proofs.RecordLaws.{length-message}
 use Rattle.demod.specs.Capture.{joined}
 use Rattle.demod.proofs.CaptureLaws.{joined-append}
 use Rattle.ledger.specs.Merge.{finished}
-use Rattle.ledger.specs.Ledger.{byEntry, chosen, eventOf}
+use Rattle.ledger.specs.Ledger.{chosen}
 use Rattle.ledger.specs.Records.{recordOf, withRecords}
 use Rattle.ledger.specs.declared.Pending.{Pending}
 use Rattle.waiting.specs.Waiting.{leaves}

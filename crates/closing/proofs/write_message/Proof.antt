@@ -1,10 +1,8 @@
 -- `closing::write_message` meets its contract. Assumes nothing.
 use mathlib.Core.Path.{_∙_, _≡_, refl, sym}
-use mathlib.Core.Bool.{true, false}
 use Prim.Native.Nat.{_*_, _+_, _≤_}
 use native.Mathlib.Omega.{arith}
 use lib.ListN.{length}
-use lib.Seq.{sets}
 use borrow.Author.Needs.{needs}
 use Rattle.limits.specs.Limits.{recordSize}
 use Rattle.record.specs.Record.{messageRecord}

@@ -2,16 +2,13 @@
 use mathlib.Core.Path.{_≡_}
 use Prim.Native.Nat.{_-_}
 use native.Mathlib.Omega.{arith}
-use lib.ListN.{getD, length}
+use lib.ListN.{length}
 use borrow.Author.Needs.{needs}
 use Rattle.message.proofs.SpanLaws.{length-mapped}
 use Rattle.waiting.proofs.WaitingLaws.{outside-message}
 use Rattle.closing.proofs.WrittenLaws.{WrittenAt, written-start, written-room, written-turn, written-all}
 use Rattle.closing.proofs.write_messages.Statement.{statement}
 use Rattle.closing.proofs.write_messages.Tie as tie
-use Rattle.closing.proofs.write_messages.Reads as reads
-use Rattle.closing.proofs.write_messages.Lts as lts
-use Rattle.closing.proofs.write_message.Reads as write-message-reads
 
 abbrev Inv-loop : tie.InvT-loop
 Inv-loop all time events₀ count w n k₀ i₀ events k i = WrittenAt all time (w .messages) n count events₀ i k events
