@@ -1,3 +1,6 @@
--- Laws of the state and of its causes.
+-- Laws of the state, of its causes and of an accepted call.
 pub mod StateLaws
 pub mod CauseLaws
+pub mod FillLaws
+pub mod RunLaws
+pub mod AnswerLaws

@@ -1,3 +1,4 @@
 -- The definitions that the contracts of `receiver` cite.
 pub mod State
 pub mod Calls
+pub mod Running

@@ -8,6 +8,10 @@ ghost use Rattle.limits.specs.Limits.{longestStream};
 ghost use Rattle.ledger.specs.Ledger.{byEntry, capacity, fresh, push, pushRaw, flush};
 ghost use Rattle.ledger.specs.Causes.{tooShort, cause};
 ghost use Rattle.receiver.specs.State.{stateOf, ledgerOf, countsOf, lentOf, givenCause, stateCause, Known};
+ghost use Rattle.receiver.specs.Calls.{Answered};
+
+mod run; // an accepted call
+
 use starts::Starts;
 use waiting::Waiting;
 
@@ -57,6 +61,100 @@ impl SigfoxReceiver {
             starts,
             waiting,
         }
+    }
+
+    // Samples in dBm; what is complete is written to the events (receiver.rs `push`).
+    pub fn push(
+        self,
+        dbm: &[f32],
+        samples: &mut [f32],
+        events: &mut [u8],
+        scratch32: &mut [f32],
+        scratch64: &mut [f64],
+    ) -> Received
+        ensures { λ r. ⌜ Answered self (push (now (dbm .entry)))
+            (record { samples = now (samples .entry); events = now (events .entry); scratch32 = now (scratch32 .entry); scratch64 = now (scratch64 .entry) })
+            (record { samples = now (samples .exit); events = now (events .exit); scratch32 = now (scratch32 .exit); scratch64 = now (scratch64 .exit) }) r ⌝ }
+    {
+        let lent = Lengths {
+            samples: samples.len(),
+            events: events.len(),
+            scratch32: scratch32.len(),
+            scratch64: scratch64.len(),
+        };
+        let refused = push_cause(self, dbm, samples, lent);
+        if 1 <= refused {
+            return Received {
+                refused,
+                count: 0,
+                receiver: self,
+            };
+        }
+        let heard = run::fillings(self, dbm, samples, events, scratch64);
+        run::finish(heard, false, events)
+    }
+
+    // Raw samples, -2 times dBm each (receiver.rs `push_raw`).
+    pub fn push_raw(
+        self,
+        raw: &[u8],
+        samples: &mut [f32],
+        events: &mut [u8],
+        scratch32: &mut [f32],
+        scratch64: &mut [f64],
+    ) -> Received
+        ensures { λ r. ⌜ Answered self (pushRaw (now (raw .entry)))
+            (record { samples = now (samples .entry); events = now (events .entry); scratch32 = now (scratch32 .entry); scratch64 = now (scratch64 .entry) })
+            (record { samples = now (samples .exit); events = now (events .exit); scratch32 = now (scratch32 .exit); scratch64 = now (scratch64 .exit) }) r ⌝ }
+    {
+        let lent = Lengths {
+            samples: samples.len(),
+            events: events.len(),
+            scratch32: scratch32.len(),
+            scratch64: scratch64.len(),
+        };
+        let refused = push_raw_cause(self, raw, samples, lent);
+        if 1 <= refused {
+            return Received {
+                refused,
+                count: 0,
+                receiver: self,
+            };
+        }
+        samples::dbm_of_all(raw, scratch32);
+        let n = raw.len();
+        let heard = run::fillings(self, &scratch32[..n], samples, events, scratch64);
+        run::finish(heard, false, events)
+    }
+
+    // What has been heard so far is decoded and every open message written (receiver.rs `flush`).
+    pub fn flush(
+        self,
+        samples: &mut [f32],
+        events: &mut [u8],
+        scratch32: &mut [f32],
+        scratch64: &mut [f64],
+    ) -> Received
+        ensures { λ r. ⌜ Answered self flush
+            (record { samples = now (samples .entry); events = now (events .entry); scratch32 = now (scratch32 .entry); scratch64 = now (scratch64 .entry) })
+            (record { samples = now (samples .exit); events = now (events .exit); scratch32 = now (scratch32 .exit); scratch64 = now (scratch64 .exit) }) r ⌝ }
+    {
+        let lent = Lengths {
+            samples: samples.len(),
+            events: events.len(),
+            scratch32: scratch32.len(),
+            scratch64: scratch64.len(),
+        };
+        let refused = flush_cause(self, samples, lent);
+        if 1 <= refused {
+            return Received {
+                refused,
+                count: 0,
+                receiver: self,
+            };
+        }
+        let heard = run::last_scan(self, samples, events, scratch64);
+        run::finish(heard, true, events)
     }
 }
 

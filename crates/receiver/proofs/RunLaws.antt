@@ -1,0 +1,246 @@
+-- An accepted call from its first sample to its answer: where its scans begin and end, and what its end makes of them. Assumes nothing.
+use mathlib.Core.Bool.{Bool}
+use mathlib.Core.List.{List, [], _∷_, _++_, map}
+use mathlib.Core.Path.{_≡_, _∙_, refl, sym, ap}
+use Prim.Native.Nat.{ℕ, _+_, _≤_}
+use native.Mathlib.Omega.{arith}
+use lib.ListN.{length, take, length-map}
+use lib.Ieee.{Float}
+use Rattle.limits.specs.Limits.{longestStream}
+use Rattle.demod.specs.Capture.{joined}
+use Rattle.ledger.specs.Ledger.{Ledger, Call, push, flush, byEntry, seconds, ready, chosen, others, now, scans, startCall, closed, messages, events, eventOf, ofFrame}
+use Rattle.ledger.specs.Ledger as ledger
+use Rattle.ledger.specs.Causes as causes
+use Rattle.ledger.specs.Room.{Accepted, scansIf, scanIf}
+use Rattle.ledger.specs.Demodulation.{demodOf}
+use Rattle.ledger.specs.Records.{recordOf, withRecords}
+use Rattle.ledger.specs.declared.Pending.{Pending}
+use Rattle.ledger.proofs.Basics.{map-join}
+use Rattle.ledger.proofs.Sizes.{callSize, scans-small}
+use Rattle.ledger.proofs.OpenKinds.{entries-lawful}
+use Rattle.ledger.proofs.Orderly.{bounded}
+use Rattle.ledger.proofs.NoCap.{no-cap}
+use Rattle.ledger.proofs.Fairness.{demod-fair}
+use Rattle.samples.specs.Buffer.{Buffer, allFilled}
+use Rattle.samples.proofs.Fillings.{held-length}
+use Rattle.starts.specs.Starts as starts
+use Rattle.starts.specs.declared.Starts.{Starts}
+use Rattle.waiting.specs.Waiting.{waitingOf, leaves}
+use Rattle.waiting.specs.Waiting as waiting
+use Rattle.waiting.specs.declared.Waiting.{Waiting}
+use Rattle.scan.specs.Midway.{Midway, Lent, Within, Does, AllSized}
+use Rattle.scan.specs.declared.Scanned as scan
+use Rattle.closing.specs.Written.{Sized, written}
+use Rattle.receiver.specs.State.{ledgerOf, stateOf}
+use Rattle.receiver.specs.Calls.{samplesAfter}
+use Rattle.receiver.specs.Running.{Passes, Under, Scanned, Closable, EndsBy, Ended}
+use Rattle.receiver.specs.declared.SigfoxReceiver.{SigfoxReceiver}
+use Rattle.receiver.specs.declared.run.Heard.{Heard}
+use Rattle.receiver.proofs.FillLaws.{FillAt, ledger-end, buffer-end, scan-if-still}
+
+-- ---- a call's scans
+
+module _ (s : SigfoxReceiver) (samples : List Float) (old : List ℕ) (scratch : List Float) where
+  abbrev rate : ℕ
+  rate = s .rate
+
+  -- no record is there yet
+  start : Midway (ledgerOf s samples) old (s .starts) (s .waiting) 0 old
+  unfolding withRecords joined
+  start = record { starts = refl; waiting = refl; count = refl; events = refl; sized = tt }
+
+  module _ (c : Call) (p : Passes s c samples old scratch) where
+    -- the state's counts are the ledger's
+    pub held-is : s .held ≡ length (take (s .held) samples)
+    held-is = ap (λ (k : causes.Counts). k .held) (p .counts)
+
+    starts-few : s .starts .count ≤ 96
+    starts-few = let e : s .starts .count ≡ length (starts.remembered (s .starts)) = ap (λ (k : causes.Counts). k .starts) (p .counts) in omega (arith, p .order .few)
+
+    waiting-few : s .waiting .count ≤ 128
+    waiting-few = let e : s .waiting .count ≡ length (waitingOf (s .waiting)) = ap (λ (k : causes.Counts). k .waiting) (p .counts) in omega (arith, p .order .waiting)
+
+    begins : Within (record { starts = s .starts; waiting = s .waiting; count = 0 })
+    begins = record { starts = starts-few; waiting = omega (arith, waiting-few); count = omega arith }
+
+    -- no test for room fails
+    uncapped : scansIf rate (demodOf rate) (ledgerOf s samples) c ≡ scans rate (demodOf rate) (ledgerOf s samples) c
+    uncapped =
+        no-cap rate (demodOf rate) (demod-fair rate (p .lowest) (p .highest)) entries-lawful (omega (arith, p .lowest)) (ledgerOf s samples) c (p .order) (p .accepted)
+
+  module _ (xs : List Float) where
+    abbrev pub allIn : Ledger byEntry
+    allIn = scans rate (demodOf rate) (ledgerOf s samples) (push xs)
+
+    abbrev pub lastBuffer : Buffer
+    lastBuffer = allFilled rate (length xs) (record { held = s .held; places = samples }) xs
+
+    pub fill-start : Passes s (push xs) samples old scratch → FillAt rate xs allIn lastBuffer old samples old (s .held) (s .base) (s .unscanned) (s .starts) (s .waiting) 0 0
+    unfolding scansIf startCall
+    fill-start p =
+        let e = held-is (push xs) p in
+        record {
+          ledger = ledgerOf s samples;
+          inside = omega arith;
+          places = p .places;
+          bytes = p .bytes;
+          fits = omega (arith, p .order .room);
+          holds = refl;
+          based = refl;
+          unseen = refl;
+          quiet = p .order .unscanned;
+          valid = p .order .samples;
+          stream = omega (arith, p .accepted .stream);
+          midway = start;
+          within = begins (push xs) p;
+          rest = uncapped (push xs) p;
+          buffer = refl;
+        }
+
+    pub fill-end : (places : List Float) (now : List ℕ) (held base unscanned : ℕ) (a : Starts) (b : Waiting) (count from : ℕ)
+        → FillAt rate xs allIn lastBuffer old places now held base unscanned a b count from → length xs ≤ from
+        → Scanned s (push xs) samples old (record { receiver = record { rate = rate; held = held; base = base; unscanned = unscanned; starts = a; waiting = b }; count = count }) places now
+    unfolding samplesAfter
+    fill-end places now held base unscanned a b count from m h =
+        let q : from ≡ length xs = omega (arith, m .inside) in
+        let e : m .ledger ≡ allIn = ledger-end rate (demodOf rate) (m .ledger) allIn xs from q (m .rest) in
+        let f = buffer-end rate (record { held = held; places = places }) lastBuffer xs from q (m .buffer) in
+        record {
+          rate = refl;
+          starts = m .within .starts;
+          waiting = m .within .waiting;
+          under =
+              rw (← e)
+              (record {
+                held = sym (held-length rate held places (m .ledger) (m .fits) (m .places) (m .holds));
+                base = m .based;
+                unscanned = m .unseen;
+                midway = m .midway;
+              });
+          samples = ap (λ (x : Buffer). x .places) f;
+        }
+
+  -- ---- a flush's
+
+  module _ (p : Passes s flush samples old scratch) where
+    pub flush-asks : Lent rate (s .base) 0 (take (s .held) samples) old scratch × Within (record { starts = s .starts; waiting = s .waiting; count = 0 })
+    flush-asks =
+        let e = held-is flush p in (
+          record {
+            lowest = p .lowest;
+            highest = p .highest;
+            fits = p .order .room;
+            valid = p .order .samples;
+            stream = p .order .stream;
+            waits = omega arith;
+            events = p .bytes;
+            scratch = p .numbers;
+          },
+          begins flush p,
+        )
+
+    pub flush-end : (t : scan.Scanned) (now : List ℕ) → Does (scanIf rate (demodOf rate) 0) (take (s .held) samples) (s .base) (record { starts = s .starts; waiting = s .waiting; count = 0 }) old t now
+        → Scanned s flush samples old (record { receiver = record { rate = rate; held = s .held; base = s .base; unscanned = s .unscanned; starts = t .starts; waiting = t .waiting }; count = t .count }) samples now
+    unfolding scansIf startCall samplesAfter
+    flush-end t now d =
+        let l = ledgerOf s samples in
+        let z = scan-if-still rate (demodOf rate) 0 l in
+        record {
+          rate = refl;
+          starts = d .within .starts;
+          waiting = d .within .waiting;
+          under =
+              rw (← uncapped flush p)
+              (record {
+                held = held-is flush p ∙ ap length (sym (z .held));
+                base = sym (z .base);
+                unscanned = sym (z .unscanned);
+                midway = d .midway l old refl refl start;
+              });
+          samples = refl;
+        }
+
+-- ---- a call's end
+
+sized : (rs : List (List ℕ)) → AllSized rs → Sized rs
+sized [] a = tt
+sized (r ∷ rs) a = (a .0, sized rs (a .1))
+
+-- the messages that leave
+messages-are : (rate : ℕ) (c : Call) (all : Bool) (l : Ledger byEntry) (t : Float) → EndsBy c all → t ≡ now rate l → messages rate c l ≡ chosen (leaves all t) (l .waiting)
+unfolding messages
+messages-are rate c all l t k e = rw e (ap (λ (f : Pending → Bool). chosen f (l .waiting)) (k (now rate l)))
+
+others-are : (rate : ℕ) (c : Call) (all : Bool) (l : Ledger byEntry) (t : Float) → EndsBy c all → t ≡ now rate l
+    → others (ready byEntry c (now rate l)) (l .waiting) ≡ others (leaves all t) (l .waiting)
+others-are rate c all l t k e = rw e (ap (λ (f : Pending → Bool). others f (l .waiting)) (k (now rate l)))
+
+module _ (l : Ledger byEntry) (old : List ℕ) (h : Heard) (bytes : List ℕ) (u : Under l old h bytes) where
+  -- "Now is (base + held)/rate"
+  time-is : seconds (h .receiver .rate) (h .receiver .base + h .receiver .held) ≡ now (h .receiver .rate) l
+  unfolding now
+  time-is = rw (u .held, u .base) refl
+
+  module _ (c : Call) (all : Bool) (k : EndsBy c all) where
+    leaving : written all (seconds (h .receiver .rate) (h .receiver .base + h .receiver .held)) (waitingOf (h .receiver .waiting))
+        ≡ map recordOf (map (eventOf byEntry) (messages (h .receiver .rate) c l))
+    leaving =
+        let t = seconds (h .receiver .rate) (h .receiver .base + h .receiver .held) in
+        rw (u .midway .waiting, messages-are (h .receiver .rate) c all l t k time-is) refl
+
+    records-are : map recordOf (events (h .receiver .rate) c l)
+        ≡ map recordOf (map ofFrame (l .heard)) ++ written all (seconds (h .receiver .rate) (h .receiver .base + h .receiver .held)) (waitingOf (h .receiver .waiting))
+    records-are = map-join recordOf (map ofFrame (l .heard)) (map (eventOf byEntry) (messages (h .receiver .rate) c l)) ∙ rw leaving refl
+
+    module _ (n : ℕ) (now : List ℕ)
+        (w : (rs : List (List ℕ)) (was : List ℕ) → Sized rs → h .count ≡ length rs → bytes ≡ withRecords rs was
+        → (n ≡ length (rs ++ written all (seconds (h .receiver .rate) (h .receiver .base + h .receiver .held)) (waitingOf (h .receiver .waiting))))
+        × (now ≡ withRecords (rs ++ written all (seconds (h .receiver .rate) (h .receiver .base + h .receiver .held)) (waitingOf (h .receiver .waiting))) was)) where
+      wrote : (n ≡ length (map recordOf (events (h .receiver .rate) c l))) × (now ≡ withRecords (map recordOf (events (h .receiver .rate) c l)) old)
+      wrote =
+          rw records-are
+          (w (map recordOf (map ofFrame (l .heard))) old (sized (map recordOf (map ofFrame (l .heard))) (u .midway .sized))
+          (u .midway .count ∙ sym (length-map (map ofFrame (l .heard)) recordOf ∙ length-map (l .heard) ofFrame)) (u .midway .events))
+
+      pub ended : (a : Starts) (b : Waiting) → a ≡ starts.cleared (starts.remembered (h .receiver .starts))
+          → b ≡ waiting.cleared (others (leaves all (seconds (h .receiver .rate) (h .receiver .base + h .receiver .held))) (waitingOf (h .receiver .waiting)))
+          → Ended (h .receiver .rate) c l old
+          (record {
+            refused = 0;
+            count = n;
+            receiver =
+                record { rate = h .receiver .rate; held = h .receiver .held; base = h .receiver .base; unscanned = h .receiver .unscanned; starts = a; waiting = b };
+          })
+          now
+      unfolding stateOf closed
+      ended a b ea eb =
+          let t = seconds (h .receiver .rate) (h .receiver .base + h .receiver .held) in
+          let x : a ≡ starts.cleared (l .starts) = ea ∙ ap starts.cleared (u .midway .starts) in
+          let y : b ≡ waiting.cleared (others (ready byEntry c (ledger.now (h .receiver .rate) l)) (l .waiting)) =
+          eb ∙ rw (u .midway .waiting, others-are (h .receiver .rate) c all l t k time-is) refl in
+          record { answer = rw (wrote .0, u .held, u .base, u .unscanned, x, y) refl; records = wrote .1 }
+
+-- the records of a call whose scans are done have room
+pub closable : (s : SigfoxReceiver) (c : Call) (samples places : List Float) (old now : List ℕ) (scratch : List Float) (h : Heard) (all : Bool)
+    → Passes s c samples old scratch → Scanned s c samples old h places now → EndsBy c all → length now ≡ length old → Closable h all now
+closable s c samples places old now scratch h all p d k e =
+    let l = ledgerOf s samples in
+    let w = scans (s .rate) (demodOf (s .rate)) l c in
+    let pos : 1 ≤ s .rate = omega (arith, p .lowest) in
+    let fair = demod-fair (s .rate) (p .lowest) (p .highest) in
+    let few = bounded (s .rate) (demodOf (s .rate)) fair entries-lawful pos .events l c (p .order) (p .accepted) in
+    let long = scans-small (s .rate) (demodOf (s .rate)) l c pos (p .order .room) .1 in
+    let n : length (written all (seconds (h .receiver .rate) (h .receiver .base + h .receiver .held)) (waitingOf (h .receiver .waiting))) ≡ length (messages (s .rate) c w)
+    = ap length (leaving w old h now (d .under) c all k)
+    ∙ length-map (map (eventOf byEntry) (messages (h .receiver .rate) c w)) recordOf ∙ length-map (messages (h .receiver .rate) c w) (eventOf byEntry)
+    ∙ ap (λ (x : ℕ). length (messages x c w)) (d .rate) in
+    record {
+      starts = d .starts;
+      waiting = d .waiting;
+      stream = omega (arith, d .under .held, d .under .base, ends l c (p .order .stream) (p .accepted), long);
+      room = omega (arith, n, few, d .under .midway .count, p .bytes);
+    }
+  where
+    ends : (l : Ledger byEntry) (c : Call) → l .base + length (l .held) ≤ longestStream → Accepted (s .rate) l c → l .base + length (l .held) + callSize c ≤ longestStream
+    ends l (push xs) q a = a .stream
+    ends l flush q a = omega arith

@@ -1,0 +1,92 @@
+-- `receiver::SigfoxReceiver::push` meets its contract. Assumes nothing.
+use mathlib.Core.Bool.{false}
+use mathlib.Core.Path.{_≡_, _∙_, sym}
+use native.Mathlib.Omega.{arith}
+use lib.ListN.{length}
+use borrow.Author.Needs.{needs}
+use Rattle.ledger.specs.Ledger.{push, scans}
+use Rattle.ledger.specs.Demodulation.{demodOf}
+use Rattle.message.proofs.SpanLaws.{length-mapped}
+use Rattle.receiver.specs.State.{ledgerOf}
+use Rattle.receiver.specs.Calls.{Memory, refusalOf}
+use Rattle.receiver.specs.Running.{Passes}
+use Rattle.receiver.proofs.RunLaws.{closable}
+use Rattle.receiver.proofs.AnswerLaws.{passes, answered-no, answered-yes, ends-push}
+use Rattle.receiver.proofs.SigfoxReceiver.push.Statement.{statement}
+use Rattle.receiver.proofs.SigfoxReceiver.push.Tie as tie
+use Rattle.receiver.proofs.SigfoxReceiver.push.Reads as reads
+use Rattle.receiver.proofs.SigfoxReceiver.push.Lts as lts
+use Rattle.receiver.proofs.push_cause.Reads as push-cause-reads
+use Rattle.receiver.proofs.run.fillings.Reads as fillings-reads
+use Rattle.receiver.proofs.run.finish.Reads as finish-reads
+
+-- what is known at the entry
+abbrev Entry : Type 0
+Entry = lts.Start (push-cause-reads.Asked, push-cause-reads.Learnt, fillings-reads.Asked, fillings-reads.Learnt, finish-reads.Asked, finish-reads.Learnt) reads.Pre reads.Post
+
+abbrev given : Entry → Memory
+given c = record { samples = c .args .samples .now; events = c .args .events .now; scratch32 = c .args .scratch32 .now; scratch64 = c .args .scratch64 .now }
+
+starts-places : (c : Entry) → length (c .args .self .starts .at) ≡ 96
+starts-places c = search needs
+
+open-places : (c : Entry) → length (c .args .self .waiting .messages) ≡ 168
+open-places c = search (needs, length-mapped)
+
+passing : (c : Entry) → refusalOf (c .args .self) (push (c .args .dbm .now)) (given c) ≡ 0 → Passes (c .args .self) (push (c .args .dbm .now)) (c .args .samples .now) (c .args .events .now) (c .args .scratch64 .now)
+passing c e = passes (c .args .self) (push (c .args .dbm .now)) (given c) (starts-places c) (open-places c) e
+
+push-cause-requires : tie.Need-push-cause-requires
+push-cause-requires c κs = search needs
+
+same-length : tie.Need-same-length
+same-length c = search needs
+
+returns : tie.Need-returns
+returns c =
+    let s = c .before .before .before .before .before .before .before .before in
+    answered-no (s .args .self) (push (s .args .dbm .now)) (given s) (c .before .push-cause .result) (c .before .push-cause .ensures) (c .if1 .taken)
+
+fillings-requires : tie.Need-fillings-requires
+fillings-requires c κs =
+    passing (c .before .before .before .before .before .before .before .before .before .before .before) (sym (c .before .before .before .before .push-cause .ensures) ∙ omega (arith, c .before .before .before .if1 .left))
+
+finish-requires : tie.Need-finish-requires
+finish-requires c κs =
+    let s = c .before .before .before .before .before .before .before .before .before .before .before .before .before .before .before .before .before .before .before in
+    let a = s .args in
+    let f = c .before .before .before .before .before .before .before .fillings in
+    closable (a .self) (push (a .dbm .now)) (a .samples .now) _ (a .events .now) _ (a .scratch64 .now) (f .result) false
+    (passing s (sym (c .before .before .before .before .before .before .before .before .before .before .before .before .push-cause .ensures) ∙ omega (arith, c .before .before .before .before .before .before .before .before .before .before .before .if1 .left))) (f .ensures) (ends-push (a .dbm .now)) (f .kept .1 .1 .1 .0)
+
+same-length-2 : tie.Need-same-length-2
+same-length-2 c = search needs
+
+same-length-3 : tie.Need-same-length-3
+same-length-3 c = search needs
+
+same-length-4 : tie.Need-same-length-4
+same-length-4 c = search needs
+
+returns-2 : tie.Need-returns-2
+returns-2 c =
+    let s = c .before .before .before .before .before .before .before .before .before .before .before .before .before .before .before .before .before .before .before .before .before .before in
+    let a = s .args in
+    let f = c .before .before .before .before .before .before .before .before .before .before .fillings in
+    let e : refusalOf (a .self) (push (a .dbm .now)) (given s) ≡ 0 = sym (c .before .before .before .before .before .before .before .before .before .before .before .before .before .before .before .push-cause .ensures) ∙ omega (arith, c .before .before .before .before .before .before .before .before .before .before .before .before .before .before .if1 .left) in
+    answered-yes (a .self) (push (a .dbm .now)) (given s) (f .result) (c .before .before .finish .result) _ e _ (f .ensures)
+    (c .before .before .finish .ensures (push (a .dbm .now)) (scans (a .self .rate) (demodOf (a .self .rate)) (ledgerOf (a .self) (a .samples .now)) (push (a .dbm .now))) (a .events .now) (ends-push (a .dbm .now)) (f .ensures .under))
+
+pub push-spec : {M : Type 1} → statement M
+push-spec =
+    tie.close
+    (tie.spec
+    push-cause-requires
+    same-length
+    returns
+    fillings-requires
+    finish-requires
+    same-length-2
+    same-length-3
+    same-length-4
+    returns-2)

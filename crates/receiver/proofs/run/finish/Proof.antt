@@ -1,0 +1,42 @@
+-- `receiver::run::finish` meets its contract. Assumes nothing.
+use borrow.Author.Needs.{needs}
+use Rattle.receiver.proofs.RunLaws.{ended}
+use Rattle.receiver.proofs.run.finish.Statement.{statement}
+use Rattle.receiver.proofs.run.finish.Tie as tie
+
+add-seconds : tie.Need-add-seconds
+add-seconds c = search needs
+
+seconds-requires : tie.Need-seconds-requires
+seconds-requires c κs = search needs
+
+write-messages-requires : tie.Need-write-messages-requires
+write-messages-requires c κs = let s = c .before .before .before .before .before .before in (s .pre .waiting, rw (c .before .before .seconds .ensures) (s .pre .room))
+
+keep-requires : tie.Need-keep-requires
+keep-requires c κs = search needs
+
+clear-requires : tie.Need-clear-requires
+clear-requires c κs = search needs
+
+same-length : tie.Need-same-length
+same-length c = search needs
+
+returns : tie.Need-returns
+returns c k l old e u =
+    let a = c .before .before .before .before .before .before .before .before .before .before .before .before .args in
+    let t = c .before .before .before .before .before .before .before .before .seconds in
+    let w = c .before .before .before .before .before .write-messages in
+    ended l old (a .h) (a .events .now) u k (a .all) e (w .result) _ (rw (t .ensures) at (w .ensures)) (c .clear .result) (c .before .before .keep .result) (c .clear .ensures) (rw (t .ensures) at (c .before .before .keep .ensures))
+
+pub finish-spec : {M : Type 1} → statement M
+finish-spec =
+    tie.close
+    (tie.spec
+    add-seconds
+    seconds-requires
+    write-messages-requires
+    keep-requires
+    clear-requires
+    same-length
+    returns)
