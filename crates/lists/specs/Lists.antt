@@ -1,5 +1,5 @@
 -- The tracker's lists as frequency.rs has them: readings and tunings, the last of a list, tests of each element, and the readings of a line. Assumes nothing.
-use Prim.Native.Nat.{ℕ, _+_}
+use Prim.Native.Nat.{ℕ, _+_, _^_, _≤_, _<_}
 use mathlib.Core.Bool.{Bool, true, not, cond, _&&_}
 use mathlib.Core.List.{List, [], _∷_}
 use lib.Dec.{leb}
@@ -46,6 +46,10 @@ fitsTunings end tuned freq = leb end (length tuned) && leb end (length freq)
 -- indices 0 to n
 abbrev pub upTo : ℕ → List ℕ → Bool
 upTo n l = every (λ (a : ℕ). leb a n) l
+
+-- low + r reaches a; and a is not before low, where the two are below 2^64
+abbrev pub Reaches : ℕ → ℕ → ℕ → Type 0
+Reaches low r a = (a ≤ low + r) × (r + low < 2 ^ 64 → low ≤ a)
 
 -- 'any NaN'
 abbrev pub noNan : List Float → Bool

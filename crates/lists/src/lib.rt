@@ -3,12 +3,12 @@
 ghost use mathlib.Core.Path.{_≡_};
 ghost use mathlib.Core.Bool.{true, not};
 ghost use Prim.Native.Nat.{ℕ, _+_, _≤_, _<_, _^_};
-ghost use lib.ListN.{length, take};
+ghost use lib.ListN.{length, take, getD};
 ghost use lib.Dec.{leb, eqb};
 ghost use lib.Ieee.{isNan};
 ghost use Rattle.limits.specs.Limits.{longestStream, mostReadings};
 ghost use Rattle.signal.specs.Seconds.{Rate};
-ghost use Rattle.lists.specs.Lists.{upTo, noNan, lastOr, readingsFrom, fitsReadings, fitsTunings};
+ghost use Rattle.lists.specs.Lists.{upTo, Reaches, noNan, lastOr, readingsFrom, fitsReadings, fitsTunings};
 ghost use Rattle.lists.specs.Columns.{PutTuning, PutReading, Appended};
 
 // One CFO value per 8 RSSI samples.
@@ -25,8 +25,8 @@ fn past(limit: u64, a: u64) -> u64
     (a >> 63) + (std::num::wrapping_sub_u64(limit, a) >> 63)
 }
 
-// Whether the first count indices are at most limit. No early exit, so that it runs several at a time.
-pub fn within(at: &[u64], count: usize, limit: u64) -> bool
+// Whether the first count indices are at most limit, one by one. No early exit, so that it runs several at a time.
+fn each_within(at: &[u64], count: usize, limit: u64) -> bool
     requires { ⌜ (count ≤ length (now at)) × (limit < 2 ^ 62) ⌝ }
     ensures { λ r. ⌜ r ≡ upTo limit (take count (now (at .entry))) ⌝ }
 {
@@ -38,6 +38,40 @@ pub fn within(at: &[u64], count: usize, limit: u64) -> bool
         i += 1;
     }
     bad == 0
+}
+
+// The bits of the differences to low, of the indices from first to count: two operations an index, so that it is the quickest
+// look at all of them. One that is before low leaves a large difference.
+pub fn spread(at: &[u64], first: usize, count: usize, low: u64) -> u64
+    requires { ⌜ (first ≤ count) × (count ≤ length (now at)) ⌝ }
+    ensures { λ r. ⌜ ((i : ℕ) → first ≤ i → i < count → Reaches low r (getD (now (at .entry)) i 0)) ⌝ }
+{
+    let mut bits = 0u64;
+    let mut i = first;
+    while i < count {
+        let far = std::num::wrapping_sub_u64(at[i], low);
+        bits = bits | far;
+        i += 1;
+    }
+    bits
+}
+
+// Whether the first count indices are at most limit. Readings come in the order of their indices and are of the last minute, so
+// that the differences to the first mostly settle it.
+pub fn within(at: &[u64], count: usize, limit: u64) -> bool
+    requires { ⌜ (count ≤ length (now at)) × (limit < 2 ^ 62) ⌝ }
+    ensures { λ r. ⌜ r ≡ upTo limit (take count (now (at .entry))) ⌝ }
+{
+    if count == 0 {
+        return true;
+    }
+    let low = at[0];
+    if low <= limit {
+        if spread(at, 0, count, low) <= limit - low {
+            return true;
+        }
+    }
+    each_within(at, count, limit)
 }
 
 fn is_number(x: f64) -> bool

@@ -1,17 +1,19 @@
--- The two quick ways of a retention: no reading goes, or just the leading ones. Assumes nothing.
+-- The quick way of a retention: just the leading readings go. Assumes nothing.
 use mathlib.Core.Path.{_≡_, sym, ap, _∙_, subst}
 use mathlib.Core.Bool.{Bool, false}
 use mathlib.Core.List.{List, map}
 use Prim.Native.Nat.{ℕ, _+_, _-_, _^_, _≤_, _<_}
 use native.Mathlib.Omega.{arith}
+use borrow.Author.Tests.{le-leb}
 use lib.Dec.{leb}
 use lib.ListN.{length, take, getD}
 use lib.Seq.{getD-take, length-take-le}
 use lib.Ieee.{Float}
 use Rattle.lists.specs.Marks.{marked, gathered}
+use Rattle.lists.specs.Lists.{Reaches}
 use Rattle.signal.specs.Seconds.{kept}
-use Rattle.retain.specs.Retain.{moved, Held, Compacted}
-use Rattle.retain.proofs.Shifting.{stayMarks, marks-size, stay-at, same-marks, gathered-late, gathered-all}
+use Rattle.retain.specs.Retain.{moved, Held, Moved, Compacted}
+use Rattle.retain.proofs.Shifting.{stayMarks, marks-size, stay-at, same-marks, split-marks, gathered-late}
 
 module _ (rate n count oldest : ℕ) (at lo : List ℕ) (hz : List Float) (H : Held count at lo hz) (K : (a : ℕ) → a ≤ 2 ^ 41 → kept rate n a ≡ leb oldest a) where
   marks-are : map (kept rate n) (take count at) ≡ stayMarks oldest count at (H .ats)
@@ -22,42 +24,28 @@ module _ (rate n count oldest : ℕ) (at lo : List ℕ) (hz : List Float) (H : H
           let k : i < count = subst (λ (z : ℕ). i < z) (length-take-le count at (H .ats)) h in
           subst (λ (z : ℕ). z ≤ 2 ^ 41) (sym (getD-take count at i 0 k)) (H .small i k)
 
-  module _ (all : ℕ) (A : all + marked (map (leb oldest) (take count at)) ≡ count) where
-    size : length (stayMarks oldest count at (H .ats)) ≡ count
-    size = marks-size oldest count at (H .ats)
+  module _ (lead far : ℕ) (L : lead ≤ count) (F : (i : ℕ) → i < lead → leb oldest (getD at i 0) ≡ false)
+      (R : (i : ℕ) → lead ≤ i → i < count → Reaches oldest far (getD at i 0)) (S : far + oldest < 2 ^ 64) where
+    split : lead + marked (stayMarks oldest count at (H .ats)) ≡ length (stayMarks oldest count at (H .ats))
+    split =
+        let s = marks-size oldest count at (H .ats) in
+        split-marks lead (stayMarks oldest count at (H .ats)) (omega arith)
+        (λ i h. stay-at oldest count at (H .ats) i (omega arith) ∙ F i h)
+        (λ i a b. let k : i < count = omega arith in stay-at oldest count at (H .ats) i k ∙ le-leb oldest (getD at i 0) (R i a k .1 S))
 
-    pub none-goes : all ≡ 0 → Compacted (map (kept rate n) (take count at)) at lo hz count at lo hz
-    none-goes z =
-        let bs = stayMarks oldest count at (H .ats) in
-        let s = size in
-        let m : marked bs ≡ length bs = omega arith in
-        let a = H .ats in
-        let l = H .los in
-        let h = H .hzs in
-        subst (λ (b : List Bool). Compacted b at lo hz count at lo hz) (sym marks-are) (record {
+    late : {X : Type 0} (l : List X) → gathered (stayMarks oldest count at (H .ats)) l l ≡ moved lead (count - lead) l
+    late l =
+        let s = marks-size oldest count at (H .ats) in
+        gathered-late lead (stayMarks oldest count at (H .ats)) l (λ i h. stay-at oldest count at (H .ats) i (omega arith) ∙ F i h) split
+        ∙ ap (λ (m : ℕ). moved lead (m - lead) l) s
+
+    pub front-goes : (at′ lo′ : List ℕ) (hz′ : List Float) → Moved lead count at lo hz at′ lo′ hz′ → Compacted (map (kept rate n) (take count at)) at lo hz (count - lead) at′ lo′ hz′
+    front-goes at′ lo′ hz′ m =
+        let s = marks-size oldest count at (H .ats) in
+        let e = split in
+        subst (λ (b : List Bool). Compacted b at lo hz (count - lead) at′ lo′ hz′) (sym marks-are) (record {
           count = omega arith;
-          ats = sym (gathered-all bs at m (omega arith));
-          los = sym (gathered-all bs lo m (omega arith));
-          hzs = sym (gathered-all bs hz m (omega arith));
+          ats = m .ats ∙ sym (late at);
+          los = m .los ∙ sym (late lo);
+          hzs = m .hzs ∙ sym (late hz);
         })
-
-    module _ (lead : ℕ) (E : lead ≡ all) (F : (i : ℕ) → i < lead → leb oldest (getD at i 0) ≡ false) where
-      bs : List Bool
-      bs = stayMarks oldest count at (H .ats)
-
-      late : {X : Type 0} (l : List X) → gathered (stayMarks oldest count at (H .ats)) l l ≡ moved lead (count - lead) l
-      late l =
-          let s = size in
-          gathered-late lead (stayMarks oldest count at (H .ats)) l
-          (λ i h. stay-at oldest count at (H .ats) i (omega arith) ∙ F i h) (omega arith)
-          ∙ ap (λ (m : ℕ). moved lead (m - lead) l) s
-
-      pub front-goes : (at′ lo′ : List ℕ) (hz′ : List Float) → at′ ≡ moved lead (count - lead) at → lo′ ≡ moved lead (count - lead) lo → hz′ ≡ moved lead (count - lead) hz
-          → Compacted (map (kept rate n) (take count at)) at lo hz (count - lead) at′ lo′ hz′
-      front-goes at′ lo′ hz′ p q r =
-          subst (λ (b : List Bool). Compacted b at lo hz (count - lead) at′ lo′ hz′) (sym marks-are) (record {
-            count = omega arith;
-            ats = p ∙ sym (late at);
-            los = q ∙ sym (late lo);
-            hzs = r ∙ sym (late hz);
-          })

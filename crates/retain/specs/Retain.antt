@@ -1,5 +1,5 @@
 -- What `samples` forgets, and what a retention in place leaves in the parallel slices. Assumes nothing.
-use Prim.Native.Nat.{ℕ, _+_, _≤_, _<_, _^_}
+use Prim.Native.Nat.{ℕ, _+_, _-_, _≤_, _<_, _^_}
 use mathlib.Core.Path.{_≡_}
 use mathlib.Core.Bool.{Bool, true, cond}
 use mathlib.Core.List.{List, [], _∷_, _++_}
@@ -24,6 +24,12 @@ pub record KeptReading (keep : Bool) (i w : ℕ) (at lo : List ℕ) (hz : List F
   pub ats : at′ ≡ put keep at w (getD at i 0)
   pub los : lo′ ≡ put keep lo w (getD lo i 0)
   pub hzs : hz′ ≡ put keep hz w (getD hz i nan)
+
+-- the readings from k to count at the front
+pub record Moved (k count : ℕ) (at lo : List ℕ) (hz : List Float) (at′ lo′ : List ℕ) (hz′ : List Float) : Type 0 where
+  pub ats : at′ ≡ moved k (count - k) at
+  pub los : lo′ ≡ moved k (count - k) lo
+  pub hzs : hz′ ≡ moved k (count - k) hz
 
 -- count readings, whose indices are small enough for the 60 s
 pub record Held (count : ℕ) (at lo : List ℕ) (hz : List Float) : Type 0 where

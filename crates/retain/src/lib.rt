@@ -3,13 +3,14 @@ ghost use mathlib.Core.Path.{_≡_};
 ghost use mathlib.Core.Bool.{cond, true, false};
 ghost use mathlib.Core.List.{map};
 ghost use Prim.Native.Nat.{ℕ, _+_, _-_, _≤_, _<_, _^_};
-ghost use lib.ListN.{length, take, drop, getD};
-ghost use lib.Seq.{sets};
+ghost use lib.ListN.{length, take, getD};
 ghost use lib.Dec.{eqb, leb};
 ghost use Rattle.limits.specs.Limits.{longestStream};
 ghost use Rattle.signal.specs.Seconds.{Rate, kept};
-ghost use Rattle.lists.specs.Marks.{marked};
-ghost use Rattle.retain.specs.Retain.{moved, stays, KeptReading, Held, Compacted, KeptTuning, HeldTunings, CompactedTunings};
+ghost use Rattle.retain.specs.Retain.{moved, stays, KeptReading, Held, Moved, Compacted, KeptTuning, HeldTunings, CompactedTunings};
+
+// No two indices in order are so far apart.
+const FAR: u64 = 0x8000_0000_0000_0000;
 
 // A reading goes from the place i to the place w if it is kept.
 fn keep_reading(
@@ -53,42 +54,6 @@ fn compact_readings(
     w
 }
 
-// Eight places from j on go to i: all are read before one is written, so that they go together.
-fn eight_u64(a: &mut [u64], i: usize, j: usize)
-    requires { ⌜ (i ≤ j) × (j + 8 ≤ length (now a)) ⌝ }
-    ensures { λ r. ⌜ now (a .exit) ≡ sets (now (a .entry)) i (take 8 (drop j (now (a .entry)))) ⌝ }
-{
-    let x0 = a[j];
-    let x1 = a[j + 1];
-    let x2 = a[j + 2];
-    let x3 = a[j + 3];
-    let x4 = a[j + 4];
-    let x5 = a[j + 5];
-    let x6 = a[j + 6];
-    let x7 = a[j + 7];
-    a[i] = x0;
-    a[i + 1] = x1;
-    a[i + 2] = x2;
-    a[i + 3] = x3;
-    a[i + 4] = x4;
-    a[i + 5] = x5;
-    a[i + 6] = x6;
-    a[i + 7] = x7;
-}
-
-// Some places from j on, below count, go to i; how many.
-fn some_u64(a: &mut [u64], i: usize, j: usize, count: usize) -> usize
-    requires { ⌜ (i ≤ j) × (j < count) × (count ≤ length (now a)) ⌝ }
-    ensures { λ r. ⌜ (0 < r) × (j + r ≤ count) × (now (a .exit) ≡ sets (now (a .entry)) i (take r (drop j (now (a .entry))))) ⌝ }
-{
-    if count - j < 8 {
-        a[i] = a[j];
-        return 1;
-    }
-    eight_u64(a, i, j);
-    8
-}
-
 // The places from k to count go to the front.
 fn shift_u64(a: &mut [u64], k: usize, count: usize)
     requires { ⌜ (k ≤ count) × (count ≤ length (now a)) ⌝ }
@@ -96,44 +61,9 @@ fn shift_u64(a: &mut [u64], k: usize, count: usize)
 {
     let mut i = 0usize;
     while i < count - k {
-        i += some_u64(a, i, i + k, count);
+        a[i] = a[i + k];
+        i += 1;
     }
-}
-
-// Eight places from j on go to i: all are read before one is written, so that they go together.
-fn eight_u32(a: &mut [u32], i: usize, j: usize)
-    requires { ⌜ (i ≤ j) × (j + 8 ≤ length (now a)) ⌝ }
-    ensures { λ r. ⌜ now (a .exit) ≡ sets (now (a .entry)) i (take 8 (drop j (now (a .entry)))) ⌝ }
-{
-    let x0 = a[j];
-    let x1 = a[j + 1];
-    let x2 = a[j + 2];
-    let x3 = a[j + 3];
-    let x4 = a[j + 4];
-    let x5 = a[j + 5];
-    let x6 = a[j + 6];
-    let x7 = a[j + 7];
-    a[i] = x0;
-    a[i + 1] = x1;
-    a[i + 2] = x2;
-    a[i + 3] = x3;
-    a[i + 4] = x4;
-    a[i + 5] = x5;
-    a[i + 6] = x6;
-    a[i + 7] = x7;
-}
-
-// Some places from j on, below count, go to i; how many.
-fn some_u32(a: &mut [u32], i: usize, j: usize, count: usize) -> usize
-    requires { ⌜ (i ≤ j) × (j < count) × (count ≤ length (now a)) ⌝ }
-    ensures { λ r. ⌜ (0 < r) × (j + r ≤ count) × (now (a .exit) ≡ sets (now (a .entry)) i (take r (drop j (now (a .entry))))) ⌝ }
-{
-    if count - j < 8 {
-        a[i] = a[j];
-        return 1;
-    }
-    eight_u32(a, i, j);
-    8
 }
 
 // The places from k to count go to the front.
@@ -143,44 +73,9 @@ fn shift_u32(a: &mut [u32], k: usize, count: usize)
 {
     let mut i = 0usize;
     while i < count - k {
-        i += some_u32(a, i, i + k, count);
+        a[i] = a[i + k];
+        i += 1;
     }
-}
-
-// Eight places from j on go to i: all are read before one is written, so that they go together.
-fn eight_f64(a: &mut [f64], i: usize, j: usize)
-    requires { ⌜ (i ≤ j) × (j + 8 ≤ length (now a)) ⌝ }
-    ensures { λ r. ⌜ now (a .exit) ≡ sets (now (a .entry)) i (take 8 (drop j (now (a .entry)))) ⌝ }
-{
-    let x0 = a[j];
-    let x1 = a[j + 1];
-    let x2 = a[j + 2];
-    let x3 = a[j + 3];
-    let x4 = a[j + 4];
-    let x5 = a[j + 5];
-    let x6 = a[j + 6];
-    let x7 = a[j + 7];
-    a[i] = x0;
-    a[i + 1] = x1;
-    a[i + 2] = x2;
-    a[i + 3] = x3;
-    a[i + 4] = x4;
-    a[i + 5] = x5;
-    a[i + 6] = x6;
-    a[i + 7] = x7;
-}
-
-// Some places from j on, below count, go to i; how many.
-fn some_f64(a: &mut [f64], i: usize, j: usize, count: usize) -> usize
-    requires { ⌜ (i ≤ j) × (j < count) × (count ≤ length (now a)) ⌝ }
-    ensures { λ r. ⌜ (0 < r) × (j + r ≤ count) × (now (a .exit) ≡ sets (now (a .entry)) i (take r (drop j (now (a .entry))))) ⌝ }
-{
-    if count - j < 8 {
-        a[i] = a[j];
-        return 1;
-    }
-    eight_f64(a, i, j);
-    8
 }
 
 // The places from k to count go to the front.
@@ -190,31 +85,34 @@ fn shift_f64(a: &mut [f64], k: usize, count: usize)
 {
     let mut i = 0usize;
     while i < count - k {
-        i += some_f64(a, i, i + k, count);
-    }
-}
-
-// 1 where a is before oldest, else 0, by the top bit of a - oldest: a comparison of this kind runs several at a time.
-fn gone(oldest: u64, a: u64) -> usize
-    requires { ⌜ (oldest < 2 ^ 62) × (a < 2 ^ 62) ⌝ }
-    ensures { λ r. ⌜ r ≡ cond (leb oldest a) 0 1 ⌝ }
-{
-    (std::num::wrapping_sub_u64(a, oldest) >> 63) as usize
-}
-
-// How many of the first count are before oldest.
-fn count_gone(oldest: u64, count: usize, at: &[u64]) -> usize
-    requires { ⌜ (oldest < 2 ^ 62) × (count ≤ length (now at)) × ((i : ℕ) → i < count → getD (now at) i 0 ≤ 2 ^ 41) ⌝ }
-    ensures { λ r. ⌜ r + marked (map (leb oldest) (take count (now (at .entry)))) ≡ count ⌝ }
-{
-    let mut n = 0usize;
-    let mut i = 0usize;
-    while i < count {
-        let here = gone(oldest, at[i]);
-        n = n + here;
+        a[i] = a[i + k];
         i += 1;
     }
-    n
+}
+
+// The readings from k to count go to the front.
+fn shift_readings(k: usize, count: usize, at: &mut [u64], lo: &mut [u32], hz: &mut [f64])
+    requires { ⌜ (k ≤ count) × Held count (now at) (now lo) (now hz) ⌝ }
+    ensures { λ r. ⌜ Moved k count (now (at .entry)) (now (lo .entry)) (now (hz .entry)) (now (at .exit)) (now (lo .exit)) (now (hz .exit)) ⌝ }
+{
+    shift_u64(at, k, count);
+    shift_u32(lo, k, count);
+    shift_f64(hz, k, count);
+}
+
+// The first `lead` readings go. A line of 8 samples mostly lets one go, and a shift by a number that is known is a block move.
+fn forget(lead: usize, count: usize, at: &mut [u64], lo: &mut [u32], hz: &mut [f64])
+    requires { ⌜ (lead ≤ count) × Held count (now at) (now lo) (now hz) ⌝ }
+    ensures { λ r. ⌜ Moved lead count (now (at .entry)) (now (lo .entry)) (now (hz .entry)) (now (at .exit)) (now (lo .exit)) (now (hz .exit)) ⌝ }
+{
+    if lead == 0 {
+        return;
+    }
+    if lead == 1 {
+        shift_readings(1, count, at, lo, hz);
+        return;
+    }
+    shift_readings(lead, count, at, lo, hz);
 }
 
 // How many before oldest stand in front of the first that isn't.
@@ -246,17 +144,11 @@ pub fn retain_readings(
     ensures { λ r. ⌜ Compacted (map (kept rate n) (take count (now (at .entry)))) (now (at .entry)) (now (lo .entry)) (now (hz .entry)) r (now (at .exit)) (now (lo .exit)) (now (hz .exit)) ⌝ }
 {
     let oldest = signal::oldest(rate, n);
-    let all = count_gone(oldest, count, at);
-    if all == 0 {
-        return count;
-    }
     let lead = leading(oldest, count, at);
-    if lead != all {
+    if FAR <= lists::spread(at, lead, count, oldest) {
         return compact_readings(rate, n, count, at, lo, hz);
     }
-    shift_u64(at, lead, count);
-    shift_u32(lo, lead, count);
-    shift_f64(hz, lead, count);
+    forget(lead, count, at, lo, hz);
     count - lead
 }
 

@@ -4,6 +4,7 @@
 mod functions;
 mod library;
 mod programs;
+mod tracker;
 
 use std::process::ExitCode;
 use std::time::Instant;

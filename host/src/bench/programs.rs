@@ -4,7 +4,7 @@ use std::fs::{self, File};
 use std::path::{Path, PathBuf};
 use std::process::{Command, Stdio};
 
-use super::Row;
+use super::{Row, tracker};
 use crate::compare::{program, root};
 use crate::generate::load::{Load, loads};
 
@@ -12,11 +12,11 @@ pub fn rows() -> Result<Vec<Row>, String> {
     let folder = root().join("target/bench");
     fs::create_dir_all(&folder).map_err(|e| format!("{}: {e}", folder.display()))?;
     let oracle = std::env::current_exe().map_err(|e| e.to_string())?;
-    loads()
-        .iter()
-        .enumerate()
-        .map(|(i, load)| row(&folder, i, load, &oracle))
-        .collect()
+    let mut rows = tracker::rows(&folder)?;
+    for (i, load) in loads().iter().enumerate() {
+        rows.push(row(&folder, i, load, &oracle)?);
+    }
+    Ok(rows)
 }
 
 fn row(folder: &Path, index: usize, load: &Load, oracle: &Path) -> Result<Row, String> {

@@ -5,7 +5,7 @@ use super::put::Put;
 use super::rng::Rng;
 use super::{Case, case, signal};
 
-const RATE: u32 = 1000;
+pub const RATE: u32 = 1000;
 const BASE: u32 = 868_130_000;
 
 fn record(put: Put, raw: &[u8], cfo: u16, hz: u32) -> Put {

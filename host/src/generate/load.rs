@@ -1,6 +1,8 @@
 //! Inputs for the benchmark: minutes of air with devices, and bits that can't be repaired.
 
+pub use super::band::STEP_HZ;
 use super::events::Calls;
+pub use super::listen::RATE;
 use super::listen;
 use super::put::Put;
 use super::rng::Rng;
@@ -19,7 +21,7 @@ pub fn loads() -> Vec<Load> {
         Load {
             label: "listen, 600 s",
             name: "listen",
-            bytes: listen::stream(&mut Rng::new(1), 600, 0.0).bytes,
+            bytes: records(600),
         },
         events("events, 120 s at 1,000/s in 8s", 1000, 120, 8),
         events("events, 300 s at 1,000/s in seconds", 1000, 300, 1000),
@@ -33,6 +35,11 @@ pub fn loads() -> Vec<Load> {
                 .0,
         },
     ]
+}
+
+/// Records of `listen`.
+pub fn records(seconds: usize) -> Vec<u8> {
+    listen::stream(&mut Rng::new(1), seconds, 0.0).bytes
 }
 
 /// Raw pushes of n samples, from scenes of 30 s one after the other.
