@@ -7,7 +7,7 @@ use crate::{bench, compare, generate, oracle, sample};
 
 const USAGE: &str = "usage: oracle NAME
        gen NAME [--seed N] [--cases N] [--case K]
-       compare NAME.. [--seed N] [--cases N]
+       compare NAME.. [--seed N] [--cases N] [--row N]
        sample NAME..
        bench [WORD..]";
 
@@ -16,6 +16,7 @@ struct Flags {
     seed: u64,
     cases: usize,
     case: Option<usize>,
+    row: Option<u8>,
 }
 
 pub fn run(words: &[String]) -> ExitCode {
@@ -33,7 +34,7 @@ fn command(words: &[&str], flags: &[&str]) -> Result<ExitCode, String> {
     match words {
         ["oracle", name] => print_answers(name),
         ["gen", name] => print_inputs(name, &flags),
-        ["compare", names @ ..] if !names.is_empty() => compare::compare(names, flags.seed, flags.cases),
+        ["compare", names @ ..] if !names.is_empty() => compare::compare(names, flags.seed, flags.cases, flags.row),
         ["sample", names @ ..] if !names.is_empty() => sample::write(names),
         ["bench", words @ ..] => bench::run(words),
         _ => Err(USAGE.to_string()),
@@ -45,6 +46,7 @@ fn read_flags(words: &[&str]) -> Result<Flags, String> {
         seed: 1,
         cases: 200,
         case: None,
+        row: None,
     };
     for pair in words.chunks(2) {
         let [flag, number] = pair else {
@@ -55,6 +57,7 @@ fn read_flags(words: &[&str]) -> Result<Flags, String> {
             "--seed" => flags.seed = number,
             "--cases" => flags.cases = number as usize,
             "--case" => flags.case = Some(number as usize),
+            "--row" => flags.row = Some(number.try_into().map_err(|_| USAGE)?),
             _ => return Err(USAGE.to_string()),
         }
     }

@@ -29,13 +29,16 @@ pub fn program_name(name: &str) -> String {
     }
 }
 
-/// All is equal: 0; a difference: 1.
-pub fn compare(names: &[&str], seed: u64, count: usize) -> Result<ExitCode, String> {
+/// All is equal: 0; a difference: 1. With a row only the cases of it are run.
+pub fn compare(names: &[&str], seed: u64, count: usize, row: Option<u8>) -> Result<ExitCode, String> {
     let mut equal = true;
     for name in names {
         let format = generate::format(name).ok_or(format!("there is no format {name}"))?;
+        if row.is_some_and(|row| row >= format.rows) {
+            return Err(format!("{name} has {} rows", format.rows));
+        }
         let run = Run::new(format, seed)?;
-        equal &= run.all(&format.cases(seed, count))?;
+        equal &= run.all(&mut format.choose(seed, count, row))?;
     }
     Ok(ExitCode::from(u8::from(!equal)))
 }
@@ -71,45 +74,47 @@ impl Run {
         })
     }
 
-    fn all(&self, cases: &[Case]) -> Result<bool, String> {
+    fn all(&self, cases: &mut dyn Iterator<Item = Case>) -> Result<bool, String> {
         let mut first = 0;
-        while first < cases.len() {
-            let end = first + self.batch(&cases[first..]);
-            if self.differs(cases, first, end)? {
+        loop {
+            let batch = self.batch(cases);
+            if batch.is_empty() {
+                println!("{}: {first} cases, all equal", self.format.name);
+                return Ok(true);
+            }
+            if self.differs(&batch, first)? {
                 return Ok(false);
             }
-            first = end;
+            first += batch.len();
         }
-        println!("{}: {} cases, all equal", self.format.name, cases.len());
-        Ok(true)
     }
 
-    /// How many of the next cases share a run.
-    fn batch(&self, cases: &[Case]) -> usize {
-        if self.format.stream {
-            return 1;
-        }
-        let mut bytes = 0;
-        for (i, case) in cases.iter().enumerate().take(BATCH) {
+    /// The next cases that share a run.
+    fn batch(&self, cases: &mut dyn Iterator<Item = Case>) -> Vec<Case> {
+        let most = if self.format.stream { 1 } else { BATCH };
+        let (mut batch, mut bytes) = (vec![], 0);
+        for case in cases.take(most) {
             bytes += case.bytes.len();
-            if case.short || bytes > BATCH_BYTES {
-                return i + 1;
+            let last = case.short || bytes > BATCH_BYTES;
+            batch.push(case);
+            if last {
+                break;
             }
         }
-        cases.len().min(BATCH)
+        batch
     }
 
-    /// Runs both sides on the cases from `first` to `end`; says where they part.
-    fn differs(&self, cases: &[Case], first: usize, end: usize) -> Result<bool, String> {
-        let input: Vec<u8> = cases[first..end].iter().flat_map(|c| &c.bytes).copied().collect();
+    /// Runs both sides on the cases, `first` the first one's index; says where they part.
+    fn differs(&self, cases: &[Case], first: usize) -> Result<bool, String> {
+        let input: Vec<u8> = cases.iter().flat_map(|c| &c.bytes).copied().collect();
         let Some(found) = self.difference(&input)? else {
             return Ok(false);
         };
         let mut lines = 0;
-        for (index, case) in cases.iter().enumerate().take(end).skip(first) {
+        for (index, case) in cases.iter().enumerate() {
             lines += self.answers(&case.bytes).lines().count();
-            if lines > found.at || index + 1 == end {
-                return self.report(index, case, &input, &found);
+            if lines > found.at || index + 1 == cases.len() {
+                return self.report(first + index, case, &input, &found);
             }
         }
         Ok(true)

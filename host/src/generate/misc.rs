@@ -4,6 +4,8 @@ use super::put::Put;
 use super::rng::Rng;
 use super::{Case, case, cut, signal};
 
+pub const ROWS: u8 = 12;
+
 fn call(number: u8) -> Put {
     Put::new().u8(number)
 }
@@ -142,7 +144,7 @@ fn spans(cases: &mut Vec<Case>) {
 }
 
 pub fn random(rng: &mut Rng) -> Case {
-    let number = rng.below(12) as u8;
+    let number = rng.below(ROWS.into()) as u8;
     let put = call(number);
     let put = match number {
         0 => {

@@ -32,6 +32,8 @@ pub struct Format {
     pub name: &'static str,
     /// A case is a whole run, since it starts with a header
     pub stream: bool,
+    /// How many rows there are, where a case's first byte names one
+    pub rows: u8,
     pub directed: fn() -> Vec<Case>,
     pub random: fn(&mut Rng) -> Case,
     /// The run that the gate replays, where it isn't a choice of the cases
@@ -42,6 +44,7 @@ pub const FORMATS: &[Format] = &[
     Format {
         name: "bits",
         stream: false,
+        rows: 0,
         directed: bits::directed,
         random: bits::random,
         sample: None,
@@ -49,6 +52,7 @@ pub const FORMATS: &[Format] = &[
     Format {
         name: "events",
         stream: true,
+        rows: 0,
         directed: events::directed,
         random: events::random,
         sample: Some(events::sample),
@@ -56,6 +60,7 @@ pub const FORMATS: &[Format] = &[
     Format {
         name: "bursts",
         stream: false,
+        rows: 0,
         directed: bursts::directed,
         random: bursts::random,
         sample: None,
@@ -63,6 +68,7 @@ pub const FORMATS: &[Format] = &[
     Format {
         name: "dips",
         stream: false,
+        rows: 0,
         directed: dips::directed,
         random: dips::random,
         sample: None,
@@ -70,6 +76,7 @@ pub const FORMATS: &[Format] = &[
     Format {
         name: "burstbits",
         stream: false,
+        rows: 0,
         directed: burstbits::directed,
         random: burstbits::random,
         sample: None,
@@ -77,6 +84,7 @@ pub const FORMATS: &[Format] = &[
     Format {
         name: "burst",
         stream: false,
+        rows: 0,
         directed: burst::directed,
         random: burst::random,
         sample: None,
@@ -84,6 +92,7 @@ pub const FORMATS: &[Format] = &[
     Format {
         name: "capture",
         stream: false,
+        rows: 0,
         directed: capture::directed,
         random: capture::random,
         sample: None,
@@ -91,6 +100,7 @@ pub const FORMATS: &[Format] = &[
     Format {
         name: "tracker",
         stream: true,
+        rows: 0,
         directed: tracker::directed,
         random: tracker::random,
         sample: Some(tracker::sample),
@@ -98,6 +108,7 @@ pub const FORMATS: &[Format] = &[
     Format {
         name: "listen",
         stream: true,
+        rows: 0,
         directed: listen::directed,
         random: listen::random,
         sample: Some(listen::sample),
@@ -105,6 +116,7 @@ pub const FORMATS: &[Format] = &[
     Format {
         name: "misc",
         stream: false,
+        rows: misc::ROWS,
         directed: misc::directed,
         random: misc::random,
         sample: None,
@@ -118,11 +130,19 @@ pub fn format(name: &str) -> Option<&'static Format> {
 impl Format {
     /// The directed cases, then `count` random ones.
     pub fn cases(&self, seed: u64, count: usize) -> Vec<Case> {
-        let mut cases = (self.directed)();
-        for index in 0..count {
-            cases.push((self.random)(&mut Rng::of_case(self.name, seed, index)));
-        }
-        cases
+        self.choose(seed, count, None).collect()
+    }
+
+    /// The same of one row alone, where there is one to choose.
+    pub fn choose(&self, seed: u64, count: usize, row: Option<u8>) -> impl Iterator<Item = Case> {
+        let wanted = move |case: &Case| row.is_none_or(|row| case.bytes[0] == row);
+        let random = self.random;
+        let name = self.name;
+        let random = (0..).map(move |index| random(&mut Rng::of_case(name, seed, index)));
+        (self.directed)()
+            .into_iter()
+            .filter(wanted)
+            .chain(random.filter(wanted).take(count))
     }
 }
 
