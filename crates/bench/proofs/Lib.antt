@@ -1,2 +1,3 @@
 -- The laws of `bench`.
 pub mod Numbers
+pub mod Told

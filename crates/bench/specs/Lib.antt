@@ -1,2 +1,3 @@
 -- The definitions that the contracts of `bench` cite.
 pub mod Select
+pub mod Demod

@@ -1,7 +1,18 @@
 // Functions that the host's benchmark calls by C's convention, beside the Rust's: thin, so that the time is the callee's.
 ghost use mathlib.Core.Path.{_≡_};
 ghost use lib.Ieee.{binary32, binary64};
+ghost use lib.ListN.{length};
+ghost use Rattle.bursts.specs.Bursts.{defaultOptions, burstAnswer};
+ghost use Rattle.bursts.specs.Levels.{floorAnswer};
+ghost use Rattle.dips.specs.Dips.{dipsOf, dipAnswer, dipsAfter};
+ghost use Rattle.clock.specs.Bits.{outcome, bitsAnswer, bitsLeft, Free};
 ghost use Rattle.bench.specs.Select.{numbers, selected};
+ghost use Rattle.bench.specs.Demod.{levelOf, endOf, countOf, bitCountOf};
+use bursts::BurstOptions;
+use bursts::Level;
+use bursts::NextBurst;
+use clock::BurstBits;
+use dips::DipCount;
 
 // Whether no element is a NaN. No early exit, so that it runs several elements at a time.
 fn all_numbers32(xs: &[f32]) -> bool
@@ -63,4 +74,60 @@ pub extern "C" fn bench_select64(xs: &[f64], k: usize) -> f64
         return order::select64(xs, k);
     }
     0.0
+}
+
+// bursts::noise_floor, or 0 where it refuses.
+#[no_mangle]
+pub extern "C" fn bench_noise_floor(dbm: &[f32], scratch: &mut [f32]) -> f32
+    ensures { λ r. ⌜ (r ≡ levelOf (floorAnswer (now (dbm .entry)) (length (now (scratch .entry))))) × (now (scratch .exit) ≡ now (scratch .entry)) ⌝ }
+{
+    match bursts::noise_floor(dbm, scratch) {
+        Level::Refused(_) => 0.0,
+        Level::Dbm(x) => x,
+    }
+}
+
+// Where the first burst of bursts::find_bursts from an index on ends, or 0 where there is none.
+#[no_mangle]
+pub extern "C" fn bench_next_burst(dbm: &[f32], rate: u32, floor: f32, from: usize) -> usize
+    ensures { λ r. ⌜ r ≡ endOf (burstAnswer (now (dbm .entry)) rate defaultOptions floor from) ⌝ }
+{
+    match bursts::find_bursts(dbm, rate, BurstOptions::new(), floor, from) {
+        NextBurst::Refused(_) => 0,
+        NextBurst::Nothing => 0,
+        NextBurst::Found(b) => b.end,
+    }
+}
+
+// How many dips dips::find_dips hands over.
+#[no_mangle]
+pub extern "C" fn bench_find_dips(seg: &[f32], rate: u32, level: f64, dips: &mut [f64]) -> usize
+    ensures { λ r. ⌜ (r ≡ countOf (dipAnswer (now (seg .entry)) rate level (length (now (dips .entry)))))
+        × (now (dips .exit) ≡ dipsAfter (dipAnswer (now (seg .entry)) rate level (length (now (dips .entry)))) (dipsOf (now (seg .entry)) rate level) (now (dips .entry))) ⌝ }
+{
+    match dips::find_dips(seg, rate, level, dips) {
+        DipCount::Refused(_) => 0,
+        DipCount::Count(n) => n,
+    }
+}
+
+// How many bits there are by clock::burst_bits.
+#[no_mangle]
+pub extern "C" fn bench_burst_bits(
+    seg: &[f32],
+    rate: u32,
+    bits: &mut [u8],
+    scratch32: &mut [f32],
+    scratch64: &mut [f64],
+) -> usize
+    ensures { λ r. ⌜ (r ≡ bitCountOf (bitsAnswer (now (seg .entry)) rate (length (now (bits .entry))) (length (now (scratch32 .entry))) (length (now (scratch64 .entry)))))
+        × (now (bits .exit) ≡ bitsLeft (bitsAnswer (now (seg .entry)) rate (length (now (bits .entry))) (length (now (scratch32 .entry))) (length (now (scratch64 .entry)))) (outcome (now (seg .entry)) rate) (now (bits .entry)))
+        × Free (bitsAnswer (now (seg .entry)) rate (length (now (bits .entry))) (length (now (scratch32 .entry))) (length (now (scratch64 .entry)))) (now (scratch32 .entry)) (now (scratch32 .exit))
+        × Free (bitsAnswer (now (seg .entry)) rate (length (now (bits .entry))) (length (now (scratch32 .entry))) (length (now (scratch64 .entry)))) (now (scratch64 .entry)) (now (scratch64 .exit)) ⌝ }
+{
+    match clock::burst_bits(seg, rate, bits, scratch32, scratch64) {
+        BurstBits::Refused(_) => 0,
+        BurstBits::Nothing => 0,
+        BurstBits::Bits(count, _, _, _, _) => count,
+    }
 }

@@ -1,11 +1,15 @@
 //! The benchmark: one table, both sides in one run, on the same bytes.
 
 #[cfg(has_bench)]
-mod functions;
-mod library;
+mod demod;
+#[cfg(has_record)]
+mod frame;
+#[cfg(has_bench)]
+mod order;
 mod programs;
 mod tracker;
 
+use std::hint::black_box;
 use std::process::ExitCode;
 use std::time::Instant;
 
@@ -21,10 +25,10 @@ pub struct Row {
 /// The rows whose labels hold one of the words, or all.
 pub fn run(words: &[&str]) -> Result<ExitCode, String> {
     println!(
-        "{:45} {:>10} {:>10} {:>8}",
+        "{:48} {:>10} {:>10} {:>8}",
         "best of five", "Rust ms", "port ms", "ratio"
     );
-    for row in programs::rows()?.iter().chain(&library::rows()) {
+    for row in programs::rows()?.iter().chain(&libraries()) {
         if words.is_empty() || words.iter().any(|word| row.label.contains(word)) {
             row.print();
         }
@@ -32,7 +36,35 @@ pub fn run(words: &[&str]) -> Result<ExitCode, String> {
     Ok(ExitCode::SUCCESS)
 }
 
+/// Rows that call the port's functions through static libraries (`rt staticlib record`, `rt staticlib bench`).
+fn libraries() -> Vec<Row> {
+    let mut rows = vec![];
+    #[cfg(has_record)]
+    rows.extend(frame::rows());
+    #[cfg(has_bench)]
+    rows.extend(order::rows().into_iter().chain(demod::rows()));
+    rows
+}
+
 impl Row {
+    /// Both sides on one input, so many times.
+    pub fn new<T: Clone + 'static, A: 'static, B: 'static>(
+        times: usize,
+        label: String,
+        input: T,
+        rust: impl Fn(&T) -> A + 'static,
+        port: impl Fn(&T) -> B + 'static,
+    ) -> Self {
+        let same = input.clone();
+        Self {
+            label: format!("{times} times {label}"),
+            rust: Box::new(move || (0..times).for_each(|_| drop(black_box(rust(black_box(&input)))))),
+            port: Some(Box::new(move || {
+                (0..times).for_each(|_| drop(black_box(port(black_box(&same)))))
+            })),
+        }
+    }
+
     /// The sides take turns, so that whatever slows the machine slows both.
     fn print(&self) {
         let (mut rust, mut port) = (f64::INFINITY, f64::INFINITY);
@@ -46,7 +78,7 @@ impl Row {
             Some(_) => (format!("{port:.3}"), format!("{:.2}", port / rust)),
             None => ("-".to_string(), "-".to_string()),
         };
-        println!("{:45} {rust:>10.3} {port:>10} {ratio:>8}", self.label);
+        println!("{:48} {rust:>10.3} {port:>10} {ratio:>8}", self.label);
     }
 }
 

@@ -6,8 +6,9 @@ pub use super::listen::RATE;
 use super::listen;
 use super::put::Put;
 use super::rng::Rng;
-use super::signal::{self, Air};
+use super::signal::{self, Air, Shape};
 use super::uplink::{Uplink, damage};
+use crate::rust::frame::decode_uplink_bits;
 
 /// A run of one program.
 pub struct Load {
@@ -55,12 +56,53 @@ fn events(label: &'static str, rate: u32, seconds: usize, n: usize) -> Load {
     }
 }
 
+/// An uplink of 12 bytes.
+fn twelve_bytes(rng: &mut Rng) -> Uplink {
+    let rest = rng.bytes(14);
+    Uplink::new(4, rng.next() as u32, rng.next() as u16, 0, false, &rest)
+}
+
+/// A frame of 12 bytes as it is sent.
+pub fn right_frame(rank: usize) -> Vec<bool> {
+    twelve_bytes(&mut Rng::new(3)).bits(rank, 16)
+}
+
+/// A frame of 12 bytes at the last start, with a wrong CRC that no repair makes right, then other bits up to a length.
+pub fn beyond_repair_of(rank: usize, length: usize) -> Vec<bool> {
+    let mut rng = Rng::new(length as u64);
+    loop {
+        let mut bits = twelve_bytes(&mut rng).bits(rank, 22);
+        for at in [50, 90, 130, 170] {
+            bits[at] = !bits[at];
+        }
+        let more = length - bits.len();
+        bits.extend(rng.bits(more));
+        if decode_uplink_bits(&bits).is_some_and(|frame| !frame.crc_ok) {
+            return bits;
+        }
+    }
+}
+
+/// The level of `frame_samples`.
+pub const FRAME_DBM: f64 = -60.0;
+
+/// A frame of 12 bytes as a burst's samples, with some noise.
+pub fn frame_samples(rate: u32) -> Vec<f32> {
+    let mut rng = Rng::new(8);
+    let bits = twelve_bytes(&mut rng).bits(0, 18);
+    let envelope = Shape::clean(FRAME_DBM).envelope(&bits, rate);
+    let pad = rate as usize / 50;
+    let mut air = Air::quiet(rate, envelope.len() + 2 * pad, -100.0);
+    air.send(pad, &envelope);
+    air.noise(&mut rng, 0.5);
+    air.samples()
+}
+
 /// Frames of the longest class with six damages: every repair is tried in vain, or nearly always.
-pub fn beyond_repair(count: usize) -> Vec<Vec<bool>> {
+fn beyond_repair(count: usize) -> Vec<Vec<bool>> {
     let mut rng = Rng::new(4);
     let mut frame = || {
-        let rest = rng.bytes(14);
-        let uplink = Uplink::new(4, rng.next() as u32, rng.next() as u16, 0, false, &rest);
+        let uplink = twelve_bytes(&mut rng);
         let mut bits = uplink.bits(rng.below(3), 16);
         for _ in 0..6 {
             damage(&mut rng, &mut bits, 32);

@@ -1,6 +1,4 @@
-//! Rows for the functions that the crate `bench` exports, beside the Rust's own.
-
-use std::hint::black_box;
+//! Order statistics: the crate `bench`'s functions beside the Rust's own.
 
 use super::Row;
 use crate::generate::load;
@@ -23,6 +21,9 @@ fn select64(xs: &[f64], k: usize) -> f64 {
     unsafe { bench_select64(xs.as_ptr(), xs.len(), k) }
 }
 
+/// One list, so many times.
+const TIMES: usize = 100;
+
 pub fn rows() -> Vec<Row> {
     let half_db = [1000, 4000].map(|rate| floor_row("half dB", load::samples(rate)));
     let fine = [1000, 4000].map(|rate| floor_row("any", load::fine_samples(rate)));
@@ -39,37 +40,13 @@ pub fn rows() -> Vec<Row> {
 fn floor_row(kind: &str, dbm: Vec<f32>) -> Row {
     let k = dbm.len() / 5;
     assert_eq!(select32(&dbm, k), noise_floor(&dbm));
-    row(
-        format!("noise_floor of {}, {kind}", dbm.len()),
-        dbm,
-        noise_floor,
-        move |dbm| select32(dbm, k),
-    )
+    let label = format!("noise_floor of {}, {kind}", dbm.len());
+    Row::new(TIMES, label, dbm, |dbm| noise_floor(dbm), move |dbm| select32(dbm, k))
 }
 
 fn median_row(kind: &str, hz: Vec<f64>) -> Row {
     let k = hz.len() / 2;
     assert_eq!(select64(&hz, k), median(&hz));
-    row(format!("median of {}, {kind}", hz.len()), hz, median, move |hz| {
-        select64(hz, k)
-    })
-}
-
-/// One list, so many times.
-const TIMES: usize = 100;
-
-fn row<T: Clone + 'static, A: 'static>(
-    label: String,
-    list: Vec<T>,
-    rust: impl Fn(&[T]) -> A + 'static,
-    port: impl Fn(&[T]) -> A + 'static,
-) -> Row {
-    let same = list.clone();
-    Row {
-        label: format!("{TIMES} times {label}"),
-        rust: Box::new(move || (0..TIMES).for_each(|_| drop(black_box(rust(black_box(&list)))))),
-        port: Some(Box::new(move || {
-            (0..TIMES).for_each(|_| drop(black_box(port(black_box(&same)))))
-        })),
-    }
+    let label = format!("median of {}, {kind}", hz.len());
+    Row::new(TIMES, label, hz, |hz| median(hz), move |hz| select64(hz, k))
 }
