@@ -8,8 +8,8 @@ use native.Mathlib.Omega.{arith}
 use native.Mathlib.Numerals.{add-one}
 use lib.Dec.{eqb, leb}
 use lib.ListN.{length, drop, getD}
-use lib.Seq.{drop-cons}
-use borrow.Author.Tests.{le-leb, lt-leb, leb-true}
+use lib.Seq.{drop-cons, drop-length}
+use borrow.Author.Tests.{leb-true}
 use Rattle.coding.specs.Bits.{plus, odd, bitOf, areBits}
 
 sum-below : (x y : ℕ) → x < 2 → y < 2 → odd (x + y) ≡ plus (eqb x 1) (eqb y 1)
@@ -58,13 +58,23 @@ plus-twice false false = refl
 
 -- ---- bit bytes, passed one by one
 
-pub bits-stop : (l : List ℕ) (i : ℕ) → i < length l → 1 < getD l i 0 → areBits (drop i l) ≡ false
-unfolding areBits
-bits-stop l i h k = rw (drop-cons l i 0) (ap (λ (b : Bool). b && areBits (drop (suc i) l)) (lt-leb (getD l i 0) 1 k))
+and-assoc : (a b c : Bool) → (a && b) && c ≡ a && (b && c)
+and-assoc true b c = refl
+and-assoc false b c = refl
 
-pub bits-go : (l : List ℕ) (i : ℕ) → i < length l → getD l i 0 ≤ 1 → areBits (drop i l) ≡ areBits (drop (i + 1) l)
+and-true : (a : Bool) → a && true ≡ a
+and-true true = refl
+and-true false = refl
+
+-- a turn of the loop that looks at each, and its end
+pub bits-turn : (ok : Bool) (l : List ℕ) (i : ℕ) (w : Bool) → i < length l → ok && areBits (drop i l) ≡ w
+    → (ok && leb (getD l i 0) 1) && areBits (drop (i + 1) l) ≡ w
 unfolding areBits
-bits-go l i h k = rw (add-one, drop-cons l i 0) (ap (λ (b : Bool). b && areBits (drop (suc i) l)) (le-leb (getD l i 0) 1 k))
+bits-turn ok l i w h p = rw (add-one i) (and-assoc ok (leb (getD l i 0) 1) (areBits (drop (suc i) l)) ∙ rw (drop-cons l i 0 h) at p)
+
+pub bits-end : (ok : Bool) (l : List ℕ) (i : ℕ) (w : Bool) → i ≡ length l → ok && areBits (drop i l) ≡ w → ok ≡ w
+unfolding areBits
+bits-end ok l i w e p = sym (and-true ok) ∙ rw (e, drop-length l) at p
 
 rest : (x y : Bool) → x && y ≡ true → y ≡ true
 rest true y e = e

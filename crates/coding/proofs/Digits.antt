@@ -26,7 +26,7 @@ bit-xor (suc (suc x)) y h k = absurd (not-suc-le-zero (le-of-suc-le-suc (le-of-s
 two-pos : zero < 2
 two-pos = omega arith
 
-odd-xor : (a b : ℕ) → odd (bitXor a b) ≡ plus (odd a) (odd b)
+pub odd-xor : (a b : ℕ) → odd (bitXor a b) ≡ plus (odd a) (odd b)
 odd-xor a b = ap (λ (x : ℕ). eqb x 1) (xor-mod a b 1) ∙ bit-xor (a % 2) (b % 2) (mod-lt a two-pos) (mod-lt b two-pos)
 
 pub digits-xor : (n a b : ℕ) → digits n (bitXor a b) ≡ onto (digits n a) (digits n b)

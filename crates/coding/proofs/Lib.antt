@@ -6,3 +6,4 @@ pub mod BitLaws
 pub mod Values
 pub mod Codes
 pub mod Causes
+pub mod ByteLaws

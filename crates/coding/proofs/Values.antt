@@ -2,15 +2,16 @@
 use mathlib.Core.Path.{_≡_, refl, sym, ap, ap₂, _∙_}
 use mathlib.Core.Bool.{Bool, true, false, cond}
 use mathlib.Core.List.{List, [], _∷_, _++_, map}
-use Prim.Native.Nat.{ℕ, _+_, _*_, _^_, _≤_, _<_}
+use Prim.Native.Nat.{ℕ, _+_, _*_, _/_, _%_, _^_, _≤_, _<_}
 use native.Mathlib.Nat.{add-mul, add-assoc, pow-suc, mod-eq-of-lt}
 use native.Mathlib.Omega.{arith}
 use native.Mathlib.Numerals.{add-one}
-use lib.Pow.{pow-add, pow-mono}
+use lib.Pow.{pow-add, pow-mono, high, low}
 use lib.ListN.{length, take, getD, length-append, List·getD-map}
 use lib.Seq.{take-suc, length-take-le}
-use Rattle.coding.specs.Bits.{odd, bitOf, value, areBits}
-use Rattle.coding.proofs.BitLaws.{bit-odd, bit-at}
+use Rattle.coding.specs.Bits.{odd, bitOf, digits, value, areBits}
+use Rattle.coding.proofs.BitLaws.{bit-odd, odd-bit, bit-at}
+use Rattle.coding.proofs.Digits.{digits-mod}
 
 pub value-snoc : (l : List Bool) (b : Bool) → value (l ++ (b ∷ [])) ≡ value l * 2 + bitOf b
 unfolding value
@@ -49,3 +50,18 @@ value-next z n h =
 -- a byte that is a bit is the number of its bit
 pub bit-of : (l : List ℕ) (i : ℕ) → areBits l ≡ true → getD l i 0 ≡ bitOf (getD (map odd l) i false)
 bit-of l i h = sym (mod-eq-of-lt (bit-at l i h)) ∙ sym (bit-odd (getD l i 0)) ∙ ap bitOf (sym (List·getD-map odd l i 0))
+
+-- the digits of the number that bits stand for
+as-bit : (k : ℕ) (b : Bool) → cond b k 0 ≡ bitOf b * k
+as-bit k true = omega arith
+as-bit k false = omega arith
+
+pub digits-value : (l : List Bool) → digits (length l) (value l) ≡ l
+unfolding digits value
+digits-value [] = refl
+digits-value (b ∷ l) =
+    let n = length l in
+    let v = value l in
+    let e = ap (λ (x : ℕ). x + v) (as-bit (2 ^ n) b) in
+    ap₂ _∷_ (ap odd (ap (λ (x : ℕ). x / 2 ^ n) e ∙ high (bitOf b) n (value-lt l)) ∙ odd-bit b)
+    (sym (digits-mod n n (cond b (2 ^ n) 0 + v) (omega arith)) ∙ ap (digits n) (ap (λ (x : ℕ). x % 2 ^ n) e ∙ low (bitOf b) n (value-lt l)) ∙ digits-value l)

@@ -6,41 +6,33 @@ ghost use Prim.Native.Nat.{_<_, _≤_};
 ghost use lib.ListN.{length, drop};
 ghost use Rattle.coding.specs.Bits.{odd, bitOf, plus, digits, areBits};
 ghost use Rattle.coding.specs.Crc.{crcOf};
-ghost use Rattle.coding.specs.Register.{step, run};
+ghost use Rattle.coding.specs.Register.{run};
 ghost use Rattle.coding.specs.Convolution.{tap, fresh, stateOf, convolved, deconvolved};
 ghost use Rattle.coding.specs.Answers.{codingCause, codingAnswer, convolveOut, deconvolveOut};
 
-// x^12 + x^5 + 1, the CRC's divisor after x^16.
-pub const POLYNOMIAL: u16 = 0x1021;
+// The CRC's divisor after x^16: x^12, x^5 and 1.
+const X12: u16 = 4096;
+
+const X5: u16 = 32;
 
 // A message is sent at most three times, as ranks 0, 1 and 2.
 pub const HIGHEST_RANK: u8 = 2;
 
-// The CRC's register after one bit more, the lowest of `bit`.
-pub fn crc_bit(c: u16, bit: u8) -> u16
-    ensures { λ r. ⌜ r ≡ step c (odd bit) ⌝ }
-{
-    let low = (c % 32768) * 2;
-    let top = (c / 32768) as u8;
-    if top == bit % 2 {
-        low
-    } else {
-        low ^ POLYNOMIAL
-    }
-}
-
-// The register after the eight bits of a byte, the highest first.
+// The register after the eight bits of a byte, the highest first. They meet the register's high byte; four of the sum's bits come round twice.
 pub fn crc_byte(c: u16, b: u8) -> u16
     ensures { λ r. ⌜ r ≡ run c (digits 8 b) ⌝ }
 {
-    let c7 = crc_bit(c, b / 128);
-    let c6 = crc_bit(c7, b / 64);
-    let c5 = crc_bit(c6, b / 32);
-    let c4 = crc_bit(c5, b / 16);
-    let c3 = crc_bit(c4, b / 8);
-    let c2 = crc_bit(c3, b / 4);
-    let c1 = crc_bit(c2, b / 2);
-    crc_bit(c1, b)
+    let x = ((c / 256) as u8) ^ b;
+    let y = wide(x ^ (x / 16));
+    let low = (c % 256) * 256;
+    low ^ (((y % 16) * X12) ^ (y * X5) ^ y)
+}
+
+// A byte as a wider number.
+pub fn wide(x: u8) -> u16
+    ensures { λ r. ⌜ (r ≡ x) × (r < 256) ⌝ }
+{
+    x as u16
 }
 
 // The CRC of bytes (frame.rs crc16).
@@ -56,18 +48,18 @@ pub fn crc16(data: &[u8]) -> u16
     65535 - c
 }
 
-// Whether no bit byte is over 1.
+// Whether no bit byte is over 1. No early exit, so that it runs many bytes at a time.
 pub fn are_bits(bits: &[u8]) -> bool
     ensures { λ r. ⌜ r ≡ areBits (now (bits .entry)) ⌝ }
 {
+    let mut ok = true;
     let mut i: usize = 0;
     while i < bits.len() {
-        if 1 < bits[i] {
-            return false;
-        }
+        let low = bits[i] <= 1;
+        ok = ok & low;
         i += 1;
     }
-    true
+    ok
 }
 
 // A bit with what the state adds to it: input to product and product to input. `p` is the last input, `q` the one before it.

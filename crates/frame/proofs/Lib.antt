@@ -11,3 +11,4 @@ pub mod SearchLaws
 pub mod HeaderLaws
 pub mod AnswerLaws
 pub mod ControlLaws
+pub mod PassedLaws

@@ -1,18 +1,21 @@
 -- The plain bits of a body, a bit and a byte at a time. Assumes nothing.
 use mathlib.Core.Path.{_≡_, refl, sym, ap, ap₂, _∙_}
-use mathlib.Core.Bool.{Bool, false}
+use mathlib.Core.Bool.{Bool, true, false, cond}
 use mathlib.Core.List.{List, [], _∷_, _++_}
-use Prim.Native.Nat.{ℕ, zero, suc, _+_, _-_, _*_, _%_, _<_}
+use Prim.Native.Nat.{ℕ, zero, suc, _+_, _-_, _*_, _/_, _%_, _^_, _≤_, _<_}
+use native.Mathlib.Nat.{pow-suc}
 use native.Mathlib.Omega.{arith}
 use native.Mathlib.Numerals.{add-one}
 use lib.ListN.{length, take, drop, getD, set, replicate}
-use lib.Seq.{set-at, take-add, drop-drop, append-snoc}
+use lib.Dec.{eqb}
+use lib.Seq.{set-at, take-add, drop-drop, append-snoc, length-take-le}
 use Rattle.coding.specs.Bits.{plus, odd, bitOf, value}
 use Rattle.coding.specs.Convolution.{State, fresh, tap, shift, stateOf, stateAfter, deconvolved}
-use Rattle.coding.proofs.BitLaws.{odd-bit}
+use Rattle.coding.proofs.BitLaws.{odd-bit, bit-lt}
 use Rattle.coding.proofs.Values.{value-below, value-next}
 use Rattle.coding.proofs.Codes.{length-deconvolved, deconvolve-at, deconvolve-drop, state-next, state-append}
 use Rattle.frame.specs.Fields.{toBytes, padded}
+use Rattle.frame.specs.Plain.{ending, NextByte}
 
 -- ---- one bit more of `rest`, from a state
 
@@ -37,6 +40,56 @@ module _ (rank : ℕ) (s : State) (rest : List Bool) where
     next-number v k g =
         let n : j < length plainBits = omega (arith, length-deconvolved rank s rest) in
         omega (arith, g, next-bit, value-below plainBits j 7 (omega arith) (omega arith), value-next plainBits j n)
+
+-- after j of a byte's bits: their number, and the state
+pub record Part (rank : ℕ) (s : State) (rest : List Bool) (j v a b : ℕ) : Type 0 where
+  pub few : j ≤ 8
+  pub low-a : a < 2
+  pub low-b : b < 2
+  pub state : stateOf a b ≡ stateAfter s (take j (plainBits rank s rest))
+  pub number : v ≡ value (take j (plainBits rank s rest))
+
+odd-low : (x : ℕ) → odd (x % 2) ≡ odd x
+odd-low x = ap (λ (y : ℕ). eqb y 1) (let z : x % 2 % 2 ≡ x % 2 = omega arith in z)
+
+-- the number of two bits or more ends as they do
+same-ending : (x : Bool) (n v : ℕ) → ending (cond x (2 ^ suc (suc n)) 0 + v) ≡ ending v
+same-ending false n v = ap ending (let z : 0 + v ≡ v = omega arith in z)
+same-ending true n v =
+    let e : 2 ^ suc (suc n) ≡ 4 * 2 ^ n = omega (arith, pow-suc 2 (suc n), pow-suc 2 n) in
+    ap₂ (λ (x y : ℕ). record { last = eqb x 1; second = eqb y 1 })
+    (let z : (2 ^ suc (suc n) + v) % 2 ≡ v % 2 = omega (arith, e) in z) (let z : (2 ^ suc (suc n) + v) / 2 % 2 ≡ v / 2 % 2 = omega (arith, e) in z)
+
+ends : (s : State) (w : List Bool) → 2 ≤ length w → ending (value w) ≡ stateAfter s w
+unfolding value stateAfter
+ends s [] h = absurd (omega arith)
+ends s (x ∷ []) h = absurd (omega arith)
+ends s (true ∷ true ∷ []) h = refl
+ends s (true ∷ false ∷ []) h = refl
+ends s (false ∷ true ∷ []) h = refl
+ends s (false ∷ false ∷ []) h = refl
+ends s (x ∷ y ∷ z ∷ l) h = same-ending x (length l) (value (y ∷ z ∷ l)) ∙ ends (shift s x) (y ∷ z ∷ l) (omega arith)
+
+module _ (rank last : ℕ) (rest : List Bool) where
+  pub part-none : Part rank (ending last) rest 0 0 (last % 2) (last / 2 % 2)
+  unfolding value stateAfter
+  part-none = record { few = omega arith; low-a = omega arith; low-b = omega arith; state = ap₂ (λ (x y : Bool). record { last = x; second = y }) (odd-low last) (odd-low (last / 2)); number = refl }
+
+  pub part-more : (j v a b x y : ℕ) → Part rank (ending last) rest j v a b → j < 8 → j < length rest → y ≡ bitOf (getD rest j false)
+      → x ≡ bitOf (plus (odd y) (tap rank (stateOf a b))) → Part rank (ending last) rest (j + 1) (v % 128 * 2 + x) x a
+  part-more j v a b x y r k h e f = record {
+    few = omega arith;
+    low-a = omega (arith, f, bit-lt (plus (odd y) (tap rank (stateOf a b))));
+    low-b = r .low-a;
+    state = next-state rank (ending last) rest j a b x y h (r .state) e f;
+    number = next-number rank (ending last) rest j a b x y h (r .state) e f v k (r .number);
+  }
+
+  pub part-whole : (j v a b : ℕ) → Part rank (ending last) rest j v a b → 8 ≤ j → 8 ≤ length rest → NextByte rank rest last v
+  part-whole j v a b r h k =
+      let z = plainBits rank (ending last) rest in
+      let e : v ≡ value (take 8 z) = r .number ∙ ap (λ (i : ℕ). value (take i z)) (let y : j ≡ 8 = omega (arith, r .few) in y) in
+      record { byte = e; state = ap ending e ∙ ends (ending last) (take 8 z) (omega (arith, length-take-le 8 z (omega (arith, length-deconvolved rank (ending last) rest)))) }
 
 -- ---- one byte more
 

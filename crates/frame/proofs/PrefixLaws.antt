@@ -23,17 +23,12 @@ use Rattle.frame.specs.declared.Repair.{Repair}
 use Rattle.frame.specs.declared.Repair.the-variants.{Unchanged, Inserted, Deleted, Flipped}
 use Rattle.frame.specs.declared.DecodedUplink.{DecodedUplink}
 use Rattle.frame.proofs.KindLaws.{found-class}
-use Rattle.frame.proofs.SpliceLaws.{length-replaced}
+use Rattle.frame.proofs.SpliceLaws.{length-replaced, take-replaced}
 use Rattle.frame.proofs.SizeLaws.{body-most}
 use Rattle.frame.proofs.FieldLaws.{drop-take, bytes-same, right-same, passes-is}
 use Rattle.frame.proofs.RepairLaws.{first-below, agree, none-passes, first-few}
 
 -- ---- repairs past a frame's bits
-
-replaced-past : (total at : ℕ) (middle : List Bool) (skip : ℕ) (l : List Bool) → total ≤ at → at ≤ length l → take total (replaced at middle skip l) ≡ take total l
-unfolding replaced
-replaced-past total at middle skip l h k =
-    take-append-le total (take at l) (middle ++ drop (at + skip) l) (omega (arith, length-take-le at l k)) ∙ take-take total at l h
 
 module _ (kind : FrameKind) where
   -- a frame's bits
@@ -47,7 +42,7 @@ module _ (kind : FrameKind) where
     past a how at middle skip f s t u =
         passes-is kind how l ∙ ap (rightBits (kind .rank) (bodyBytes (kind .class))) f
         ∙ right-same (kind .rank) (bodyBytes (kind .class)) (replaced at middle skip l) l (omega (arith, length-replaced at middle skip l (omega arith))) a
-        (replaced-past total at middle skip l t (omega arith))
+        (take-replaced at middle skip l (omega arith) total t)
         ∙ sym (passes-is kind Unchanged l) ∙ e
 
     later : total ≤ length l → firstOf (passes kind l) (repairs (length l - total) (0 + total)) ≡ Unchanged

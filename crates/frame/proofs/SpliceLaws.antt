@@ -5,12 +5,12 @@ use mathlib.Core.List.{List, [], _∷_, _++_, map}
 use Prim.Native.Nat.{ℕ, zero, suc, _+_, _-_, _≤_, _<_}
 use native.Mathlib.Omega.{arith}
 use lib.ListN.{length, take, drop, getD, replicate, length-append, length-drop, length-replicate, getD-replicate, List·getD-append, List·getD-map}
-use lib.Seq.{length-take-le, getD-append-add, getD-drop, getD-take}
+use lib.Seq.{length-take-le, getD-append-add, getD-drop, getD-take, take-take, take-append-le, drop-append-add, drop-drop}
 use borrow.Author.Tests.{ltb-true}
 use Rattle.coding.specs.Bits.{odd, bitOf, areBits}
 use Rattle.coding.proofs.BitLaws.{odd-bit, bit-at, bit-lt, length-map-odd}
 use Rattle.frame.specs.Repairs.{replaced, repaired}
-use Rattle.frame.specs.Splices.{spliced, SpliceOk, placed, inserting, deleting, flipping}
+use Rattle.frame.specs.Splices.{spliced, SpliceOk, placed, keeping, inserting, deleting, flipping}
 use Rattle.frame.specs.declared.Repair.{Repair}
 use Rattle.frame.specs.declared.Repair.the-variants.{Unchanged, Inserted, Deleted, Flipped}
 use Rattle.frame.specs.declared.splices.Splice.{Splice}
@@ -52,6 +52,20 @@ module _ (at : ℕ) (middle : List Bool) (skip : ℕ) (l : List Bool) (h : at + 
       ∙ getD-append-add middle (drop (at + skip) l) (j - at - length middle) false
       ∙ getD-drop (at + skip) l (j - at - length middle) false ∙ ap (λ (i : ℕ). getD l i false) f
 
+  pub take-replaced : (n : ℕ) → n ≤ at → take n (replaced at middle skip l) ≡ take n l
+  unfolding replaced
+  take-replaced n k =
+      take-append-le n (take at l) (middle ++ drop (at + skip) l) (omega (arith, length-take-le at l (omega arith))) ∙ take-take n at l k
+
+  pub drop-replaced : (n : ℕ) → at + length middle ≤ n → drop n (replaced at middle skip l) ≡ drop (n - length middle + skip) l
+  unfolding replaced
+  drop-replaced n k =
+      let m = n - at - length middle in
+      let e : n ≡ length (take at l) + (length middle + m) = omega (arith, length-take-le at l (omega arith)) in
+      ap (λ (i : ℕ). drop i (take at l ++ (middle ++ drop (at + skip) l))) e
+      ∙ drop-append-add (take at l) (middle ++ drop (at + skip) l) (length middle + m) ∙ drop-append-add middle (drop (at + skip) l) m
+      ∙ drop-drop m (at + skip) l ∙ ap (λ (i : ℕ). drop i l) (let z : at + skip + m ≡ n - length middle + skip = omega arith in z)
+
 -- ---- a splice of bit bytes
 
 module _ (s : Splice) (body : List ℕ) (ok : SpliceOk s (length body)) where
@@ -82,6 +96,17 @@ module _ (s : Splice) (body : List ℕ) (ok : SpliceOk s (length body)) where
       replaced-after (s .at) middle (s .skip) (map odd body) inside j (omega (arith, length-replicate (s .put) (odd (s .bit))))
       ∙ ap (λ (n : ℕ). getD (map odd body) (j - n + s .skip) false) (length-replicate (s .put) (odd (s .bit)))
 
+  -- what lies before a splice, and what after it
+  pub take-spliced : (n : ℕ) → n ≤ s .at → take n (spliced s (map odd body)) ≡ take n (map odd body)
+  unfolding spliced
+  take-spliced = take-replaced (s .at) middle (s .skip) (map odd body) inside
+
+  pub drop-spliced : (n : ℕ) → s .at + s .put ≤ n → drop n (spliced s (map odd body)) ≡ drop (n - s .put + s .skip) (map odd body)
+  unfolding spliced
+  drop-spliced n h =
+      let e = length-replicate (s .put) (odd (s .bit)) in
+      drop-replaced (s .at) middle (s .skip) (map odd body) inside n (omega (arith, e)) ∙ ap (λ (k : ℕ). drop (n - k + s .skip) (map odd body)) e
+
 -- ---- the splice of a repair
 
 pub odd-not : (b : ℕ) → b < 2 → odd (1 - b) ≡ not (odd b)
@@ -107,9 +132,15 @@ pub record Makes (how : Repair) (body : List ℕ) (s : Splice) : Type 0 where
   pub ok : SpliceOk s (length body)
   pub is : spliced s (map odd body) ≡ repaired how (map odd body)
 
-pub unchanged-makes : (body : List ℕ) → Makes Unchanged body (record { at = 0; put = 0; bit = 0; skip = 0 })
+pub unchanged-makes : (body : List ℕ) (s : Splice) → s ≡ keeping → Makes Unchanged body s
 unfolding spliced replaced repaired
-unchanged-makes body = record { ok = record { bit = omega arith; put = omega arith; skip = omega arith; inside = omega arith }; is = refl }
+unchanged-makes body s e =
+    subst (Makes Unchanged body) (sym e)
+    (record { ok = record { bit = omega arith; put = omega arith; skip = omega arith; inside = omega arith }; is = refl })
+
+pub kept : (body : List ℕ) (s : Splice) → s ≡ keeping → spliced s (map odd body) ≡ map odd body
+unfolding repaired
+kept body s e = unchanged-makes body s e .is
 
 module _ (body : List ℕ) (i : ℕ) (h : i < length body) (s : Splice) where
   pub insert-makes : (b : Bool) (r : ℕ) → r ≡ bitOf b → s ≡ inserting i r → Makes (Inserted b i) body s

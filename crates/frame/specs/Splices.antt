@@ -31,7 +31,10 @@ placed (Inserted b at) n = ltb at n
 placed (Deleted at) n = ltb at n
 placed (Flipped at) n = ltb at n
 
--- the splices of an insertion, a deletion and a flip of a bit byte
+-- the splice that changes nothing, and those of an insertion, a deletion and a flip of a bit byte
+abbrev pub keeping : Splice
+keeping = record { at = 0; put = 0; bit = 0; skip = 0 }
+
 abbrev pub inserting : ℕ → ℕ → Splice
 inserting i bit = record { at = i; put = 1; bit = bit; skip = 0 }
 

@@ -11,34 +11,47 @@ ghost use Rattle.limits.specs.Limits.{mostBits};
 ghost use Rattle.frame.specs.Sizes.{headerSize, mostPayload, mostAuth, payloadSize, authSize, bodyBytes, mostBytes};
 ghost use Rattle.frame.specs.Fields.{toBytes, padded, deviceOf, counterOf, payloadOf, authOf, bitFrom, crcRight, frameFrom};
 ghost use Rattle.frame.specs.Splices.{spliced, SpliceOk};
-ghost use Rattle.frame.specs.Plain.{NextByte, rightBits};
+ghost use Rattle.frame.specs.Plain.{NextByte, Passed, rightBits};
 use crate::Repair;
 use crate::SingleBit;
 use crate::UplinkFrame;
 use crate::kinds::FrameKind;
 use crate::splices::Splice;
 use crate::splices::spliced_bit;
+use coding::wide;
 
 // LI, BF, REP and counter, then the device.
 pub const HEADER: usize = 6;
 
 pub const MOST_PAYLOAD: usize = 12;
 
-// A byte of the plain bits, and the two inputs before the next one.
-pub struct PlainByte {
-    pub byte: u8,
-    pub p: u8,
-    pub q: u8,
-}
-
-// Eight bits of a body with a splice, the convolution undone.
-fn plain_byte(body: &[u8], rank: u8, s: Splice, from: usize, p: u8, q: u8) -> PlainByte
-    requires { ⌜ (areBits (now body) ≡ true) × SpliceOk s (length (now body)) × (p < 2) × (q < 2) × (from + 8 + s .skip ≤ length (now body) + s .put) × (from < 1024) ⌝ }
-    ensures { λ r. ⌜ NextByte rank (drop from (spliced s (map odd (now (body .entry))))) p q r ⌝ }
+// Eight bits of a body, the convolution undone. The inputs before them end the byte before, `last`.
+fn straight_byte(body: &[u8], rank: u8, from: usize, last: u8) -> u8
+    requires { ⌜ (areBits (now body) ≡ true) × (from + 8 ≤ length (now body)) ⌝ }
+    ensures { λ r. ⌜ NextByte rank (drop from (map odd (now (body .entry)))) last r ⌝ }
 {
     let mut v: u8 = 0;
-    let mut a = p;
-    let mut b = q;
+    let mut a = last % 2;
+    let mut b = last / 2 % 2;
+    let mut j: usize = 0;
+    while j < 8 {
+        let x = coding::coded_bit(body[from + j], rank, a, b);
+        v = (v % 128) * 2 + x;
+        b = a;
+        a = x;
+        j += 1;
+    }
+    v
+}
+
+// The same of a body with a splice.
+fn spliced_byte(body: &[u8], rank: u8, s: Splice, from: usize, last: u8) -> u8
+    requires { ⌜ (areBits (now body) ≡ true) × SpliceOk s (length (now body)) × (from + 8 + s .skip ≤ length (now body) + s .put) × (from < 1024) ⌝ }
+    ensures { λ r. ⌜ NextByte rank (drop from (spliced s (map odd (now (body .entry))))) last r ⌝ }
+{
+    let mut v: u8 = 0;
+    let mut a = last % 2;
+    let mut b = last / 2 % 2;
     let mut j: usize = 0;
     while j < 8 {
         let x = coding::coded_bit(spliced_bit(body, s, from + j), rank, a, b);
@@ -47,11 +60,18 @@ fn plain_byte(body: &[u8], rank: u8, s: Splice, from: usize, p: u8, q: u8) -> Pl
         a = x;
         j += 1;
     }
-    PlainByte {
-        byte: v,
-        p: a,
-        q: b,
+    v
+}
+
+// The same: past the splice the bits are the body's, and nothing is asked of each.
+fn plain_byte(body: &[u8], rank: u8, s: Splice, from: usize, last: u8) -> u8
+    requires { ⌜ (areBits (now body) ≡ true) × SpliceOk s (length (now body)) × (from + 8 + s .skip ≤ length (now body) + s .put) × (from < 1024) ⌝ }
+    ensures { λ r. ⌜ NextByte rank (drop from (spliced s (map odd (now (body .entry))))) last r ⌝ }
+{
+    if s.at + s.put <= from {
+        return straight_byte(body, rank, from - s.put + s.skip, last);
     }
+    spliced_byte(body, rank, s, from, last)
 }
 
 // The first `n` plain bytes of a body with a splice.
@@ -60,24 +80,14 @@ pub fn plain_bytes(body: &[u8], rank: u8, n: usize, s: Splice) -> [u8; 22]
     ensures { λ r. ⌜ r ≡ padded mostBytes (toBytes n (deconvolved rank fresh (spliced s (map odd (now (body .entry)))))) ⌝ }
 {
     let mut bytes = [0u8; 22];
-    let mut p: u8 = 0;
-    let mut q: u8 = 0;
+    let mut last: u8 = 0;
     let mut i: usize = 0;
     while i < n {
-        let next = plain_byte(body, rank, s, 8 * i, p, q);
-        bytes[i] = next.byte;
-        p = next.p;
-        q = next.q;
+        last = plain_byte(body, rank, s, 8 * i, last);
+        bytes[i] = last;
         i += 1;
     }
     bytes
-}
-
-// A byte as a wider number.
-pub fn wide(x: u8) -> u16
-    ensures { λ r. ⌜ (r ≡ x) × (r < 256) ⌝ }
-{
-    x as u16
 }
 
 fn long(x: u8) -> usize
@@ -96,15 +106,44 @@ pub fn crc_right(bytes: [u8; 22], n: usize) -> bool
     coding::crc16(&bytes[..end]) == crc
 }
 
-// Whether a body with a splice parses as a frame of `n` bytes with a right CRC.
-pub fn splice_right(body: &[u8], rank: u8, n: usize, s: Splice) -> bool
-    requires { ⌜ (areBits (now body) ≡ true) × SpliceOk s (length (now body)) × (length (now body) ≤ mostBits) × (2 ≤ n) × (n ≤ mostBytes) ⌝ }
+// Some bytes from the front of a body: how many, their CRC's register, and the last of them.
+pub struct Prefix {
+    pub bytes: usize,
+    pub crc: u16,
+    pub last: u8,
+}
+
+// A byte more.
+pub fn further(body: &[u8], rank: u8, s: Splice, front: Prefix) -> Prefix
+    requires { ⌜ (areBits (now body) ≡ true) × SpliceOk s (length (now body)) × Passed rank (spliced s (map odd (now body))) front
+        × (8 * front .bytes + 8 + s .skip ≤ length (now body) + s .put) × (front .bytes < mostBytes) ⌝ }
+    ensures { λ r. ⌜ Passed rank (spliced s (map odd (now (body .entry)))) r × (r .bytes ≡ front .bytes + 1) ⌝ }
+{
+    let next = plain_byte(body, rank, s, 8 * front.bytes, front.last);
+    Prefix {
+        bytes: front.bytes + 1,
+        crc: coding::crc_byte(front.crc, next),
+        last: next,
+    }
+}
+
+// Whether a body with a splice parses as a frame of `n` bytes with a right CRC; `front` has bytes from before the splice.
+pub fn splice_right(body: &[u8], rank: u8, n: usize, s: Splice, front: Prefix) -> bool
+    requires { ⌜ (areBits (now body) ≡ true) × SpliceOk s (length (now body)) × (length (now body) ≤ mostBits) × (n ≤ mostBytes)
+        × Passed rank (map odd (now body)) front × (8 * front .bytes ≤ s .at) × (front .bytes + 2 ≤ n) ⌝ }
     ensures { λ r. ⌜ r ≡ rightBits rank n (spliced s (map odd (now (body .entry)))) ⌝ }
 {
     if body.len() + s.put - s.skip < 8 * n {
         return false;
     }
-    crc_right(plain_bytes(body, rank, n, s), n)
+    let end = n - 2;
+    let mut f = front;
+    while f.bytes < end {
+        f = further(body, rank, s, f);
+    }
+    let high = plain_byte(body, rank, s, 8 * end, f.last);
+    let low = plain_byte(body, rank, s, 8 * end + 8, high);
+    65535 - f.crc == wide(high) * 256 + wide(low)
 }
 
 fn payload_size(class: u8, li: u8) -> u8

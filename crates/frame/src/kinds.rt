@@ -6,7 +6,7 @@ ghost use Prim.Native.Nat.{_+_, _*_, _≤_, _<_};
 ghost use lib.ListN.{length, take, drop, getD};
 ghost use Rattle.coding.specs.Bits.{odd, value, areBits};
 ghost use Rattle.frame.specs.Kinds.{kinds, blankKind, kindOf, syncSize};
-use crate::bodies::wide;
+use coding::wide;
 
 // What a frame type says of a frame.
 pub struct FrameKind {

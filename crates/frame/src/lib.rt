@@ -2,16 +2,20 @@
 ghost use mathlib.Core.Path.{_≡_};
 ghost use mathlib.Core.Bool.{true, false, cond};
 ghost use mathlib.Core.List.{map};
-ghost use Prim.Native.Nat.{_≤_};
+ghost use Prim.Native.Nat.{_+_, _*_, _≤_};
 ghost use lib.Dec.{leb};
 ghost use lib.ListN.{length};
 ghost use Rattle.coding.specs.Bits.{odd, areBits};
 ghost use Rattle.limits.specs.Limits.{mostBits};
 ghost use Rattle.frame.specs.Decode.{withoutFrame, parseBody, passes, firstRepair, decodeBody, decodeUplink, uplinkAnswer};
+ghost use Rattle.frame.specs.Sizes.{mostBytes};
+ghost use Rattle.frame.specs.Plain.{Passed};
 ghost use Rattle.frame.specs.Splices.{placed, BodyOk};
+use bodies::Prefix;
 use bodies::body_bytes;
 use bodies::crc_right;
 use bodies::frame_from;
+use bodies::further;
 use bodies::plain_bytes;
 use bodies::splice_right;
 use kinds::FoundKind;
@@ -23,6 +27,7 @@ use splices::delete;
 use splices::flip;
 use splices::insert;
 use splices::splice_of;
+use splices::unchanged;
 
 pub mod control; // decode_control
 pub mod header; // uplink_header
@@ -118,6 +123,21 @@ fn parse_body(body: &[u8], kind: FrameKind, how: Repair) -> DecodedUplink
     }
 }
 
+// The bytes before a place, for the repairs there: a byte more where it is whole, up to the CRC.
+fn front_at(body: &[u8], rank: u8, n: usize, front: Prefix, i: usize) -> Prefix
+    requires { ⌜ (areBits (now body) ≡ true) × (i ≤ length (now body)) × (n ≤ mostBytes)
+        × Passed rank (map odd (now body)) front × (8 * front .bytes ≤ i) × (front .bytes + 2 ≤ n) ⌝ }
+    ensures { λ r. ⌜ Passed rank (map odd (now (body .entry))) r × (8 * r .bytes ≤ i) × (r .bytes + 2 ≤ n) ⌝ }
+{
+    if i < 8 * front.bytes + 8 {
+        return front;
+    }
+    if n < front.bytes + 3 {
+        return front;
+    }
+    further(body, rank, unchanged(), front)
+}
+
 // The first repair of a body that gives a frame with a right CRC, `Unchanged` where there is none. A repair past the frame's bits changes nothing.
 fn first_repair(body: &[u8], kind: FrameKind) -> Repair
     requires { ⌜ BodyOk kind (now body) × (passes kind (map odd (now body)) Repair.Unchanged ≡ false) ⌝ }
@@ -125,18 +145,24 @@ fn first_repair(body: &[u8], kind: FrameKind) -> Repair
 {
     let n = body_bytes(kind.class);
     let end = least(body.len(), 8 * n);
+    let mut front = Prefix {
+        bytes: 0,
+        crc: 0,
+        last: 0,
+    };
     let mut i: usize = 0;
     while i < end {
-        if splice_right(body, kind.rank, n, insert(i, 1)) {
+        front = front_at(body, kind.rank, n, front, i);
+        if splice_right(body, kind.rank, n, insert(i, 1), front) {
             return Repair::Inserted(true, i);
         }
-        if splice_right(body, kind.rank, n, insert(i, 0)) {
+        if splice_right(body, kind.rank, n, insert(i, 0), front) {
             return Repair::Inserted(false, i);
         }
-        if splice_right(body, kind.rank, n, delete(i)) {
+        if splice_right(body, kind.rank, n, delete(i), front) {
             return Repair::Deleted(i);
         }
-        if splice_right(body, kind.rank, n, flip(i, body[i])) {
+        if splice_right(body, kind.rank, n, flip(i, body[i]), front) {
             return Repair::Flipped(i);
         }
         i += 1;

@@ -6,7 +6,7 @@ ghost use Prim.Native.Nat.{_+_, _<_};
 ghost use lib.ListN.{length, getD};
 ghost use Rattle.coding.specs.Bits.{odd, bitOf, areBits};
 ghost use Rattle.frame.specs.Repairs.{repaired};
-ghost use Rattle.frame.specs.Splices.{spliced, SpliceOk, placed, inserting, deleting, flipping};
+ghost use Rattle.frame.specs.Splices.{spliced, SpliceOk, placed, keeping, inserting, deleting, flipping};
 use crate::Repair;
 
 // `skip` bits at `at` are replaced by `put` bits `bit`.
@@ -38,7 +38,18 @@ pub fn one_if(b: bool) -> u8
     if b { 1 } else { 0 }
 }
 
-// The splices of an insertion, a deletion and a flip of a bit.
+// The splice that changes nothing, and those of an insertion, a deletion and a flip of a bit.
+pub fn unchanged() -> Splice
+    ensures { λ r. ⌜ r ≡ keeping ⌝ }
+{
+    Splice {
+        at: 0,
+        put: 0,
+        bit: 0,
+        skip: 0,
+    }
+}
+
 pub fn insert(i: usize, bit: u8) -> Splice
     ensures { λ r. ⌜ r ≡ inserting i bit ⌝ }
 {
@@ -79,12 +90,7 @@ pub fn splice_of(body: &[u8], how: Repair) -> Splice
     ensures { λ r. ⌜ SpliceOk r (length (now (body .entry))) × (spliced r (map odd (now (body .entry))) ≡ repaired how (map odd (now (body .entry)))) ⌝ }
 {
     match how {
-        Repair::Unchanged => Splice {
-            at: 0,
-            put: 0,
-            bit: 0,
-            skip: 0,
-        },
+        Repair::Unchanged => unchanged(),
         Repair::Inserted(b, i) => insert(i, one_if(b)),
         Repair::Deleted(i) => delete(i),
         Repair::Flipped(i) => flip(i, body[i]),

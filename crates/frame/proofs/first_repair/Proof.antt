@@ -1,4 +1,4 @@
--- `frame::first_repair` meets its contract. The invariant: the places left have the answer. Assumes nothing.
+-- `frame::first_repair` meets its contract. The invariant: the places left have the answer, and some bytes before them have been passed. Assumes nothing.
 use borrow.Author.Needs.{needs}
 use mathlib.Core.Path.{_≡_, refl, sym, ap, ap₂, _∙_}
 use mathlib.Core.Bool.{true, false, cond}
@@ -12,19 +12,23 @@ use Rattle.coding.specs.Bits.{odd}
 use Rattle.coding.proofs.BitLaws.{bit-at, length-map-odd}
 use Rattle.frame.specs.Repairs.{repairs, firstOf}
 use Rattle.frame.specs.Decode.{passes, firstRepair}
+use Rattle.frame.specs.Plain.{Passed}
+use Rattle.frame.specs.declared.splices.Splice.{Splice}
 use Rattle.frame.specs.declared.Repair.the-variants.{Inserted, Deleted, Flipped}
 use Rattle.frame.proofs.SpliceLaws.{insert-makes, delete-makes, flip-makes}
 use Rattle.frame.proofs.FieldLaws.{tested}
 use Rattle.frame.proofs.RepairLaws.{first-true, first-false, first-deleted, first-flipped, first-later, first-none}
 use Rattle.frame.proofs.PrefixLaws.{first-least}
+use Rattle.frame.proofs.PassedLaws.{passed-none}
 use Rattle.frame.proofs.first_repair.Statement.{statement}
 use Rattle.frame.proofs.first_repair.Tie as tie
 
 abbrev Inv-loop : tie.InvT-loop
-Inv-loop body kind n end i₀ i = (i ≤ end) × (firstOf (passes kind (map odd body)) (repairs (end - i) i) ≡ firstRepair kind (map odd body))
+Inv-loop body kind n end front₀ i₀ front i = (i ≤ end) × (firstOf (passes kind (map odd body)) (repairs (end - i) i) ≡ firstRepair kind (map odd body))
+    × Passed (kind .rank) (map odd body) front × (8 * front .bytes ≤ i) × (front .bytes + 2 ≤ n)
 
 abbrev μ-loop : tie.MeasureT-loop
-μ-loop body kind n end i₀ i = end - i
+μ-loop body kind n end front₀ i₀ front i = end - i
 
 body-bytes-requires : tie.Need-body-bytes-requires Inv-loop μ-loop
 body-bytes-requires c κs = c .before .pre .0 .class
@@ -44,13 +48,23 @@ loop-holds c = let b = c .before in
       ap (λ (m : ℕ). firstOf (passes (e .args .kind) l) (repairs m 0)) (sub-zero (c .least .result))
           ∙ sym (first-least (e .args .kind) l (e .pre .1) (c .least .result)
           (c .least .ensures .2 ∙ ap₂ (λ (x y : ℕ). cond (leb x y) x y) (sym (length-map-odd (e .args .body .now))) n)),
+      passed-none (e .args .kind .rank) l,
+      omega arith,
+      omega (arith, b .body-bytes .ensures .1),
     )
+
+front-at-requires : tie.Need-front-at-requires Inv-loop μ-loop
+front-at-requires c κs = let l = c .before in
+    let b = l .before .before in
+    let e = b .before .before in
+    (e .pre .0 .bits, omega (arith, c .loop-test .taken, l .before .least .ensures .0), b .body-bytes .ensures .2, l .loop .inv .2, l .loop .inv .3, l .loop .inv .4)
 
 insert-requires : tie.Need-insert-requires Inv-loop μ-loop
 insert-requires c κs = search needs
 
 splice-right-requires : tie.Need-splice-right-requires Inv-loop μ-loop
-splice-right-requires c κs = let q = c .before in
+splice-right-requires c κs = let f = c .before .front-at .ensures in
+    let q = c .before .before in
     let l = q .before in
     let b = l .before .before in
     let e = b .before .before in
@@ -58,10 +72,10 @@ splice-right-requires c κs = let q = c .before in
     let i = l .loop .i in
     let h : i < length body = omega (arith, q .loop-test .taken, l .before .least .ensures .0) in
     let m = insert-makes body i h (c .insert .result) true 1 refl (c .insert .ensures) in
-    (e .pre .0 .bits, m .ok, e .pre .0 .few, b .body-bytes .ensures .1, b .body-bytes .ensures .2)
+    (e .pre .0 .bits, m .ok, e .pre .0 .few, b .body-bytes .ensures .2, f .0, omega (arith, f .1, ap (λ (x : Splice). x .at) (c .insert .ensures)), f .2)
 
 returns : tie.Need-returns Inv-loop μ-loop
-returns c = let q = c .before .before .before in
+returns c = let q = c .before .before .before .before in
     let l = q .before in
     let b = l .before .before in
     let e = b .before .before in
@@ -84,7 +98,8 @@ insert-requires-2 : tie.Need-insert-requires-2 Inv-loop μ-loop
 insert-requires-2 c κs = search needs
 
 splice-right-requires-2 : tie.Need-splice-right-requires-2 Inv-loop μ-loop
-splice-right-requires-2 c κs = let q = c .before .before .before .before in
+splice-right-requires-2 c κs = let f = c .before .before .before .before .front-at .ensures in
+    let q = c .before .before .before .before .before in
     let l = q .before in
     let b = l .before .before in
     let e = b .before .before in
@@ -92,11 +107,11 @@ splice-right-requires-2 c κs = let q = c .before .before .before .before in
     let i = l .loop .i in
     let h : i < length body = omega (arith, q .loop-test .taken, l .before .least .ensures .0) in
     let m = insert-makes body i h (c .insert2 .result) false 0 refl (c .insert2 .ensures) in
-    (e .pre .0 .bits, m .ok, e .pre .0 .few, b .body-bytes .ensures .1, b .body-bytes .ensures .2)
+    (e .pre .0 .bits, m .ok, e .pre .0 .few, b .body-bytes .ensures .2, f .0, omega (arith, f .1, ap (λ (x : Splice). x .at) (c .insert2 .ensures)), f .2)
 
 returns-2 : tie.Need-returns-2 Inv-loop μ-loop
 returns-2 c = let t1 = c .before .before .before in
-    let q = t1 .before .before .before in
+    let q = t1 .before .before .before .before in
     let l = q .before in
     let b = l .before .before in
     let e = b .before .before in
@@ -123,7 +138,8 @@ delete-requires : tie.Need-delete-requires Inv-loop μ-loop
 delete-requires c κs = search needs
 
 splice-right-requires-3 : tie.Need-splice-right-requires-3 Inv-loop μ-loop
-splice-right-requires-3 c κs = let q = c .before .before .before .before .before .before .before in
+splice-right-requires-3 c κs = let f = c .before .before .before .before .before .before .before .front-at .ensures in
+    let q = c .before .before .before .before .before .before .before .before in
     let l = q .before in
     let b = l .before .before in
     let e = b .before .before in
@@ -131,12 +147,12 @@ splice-right-requires-3 c κs = let q = c .before .before .before .before .befor
     let i = l .loop .i in
     let h : i < length body = omega (arith, q .loop-test .taken, l .before .least .ensures .0) in
     let m = delete-makes body i h (c .delete .result) (c .delete .ensures) in
-    (e .pre .0 .bits, m .ok, e .pre .0 .few, b .body-bytes .ensures .1, b .body-bytes .ensures .2)
+    (e .pre .0 .bits, m .ok, e .pre .0 .few, b .body-bytes .ensures .2, f .0, omega (arith, f .1, ap (λ (x : Splice). x .at) (c .delete .ensures)), f .2)
 
 returns-3 : tie.Need-returns-3 Inv-loop μ-loop
 returns-3 c = let t2 = c .before .before .before in
     let t1 = t2 .before .before .before in
-    let q = t1 .before .before .before in
+    let q = t1 .before .before .before .before in
     let l = q .before in
     let b = l .before .before in
     let e = b .before .before in
@@ -164,16 +180,17 @@ returns-3 c = let t2 = c .before .before .before in
     first-deleted f k i (p1 ∙ t1 .if1 .left) (p2 ∙ t2 .if2 .left) (p3 ∙ c .if3 .taken) ∙ more
 
 shared-slice-read-flip : tie.Need-shared-slice-read-flip Inv-loop μ-loop
-shared-slice-read-flip c = let q = c .before .before .before .before .before .before .before .before .before .before in
+shared-slice-read-flip c = let q = c .before .before .before .before .before .before .before .before .before .before .before in
     let l = q .before in omega (arith, q .loop-test .taken, l .before .least .ensures .0)
 
 flip-requires : tie.Need-flip-requires Inv-loop μ-loop
-flip-requires c κs = let l = c .before .before .before .before .before .before .before .before .before .before .before in
+flip-requires c κs = let l = c .before .before .before .before .before .before .before .before .before .before .before .before in
     let e = l .before .before .before .before in
     bit-at (e .args .body .now) (l .loop .i) (e .pre .0 .bits)
 
 splice-right-requires-4 : tie.Need-splice-right-requires-4 Inv-loop μ-loop
-splice-right-requires-4 c κs = let q = c .before .before .before .before .before .before .before .before .before .before .before in
+splice-right-requires-4 c κs = let f = c .before .before .before .before .before .before .before .before .before .before .before .front-at .ensures in
+    let q = c .before .before .before .before .before .before .before .before .before .before .before .before in
     let l = q .before in
     let b = l .before .before in
     let e = b .before .before in
@@ -181,13 +198,13 @@ splice-right-requires-4 c κs = let q = c .before .before .before .before .befor
     let i = l .loop .i in
     let h : i < length body = omega (arith, q .loop-test .taken, l .before .least .ensures .0) in
     let m = flip-makes body i h (c .flip .result) (e .pre .0 .bits) (c .flip .ensures) in
-    (e .pre .0 .bits, m .ok, e .pre .0 .few, b .body-bytes .ensures .1, b .body-bytes .ensures .2)
+    (e .pre .0 .bits, m .ok, e .pre .0 .few, b .body-bytes .ensures .2, f .0, omega (arith, f .1, ap (λ (x : Splice). x .at) (c .flip .ensures)), f .2)
 
 returns-4 : tie.Need-returns-4 Inv-loop μ-loop
 returns-4 c = let t3 = c .before .before .before .before in
     let t2 = t3 .before .before .before in
     let t1 = t2 .before .before .before in
-    let q = t1 .before .before .before in
+    let q = t1 .before .before .before .before in
     let l = q .before in
     let b = l .before .before in
     let e = b .before .before in
@@ -219,7 +236,7 @@ returns-4 c = let t3 = c .before .before .before .before in
     first-flipped f k i (p1 ∙ t1 .if1 .left) (p2 ∙ t2 .if2 .left) (p3 ∙ t3 .if3 .left) (p4 ∙ c .if4 .taken) ∙ more
 
 add-i : tie.Need-add-i Inv-loop μ-loop
-add-i c = let l = c .before .before .before .before .before .before .before .before .before .before .before .before .before .before in omega (arith, l .before .least .ensures .1)
+add-i c = let l = c .before .before .before .before .before .before .before .before .before .before .before .before .before .before .before in omega (arith, l .before .least .ensures .1)
 
 loop-less : tie.Need-loop-less Inv-loop μ-loop
 loop-less c = omega arith
@@ -228,7 +245,8 @@ loop-again : tie.Need-loop-again Inv-loop μ-loop
 loop-again c = let t3 = c .before .before .before .before in
     let t2 = t3 .before .before .before in
     let t1 = t2 .before .before .before in
-    let q = t1 .before .before .before in
+    let q = t1 .before .before .before .before in
+    let g = t1 .before .before .before .front-at .ensures in
     let l = q .before in
     let b = l .before .before in
     let e = b .before .before in
@@ -257,7 +275,7 @@ loop-again c = let t3 = c .before .before .before .before in
     (flip-makes body i h (c .before .before .flip .result) (e .pre .0 .bits) (c .before .before .flip .ensures)) (r4 .ensures) in
     let k = end - (i + 1) in
     let more : firstOf f (repairs (suc k) i) ≡ firstRepair kind (map odd body) = ap (λ (m : ℕ). firstOf f (repairs m i)) (let z : suc k ≡ end - i = omega (arith, q .loop-test .taken) in z) ∙ l .loop .inv .1 in
-    (omega (arith, q .loop-test .taken), first-later f k i (p1 ∙ t1 .if1 .left) (p2 ∙ t2 .if2 .left) (p3 ∙ t3 .if3 .left) (p4 ∙ c .if4 .left) ∙ more)
+    (omega (arith, q .loop-test .taken), first-later f k i (p1 ∙ t1 .if1 .left) (p2 ∙ t2 .if2 .left) (p3 ∙ t3 .if3 .left) (p4 ∙ c .if4 .left) ∙ more, g .0, omega (arith, g .1), g .2)
 
 returns-5 : tie.Need-returns-5 Inv-loop μ-loop
 returns-5 c = let l = c .before in
@@ -275,6 +293,7 @@ first-repair-spec =
     mul-least
     least-requires
     loop-holds
+    front-at-requires
     insert-requires
     splice-right-requires
     returns

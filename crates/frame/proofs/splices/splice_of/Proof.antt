@@ -10,6 +10,9 @@ use Rattle.frame.proofs.splices.splice_of.Tie as tie
 enum-told : tie.Need-enum-told
 enum-told c = search needs
 
+unchanged-requires : tie.Need-unchanged-requires
+unchanged-requires c κs = search needs
+
 enum-known-how : tie.Need-enum-known-how
 enum-known-how c = search needs
 
@@ -38,8 +41,9 @@ flip-requires c κs = let e = c .before .before .before .before .before in
     bit-at (e .args .body .now) (c .before .before .how3 .given .0 .0) (e .pre .0)
 
 returns : tie.Need-returns
-returns c = let e = c .before .before .before in
-    makes-it (e .args .how) (e .args .body .now) (record { at = 0; put = 0; bit = 0; skip = 0 }) Unchanged (c .enum-told .given .1) (unchanged-makes (e .args .body .now))
+returns c = let e = c .before .before .before .before in
+    let s = c .unchanged in
+    makes-it (e .args .how) (e .args .body .now) (s .result) Unchanged (c .before .enum-told .given .1) (unchanged-makes (e .args .body .now) (s .result) (s .ensures))
 
 returns-2 : tie.Need-returns-2
 returns-2 c = let e = c .before .before .before .before .before .before in
@@ -70,6 +74,7 @@ splice-of-spec =
     tie.close
     (tie.spec
     enum-told
+    unchanged-requires
     enum-known-how
     one-if-requires
     insert-requires

@@ -1,0 +1,115 @@
+-- Bytes passed from the front of a body, with the CRC's register, and when the CRC is right. Assumes nothing.
+use mathlib.Core.Path.{_≡_, refl, sym, ap, ap₂, _∙_, subst}
+use mathlib.Core.Bool.{Bool, _&&_}
+use mathlib.Core.List.{List, [], _∷_, _++_, map}
+use Prim.Native.Nat.{ℕ, zero, suc, _+_, _-_, _*_, _/_, _≤_, _<_}
+use native.Mathlib.Omega.{arith}
+use lib.Dec.{eqb}
+use lib.ListN.{length, take, drop, getD, length-drop}
+use lib.Seq.{take-add, take-take, length-take-le, drop-drop}
+use borrow.Author.Tests.{le-leb}
+use Rattle.coding.specs.Bits.{odd, digits, value, bytesBits}
+use Rattle.coding.specs.Crc.{crcBits, crcOf}
+use Rattle.coding.specs.Register.{run}
+use Rattle.coding.specs.Convolution.{State, fresh, stateOf, stateAfter, deconvolved}
+use Rattle.coding.proofs.Values.{digits-value}
+use Rattle.coding.proofs.Division.{crc-is, run-append}
+use Rattle.coding.proofs.Codes.{length-deconvolved, deconvolve-take}
+use Rattle.frame.specs.Fields.{toBytes, byteAt, crcRight}
+use Rattle.frame.specs.Plain.{NextByte, Passed, rightBits}
+use Rattle.frame.specs.Splices.{spliced, SpliceOk}
+use Rattle.frame.specs.declared.bodies.Prefix.{Prefix}
+use Rattle.frame.specs.declared.splices.Splice.{Splice}
+use Rattle.frame.proofs.SpliceLaws.{take-spliced}
+use Rattle.frame.proofs.PlainLaws.{left-is, state-byte}
+
+-- ---- none, and those before a splice
+
+pub passed-none : (rank : ℕ) (l : List Bool) → Passed rank l (record { bytes = 0; crc = 0; last = 0 })
+unfolding run stateAfter
+passed-none rank l = record { crc = refl; state = refl }
+
+passed-same : (rank : ℕ) (l m : List Bool) (f : Prefix) → take (8 * f .bytes) l ≡ take (8 * f .bytes) m → Passed rank l f → Passed rank m f
+passed-same rank l m f e r =
+    let n = 8 * f .bytes in
+    let g : take n (deconvolved rank fresh l) ≡ take n (deconvolved rank fresh m) =
+    sym (deconvolve-take n rank fresh l) ∙ ap (deconvolved rank fresh) e ∙ deconvolve-take n rank fresh m in
+    record { crc = r .crc ∙ ap (run 0) g; state = r .state ∙ ap (stateAfter fresh) g }
+
+pub passed-spliced : (rank : ℕ) (body : List ℕ) (s : Splice) (f : Prefix) → SpliceOk s (length body) → 8 * f .bytes ≤ s .at → Passed rank (map odd body) f
+    → Passed rank (spliced s (map odd body)) f
+passed-spliced rank body s f ok h r =
+    passed-same rank (map odd body) (spliced s (map odd body)) f (sym (take-spliced s body ok (8 * f .bytes) h)) r
+
+-- ---- a byte more
+
+module _ (rank : ℕ) (l : List Bool) (f : Prefix) (r : Passed rank l f) (h : 8 * f .bytes + 8 ≤ length l) (next : ℕ)
+    (g : NextByte rank (drop (8 * f .bytes) l) (f .last) next) where
+  abbrev n : ℕ
+  n = 8 * f .bytes
+
+  abbrev plain : List Bool
+  plain = deconvolved rank fresh l
+
+  byte-is : next ≡ value (take 8 (drop n plain))
+  byte-is = g .byte ∙ ap (λ (t : List Bool). value (take 8 t)) (left-is rank l (f .bytes) (f .last) (f .last / 2) (r .state))
+
+  byte-bits : digits 8 next ≡ take 8 (drop n plain)
+  byte-bits =
+      let w = take 8 (drop n plain) in
+      let e : length w ≡ 8 = length-take-le 8 (drop n plain) (omega (arith, length-drop n plain, length-deconvolved rank fresh l)) in
+      ap₂ digits (sym e) byte-is ∙ digits-value w
+
+  pub passed-more : (c : ℕ) → c ≡ run (f .crc) (digits 8 next) → Passed rank l (record { bytes = f .bytes + 1; crc = c; last = next })
+  passed-more c e =
+      let k : n + 8 ≡ 8 * (f .bytes + 1) = omega arith in
+      record {
+        crc = e ∙ ap₂ run (r .crc) byte-bits ∙ sym (run-append (take n plain) (take 8 (drop n plain)) 0) ∙ ap (run 0) (sym (take-add n 8 plain))
+            ∙ ap (λ (m : ℕ). run 0 (take m plain)) k;
+        state = g .state ∙ state-byte rank l (f .bytes) (f .last) (f .last / 2) (r .state);
+      }
+
+-- ---- bytes of bits, and their bits
+
+bytes-at : (n i : ℕ) (l : List Bool) → i < n → byteAt (toBytes n l) i ≡ value (take 8 (drop (8 * i) l))
+unfolding toBytes
+bytes-at zero i l h = absurd (omega arith)
+bytes-at (suc n) zero l h = refl
+bytes-at (suc n) (suc i) l h =
+    bytes-at n i (drop 8 l) (omega arith)
+    ∙ ap (λ (t : List Bool). value (take 8 t)) (drop-drop (8 * i) 8 l ∙ ap (λ (k : ℕ). drop k l) (let z : 8 + 8 * i ≡ 8 * suc i = omega arith in z))
+
+bytes-bits : (m n : ℕ) (l : List Bool) → m ≤ n → 8 * m ≤ length l → bytesBits (take m (toBytes n l)) ≡ take (8 * m) l
+unfolding toBytes bytesBits
+bytes-bits zero n l h k = refl
+bytes-bits (suc m) zero l h k = absurd (omega arith)
+bytes-bits (suc m) (suc n) l h k =
+    let e : length (take 8 l) ≡ 8 = length-take-le 8 l (omega arith) in
+    ap₂ _++_ (ap (λ (j : ℕ). digits j (value (take 8 l))) (sym e) ∙ digits-value (take 8 l)) (bytes-bits m n (drop 8 l) (omega arith) (omega (arith, length-drop 8 l)))
+    ∙ sym (take-add 8 (8 * m) l) ∙ ap (λ (j : ℕ). take j l) (let z : 8 + 8 * m ≡ 8 * suc m = omega arith in z)
+
+-- ---- the CRC is right
+
+-- from the prefix that leaves two bytes, and these
+pub passed-right : (rank n : ℕ) (l : List Bool) (f : Prefix) (high low : ℕ) → 2 ≤ n → 8 * n ≤ length l → f .bytes ≡ n - 2 → Passed rank l f
+    → NextByte rank (drop (8 * (n - 2)) l) (f .last) high → NextByte rank (drop (8 * (n - 2) + 8) l) high low
+    → eqb (65535 - f .crc) (high * 256 + low) ≡ rightBits rank n l
+unfolding rightBits crcRight crcOf
+passed-right rank n l f high low h k e r a b =
+    let plain = deconvolved rank fresh l in
+    let bytes = toBytes n plain in
+    let whole : 8 * n ≤ length plain = omega (arith, length-deconvolved rank fresh l) in
+    let a' : NextByte rank (drop (8 * f .bytes) l) (f .last) high = subst (λ (m : ℕ). NextByte rank (drop (8 * m) l) (f .last) high) (sym e) a in
+    let g = passed-more rank l f r (omega (arith, e)) high a' (run (f .crc) (digits 8 high)) refl in
+    let f' : Prefix = record { bytes = f .bytes + 1; crc = run (f .crc) (digits 8 high); last = high } in
+    let b' : NextByte rank (drop (8 * f' .bytes) l) high low =
+    subst (λ (m : ℕ). NextByte rank (drop m l) high low) (let z : 8 * (n - 2) + 8 ≡ 8 * f' .bytes = omega (arith, e) in z) b in
+    let crc : crcBits (bytesBits (take (n - 2) bytes)) ≡ 65535 - f .crc =
+    crc-is (bytesBits (take (n - 2) bytes))
+    ∙ ap (λ (x : ℕ). 65535 - x) (ap (run 0) (bytes-bits (n - 2) n plain (omega arith) (omega arith) ∙ ap (λ (m : ℕ). take (8 * m) plain) (sym e)) ∙ sym (r .crc)) in
+    let first : byteAt bytes (n - 2) ≡ high =
+    bytes-at n (n - 2) plain (omega arith) ∙ ap (λ (m : ℕ). value (take 8 (drop (8 * m) plain))) (sym e) ∙ sym (byte-is rank l f r (omega (arith, e)) high a') in
+    let second : byteAt bytes (n - 1) ≡ low =
+    bytes-at n (n - 1) plain (omega arith) ∙ ap (λ (m : ℕ). value (take 8 (drop (8 * m) plain))) (let z : n - 1 ≡ f' .bytes = omega (arith, e) in z)
+    ∙ sym (byte-is rank l f' g (omega (arith, e)) low b') in
+    sym (ap₂ _&&_ (le-leb (8 * n) (length l) k) (ap₂ eqb crc (ap₂ (λ (x y : ℕ). x * 256 + y) first second)))
