@@ -5,7 +5,7 @@ use mathlib.Core.List.{List, [], _∷_, _++_, map}
 use Prim.Native.Nat.{ℕ, zero, suc, _+_, _-_, _*_, _/_, _≤_, _<_}
 use native.Mathlib.Omega.{arith}
 use lib.Dec.{eqb}
-use lib.ListN.{length, take, drop, getD, length-drop}
+use lib.ListN.{length, take, drop, set, length-drop}
 use lib.Seq.{take-add, take-take, length-take-le, drop-drop}
 use borrow.Author.Tests.{le-leb}
 use Rattle.coding.specs.Bits.{odd, digits, value, bytesBits}
@@ -13,21 +13,25 @@ use Rattle.coding.specs.Crc.{crcBits, crcOf}
 use Rattle.coding.specs.Register.{run}
 use Rattle.coding.specs.Convolution.{State, fresh, stateOf, stateAfter, deconvolved}
 use Rattle.coding.proofs.Values.{digits-value}
-use Rattle.coding.proofs.Division.{crc-is, run-append}
+use Rattle.coding.proofs.Division.{crc-is, run-lt, run-append}
 use Rattle.coding.proofs.Codes.{length-deconvolved, deconvolve-take}
-use Rattle.frame.specs.Fields.{toBytes, byteAt, crcRight}
+use Rattle.frame.specs.Sizes.{mostBytes}
+use Rattle.frame.specs.Fields.{toBytes, byteAt, padded, crcRight}
 use Rattle.frame.specs.Plain.{NextByte, Passed, rightBits}
 use Rattle.frame.specs.Splices.{spliced, SpliceOk}
 use Rattle.frame.specs.declared.bodies.Prefix.{Prefix}
 use Rattle.frame.specs.declared.splices.Splice.{Splice}
 use Rattle.frame.proofs.SpliceLaws.{take-spliced}
-use Rattle.frame.proofs.PlainLaws.{left-is, state-byte}
+use Rattle.frame.proofs.PlainLaws.{held, held-next, held-all, left-is, state-byte}
 
 -- ---- none, and those before a splice
 
 pub passed-none : (rank : ℕ) (l : List Bool) → Passed rank l (record { bytes = 0; crc = 0; last = 0 })
 unfolding run stateAfter
 passed-none rank l = record { crc = refl; state = refl }
+
+pub passed-small : (rank : ℕ) (l : List Bool) (f : Prefix) → Passed rank l f → f .crc < 65536
+passed-small rank l f r = omega (arith, r .crc, run-lt (take (8 * f .bytes) (deconvolved rank fresh l)) 0 (omega arith))
 
 passed-same : (rank : ℕ) (l m : List Bool) (f : Prefix) → take (8 * f .bytes) l ≡ take (8 * f .bytes) m → Passed rank l f → Passed rank m f
 passed-same rank l m f e r =
@@ -51,7 +55,7 @@ module _ (rank : ℕ) (l : List Bool) (f : Prefix) (r : Passed rank l f) (h : 8 
   abbrev plain : List Bool
   plain = deconvolved rank fresh l
 
-  byte-is : next ≡ value (take 8 (drop n plain))
+  pub byte-is : next ≡ value (take 8 (drop n plain))
   byte-is = g .byte ∙ ap (λ (t : List Bool). value (take 8 t)) (left-is rank l (f .bytes) (f .last) (f .last / 2) (r .state))
 
   byte-bits : digits 8 next ≡ take 8 (drop n plain)
@@ -91,25 +95,43 @@ bytes-bits (suc m) (suc n) l h k =
 -- ---- the CRC is right
 
 -- from the prefix that leaves two bytes, and these
-pub passed-right : (rank n : ℕ) (l : List Bool) (f : Prefix) (high low : ℕ) → 2 ≤ n → 8 * n ≤ length l → f .bytes ≡ n - 2 → Passed rank l f
-    → NextByte rank (drop (8 * (n - 2)) l) (f .last) high → NextByte rank (drop (8 * (n - 2) + 8) l) high low
-    → eqb (65535 - f .crc) (high * 256 + low) ≡ rightBits rank n l
-unfolding rightBits crcRight crcOf
-passed-right rank n l f high low h k e r a b =
-    let plain = deconvolved rank fresh l in
-    let bytes = toBytes n plain in
-    let whole : 8 * n ≤ length plain = omega (arith, length-deconvolved rank fresh l) in
-    let a' : NextByte rank (drop (8 * f .bytes) l) (f .last) high = subst (λ (m : ℕ). NextByte rank (drop (8 * m) l) (f .last) high) (sym e) a in
-    let g = passed-more rank l f r (omega (arith, e)) high a' (run (f .crc) (digits 8 high)) refl in
-    let f' : Prefix = record { bytes = f .bytes + 1; crc = run (f .crc) (digits 8 high); last = high } in
-    let b' : NextByte rank (drop (8 * f' .bytes) l) high low =
-    subst (λ (m : ℕ). NextByte rank (drop m l) high low) (let z : 8 * (n - 2) + 8 ≡ 8 * f' .bytes = omega (arith, e) in z) b in
-    let crc : crcBits (bytesBits (take (n - 2) bytes)) ≡ 65535 - f .crc =
-    crc-is (bytesBits (take (n - 2) bytes))
-    ∙ ap (λ (x : ℕ). 65535 - x) (ap (run 0) (bytes-bits (n - 2) n plain (omega arith) (omega arith) ∙ ap (λ (m : ℕ). take (8 * m) plain) (sym e)) ∙ sym (r .crc)) in
-    let first : byteAt bytes (n - 2) ≡ high =
-    bytes-at n (n - 2) plain (omega arith) ∙ ap (λ (m : ℕ). value (take 8 (drop (8 * m) plain))) (sym e) ∙ sym (byte-is rank l f r (omega (arith, e)) high a') in
-    let second : byteAt bytes (n - 1) ≡ low =
-    bytes-at n (n - 1) plain (omega arith) ∙ ap (λ (m : ℕ). value (take 8 (drop (8 * m) plain))) (let z : n - 1 ≡ f' .bytes = omega (arith, e) in z)
-    ∙ sym (byte-is rank l f' g (omega (arith, e)) low b') in
-    sym (ap₂ _&&_ (le-leb (8 * n) (length l) k) (ap₂ eqb crc (ap₂ (λ (x y : ℕ). x * 256 + y) first second)))
+module _ (rank n : ℕ) (l : List Bool) (f : Prefix) (high low : ℕ) (h : 2 ≤ n) (k : 8 * n ≤ length l) (e : f .bytes ≡ n - 2) (r : Passed rank l f)
+    (a : NextByte rank (drop (8 * (n - 2)) l) (f .last) high) (b : NextByte rank (drop (8 * (n - 2) + 8) l) high low) where
+  abbrev all : List Bool
+  all = deconvolved rank fresh l
+
+  first-next : NextByte rank (drop (8 * f .bytes) l) (f .last) high
+  first-next = subst (λ (m : ℕ). NextByte rank (drop (8 * m) l) (f .last) high) (sym e) a
+
+  pub high-is : high ≡ value (take 8 (drop (8 * (n - 2)) all))
+  high-is = byte-is rank l f r (omega (arith, e)) high first-next ∙ ap (λ (m : ℕ). value (take 8 (drop (8 * m) all))) e
+
+  pub low-is : low ≡ value (take 8 (drop (8 * (n - 2 + 1)) all))
+  low-is =
+      let g : Prefix = record { bytes = f .bytes + 1; crc = run (f .crc) (digits 8 high); last = high } in
+      let p = passed-more rank l f r (omega (arith, e)) high first-next (g .crc) refl in
+      let q : NextByte rank (drop (8 * g .bytes) l) high low =
+      subst (λ (m : ℕ). NextByte rank (drop m l) high low) (let z : 8 * (n - 2) + 8 ≡ 8 * g .bytes = omega (arith, e) in z) b in
+      byte-is rank l g p (omega (arith, e)) low q ∙ ap (λ (m : ℕ). value (take 8 (drop (8 * (m + 1)) all))) e
+
+  pub passed-crc : eqb (65535 - f .crc) (high * 256 + low) ≡ crcRight n (toBytes n all)
+  unfolding crcRight crcOf
+  passed-crc =
+      let bytes = toBytes n all in
+      let whole : 8 * n ≤ length all = omega (arith, length-deconvolved rank fresh l) in
+      let crc : crcBits (bytesBits (take (n - 2) bytes)) ≡ 65535 - f .crc =
+      crc-is (bytesBits (take (n - 2) bytes))
+      ∙ ap (λ (x : ℕ). 65535 - x) (ap (run 0) (bytes-bits (n - 2) n all (omega arith) (omega arith) ∙ ap (λ (m : ℕ). take (8 * m) all) (sym e)) ∙ sym (r .crc)) in
+      let last : byteAt bytes (n - 1) ≡ low =
+      bytes-at n (n - 1) all (omega arith) ∙ ap (λ (m : ℕ). value (take 8 (drop (8 * m) all))) (let z : n - 1 ≡ n - 2 + 1 = omega arith in z) ∙ sym low-is in
+      sym (ap₂ eqb crc (ap₂ (λ (x y : ℕ). x * 256 + y) (bytes-at n (n - 2) all (omega arith) ∙ sym high-is) last))
+
+  -- the bytes in their array, when these two are written
+  pub all-held : n ≤ mostBytes → set (set (held mostBytes (n - 2) all) (n - 2) high) (n - 2 + 1) low ≡ padded mostBytes (toBytes n all)
+  all-held m =
+      ap (λ (t : List ℕ). set t (n - 2 + 1) low) (held-next mostBytes (n - 2) high all (omega arith) high-is)
+      ∙ held-next mostBytes (n - 2 + 1) low all (omega arith) low-is ∙ held-all mostBytes (n - 2 + 1 + 1) n all (omega arith)
+
+  pub passed-right : eqb (65535 - f .crc) (high * 256 + low) ≡ rightBits rank n l
+  unfolding rightBits
+  passed-right = passed-crc ∙ ap (λ (t : Bool). t && crcRight n (toBytes n all)) (sym (le-leb (8 * n) (length l) k))

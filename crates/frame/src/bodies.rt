@@ -74,36 +74,43 @@ fn plain_byte(body: &[u8], rank: u8, s: Splice, from: usize, last: u8) -> u8
     spliced_byte(body, rank, s, from, last)
 }
 
-// The first `n` plain bytes of a body with a splice.
-pub fn plain_bytes(body: &[u8], rank: u8, n: usize, s: Splice) -> [u8; 22]
-    requires { ⌜ (areBits (now body) ≡ true) × SpliceOk s (length (now body)) × (n ≤ mostBytes) × (8 * n + s .skip ≤ length (now body) + s .put) ⌝ }
-    ensures { λ r. ⌜ r ≡ padded mostBytes (toBytes n (deconvolved rank fresh (spliced s (map odd (now (body .entry)))))) ⌝ }
+// The plain bytes of a body, zeros after them, and whether their CRC is right.
+pub struct Plaintext {
+    pub bytes: [u8; 22],
+    pub crc_ok: bool,
+}
+
+// The first `n` plain bytes of a body with a splice, the last two their CRC.
+pub fn plain_bytes(body: &[u8], rank: u8, n: usize, s: Splice) -> Plaintext
+    requires { ⌜ (areBits (now body) ≡ true) × SpliceOk s (length (now body)) × (2 ≤ n) × (n ≤ mostBytes) × (8 * n + s .skip ≤ length (now body) + s .put) ⌝ }
+    ensures { λ r. ⌜ (r .bytes ≡ padded mostBytes (toBytes n (deconvolved rank fresh (spliced s (map odd (now (body .entry)))))))
+        × (r .«crc_ok» ≡ crcRight n (r .bytes)) ⌝ }
 {
+    let end = n - 2;
     let mut bytes = [0u8; 22];
+    let mut crc: u16 = 0;
     let mut last: u8 = 0;
     let mut i: usize = 0;
-    while i < n {
+    while i < end {
         last = plain_byte(body, rank, s, 8 * i, last);
         bytes[i] = last;
+        crc = coding::crc_byte(crc, last);
         i += 1;
     }
-    bytes
+    let high = plain_byte(body, rank, s, 8 * end, last);
+    let low = plain_byte(body, rank, s, 8 * end + 8, high);
+    bytes[end] = high;
+    bytes[end + 1] = low;
+    Plaintext {
+        bytes: bytes,
+        crc_ok: 65535 - crc == wide(high) * 256 + wide(low),
+    }
 }
 
 fn long(x: u8) -> usize
     ensures { λ r. ⌜ (r ≡ x) × (r < 256) ⌝ }
 {
     x as usize
-}
-
-// Whether the last two of `n` bytes are the CRC of those before.
-pub fn crc_right(bytes: [u8; 22], n: usize) -> bool
-    requires { ⌜ (2 ≤ n) × (n ≤ mostBytes) ⌝ }
-    ensures { λ r. ⌜ r ≡ crcRight n bytes ⌝ }
-{
-    let end = n - 2;
-    let crc = wide(bytes[end]) * 256 + wide(bytes[n - 1]);
-    coding::crc16(&bytes[..end]) == crc
 }
 
 // Some bytes from the front of a body: how many, their CRC's register, and the last of them.

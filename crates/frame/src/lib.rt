@@ -13,7 +13,6 @@ ghost use Rattle.frame.specs.Plain.{Passed};
 ghost use Rattle.frame.specs.Splices.{placed, BodyOk};
 use bodies::Prefix;
 use bodies::body_bytes;
-use bodies::crc_right;
 use bodies::frame_from;
 use bodies::further;
 use bodies::plain_bytes;
@@ -116,10 +115,11 @@ fn parse_body(body: &[u8], kind: FrameKind, how: Repair) -> DecodedUplink
     if body.len() + s.put - s.skip < 8 * n {
         return without_frame(Outcome::Nothing);
     }
-    let bytes = plain_bytes(body, kind.rank, n, s);
+    let plain = plain_bytes(body, kind.rank, n, s);
+    let bytes = plain.bytes;
     DecodedUplink {
         outcome: Outcome::Frame,
-        frame: frame_from(bytes, kind, how, crc_right(bytes, n)),
+        frame: frame_from(bytes, kind, how, plain.crc_ok),
     }
 }
 

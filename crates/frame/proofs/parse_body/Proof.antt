@@ -48,13 +48,11 @@ returns c = let t = c .before in
 plain-bytes-requires : tie.Need-plain-bytes-requires
 plain-bytes-requires c κs = search needs
 
-crc-right-requires : tie.Need-crc-right-requires
-crc-right-requires c κs = search needs
-
 frame-from-requires : tie.Need-frame-from-requires
 frame-from-requires c κs = let b = c .before .before .before .before .before .before in
     let e = b .before .before in
-    (e .pre .0 .class, c .crc-right .ensures ∙ ap (λ (n : ℕ). crcRight n (c .before .plain-bytes .result)) (b .body-bytes .ensures .0))
+    let p = c .before .plain-bytes in
+    (e .pre .0 .class, p .ensures .1 ∙ ap (λ (n : ℕ). crcRight n (p .result .bytes)) (b .body-bytes .ensures .0))
 
 returns-2 : tie.Need-returns-2
 returns-2 c = let p = c .before .before in
@@ -66,9 +64,9 @@ returns-2 c = let p = c .before .before in
     let z = s .splice-of in
     let l = spliced (z .result) (map odd (a .body .now)) in
     ap found (c .frame-from .ensures)
-    ∙ parse-long (a .kind) (a .how) (map odd (a .body .now)) l (p .plain-bytes .result) (z .ensures .1)
+    ∙ parse-long (a .kind) (a .how) (map odd (a .body .now)) l (p .plain-bytes .result .bytes) (z .ensures .1)
     (omega (arith, t .if1 .left, b .body-bytes .ensures .0, length-spliced (z .result) (a .body .now) (z .ensures .0)))
-    (p .plain-bytes .ensures ∙ ap (λ (n : ℕ). padded mostBytes (toBytes n (deconvolved (a .kind .rank) fresh l))) (b .body-bytes .ensures .0))
+    (p .plain-bytes .ensures .0 ∙ ap (λ (n : ℕ). padded mostBytes (toBytes n (deconvolved (a .kind .rank) fresh l))) (b .body-bytes .ensures .0))
 
 pub parse-body-spec : {M : Type 1} → statement M
 parse-body-spec =
@@ -82,6 +80,5 @@ parse-body-spec =
     without-frame-requires
     returns
     plain-bytes-requires
-    crc-right-requires
     frame-from-requires
     returns-2)
