@@ -11,9 +11,8 @@ use crate::text::{Input, hex_bytes, hex64};
 pub struct Receiver {
     rate: u32,
     inner: SigfoxReceiver,
-    /// What 01 says of a state that was handed in; one that grew is in order and has no NaN.
-    in_order: bool,
-    nan: bool,
+    /// Whether the samples and the messages of a state that was handed in have what 01 allows; those of one that grew have.
+    fits: bool,
 }
 
 impl Receiver {
@@ -23,8 +22,7 @@ impl Receiver {
         Self {
             rate,
             inner,
-            in_order: true,
-            nan: false,
+            fits: true,
         }
     }
 
@@ -45,17 +43,21 @@ impl Receiver {
 
     pub fn flush(&mut self) -> Result<Vec<ReceiverEvent>, u8> {
         limits::rate(self.rate)?;
-        limits::order(self.in_order)?;
-        limits::number(!self.nan)?;
+        limits::order(self.in_order())?;
+        limits::number(!given::any_nan(&self.inner.pending))?;
         Ok(self.inner.flush())
     }
 
     /// Causes 5 to 9 of a push of n samples.
     fn state_takes(&self, n: usize) -> limits::Checked {
-        limits::order(self.in_order)?;
+        limits::order(self.in_order())?;
         limits::waiting(self.inner.pending.len())?;
         limits::stream(self.inner.base + self.inner.len + n)?;
-        limits::number(!self.nan)
+        limits::number(!given::any_nan(&self.inner.pending))
+    }
+
+    fn in_order(&self) -> bool {
+        self.fits && given::in_order(self.rate, &self.inner)
     }
 
     fn state(&self) -> String {
