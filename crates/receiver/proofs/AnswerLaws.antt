@@ -13,10 +13,9 @@ use borrow.Author.Tests.{leb-true, ltb-false, not-false}
 use Rattle.limits.specs.Limits.{badRate, short, long, badSample, badState, lowestRate, highestRate, eventsSize, scratch64}
 use Rattle.limits.specs.Samples.{rateOk, allDbm}
 use Rattle.demod.specs.Capture.{joined}
-use Rattle.ledger.specs.Ledger.{Ledger, Call, push, pushRaw, flush, byEntry, capacity, scans, ready, dbmOf}
+use Rattle.ledger.specs.Ledger.{Ledger, Call, push, pushRaw, flush, byEntry, capacity, dbmOf}
 use Rattle.ledger.specs.Causes as causes
 use Rattle.ledger.specs.Causes.{Counts, mostStarts, mostWaiting, orderly, tooShort, callCause, cause, callEvents}
-use Rattle.ledger.specs.Demodulation.{demodOf}
 use Rattle.ledger.specs.Records.{withRecords}
 use Rattle.ledger.specs.Room.{openPlaces}
 use Rattle.ledger.proofs.Basics.{and-true, or-false}
@@ -25,10 +24,9 @@ use Rattle.starts.specs.Starts as starts
 use Rattle.waiting.specs.Waiting as waiting
 use Rattle.receiver.specs.State.{ledgerOf, countsOf}
 use Rattle.receiver.specs.Calls.{Memory, lengthsOf, refusalOf, recordsOf, stateAfter, samplesAfter, Free, Answered}
-use Rattle.receiver.specs.Running.{Passes, Scanned, EndsBy, Ended}
+use Rattle.receiver.specs.Running.{Passes, Does}
 use Rattle.receiver.specs.declared.SigfoxReceiver.{SigfoxReceiver}
 use Rattle.receiver.specs.declared.Received.{Received}
-use Rattle.receiver.specs.declared.run.Heard.{Heard}
 use Rattle.receiver.proofs.StateLaws.{numbersOk, numbers-fit, orderly-is}
 
 -- ---- a call that no cause applies to
@@ -139,31 +137,18 @@ module _ (s : SigfoxReceiver) (c : Call) (m : Memory) where
         scratch64 = free-kept (refusalOf s c m) (m .scratch64) k;
       }
 
-  module _ (h : Heard) (r : Received) (t : Memory) (e : refusalOf s c m ≡ 0) where
-    pub answered-yes : (midway : List ℕ) → Scanned s c (m .samples) (m .events) h (t .samples) midway
-        → Ended (h .receiver .rate) c (scans (s .rate) (demodOf (s .rate)) (ledgerOf s (m .samples)) c) (m .events) r (t .events) → Answered s c m t r
-    unfolding callEvents stateAfter Free
-    answered-yes midway d f =
-        let g = rw (d .rate) at f in
-        record {
-          refused = ap (λ (x : Received). x .refused) (g .answer) ∙ sym e;
-          count = rw e (ap (λ (x : Received). x .count) (g .answer));
-          state = rw e (ap (λ (x : Received). x .receiver) (g .answer));
-          samples = rw e (d .samples);
-          events = rw e (g .records);
-          scratch32 = rw e tt;
-          scratch64 = rw e tt;
-        }
-
--- ---- which messages leave
-
-pub ends-push : (xs : List Float) → EndsBy (push xs) false
-unfolding ready
-ends-push xs t = refl
-
-pub ends-flush : EndsBy flush true
-unfolding ready
-ends-flush t = refl
+  pub answered-yes : (r : Received) (t : Memory) → refusalOf s c m ≡ 0 → Does s c (m .samples) (m .events) r (t .samples) (t .events) → Answered s c m t r
+  unfolding callEvents stateAfter Free
+  answered-yes r t e d =
+      record {
+        refused = ap (λ (x : Received). x .refused) (d .ended .answer) ∙ sym e;
+        count = rw e (ap (λ (x : Received). x .count) (d .ended .answer));
+        state = rw e (ap (λ (x : Received). x .receiver) (d .ended .answer));
+        samples = rw e (d .samples);
+        events = rw e (d .ended .records);
+        scratch32 = rw e tt;
+        scratch64 = rw e tt;
+      }
 
 -- ---- the samples of raw bytes
 

@@ -1,5 +1,5 @@
 -- An accepted call from its first sample to its answer: where its scans begin and end, and what its end makes of them. Assumes nothing.
-use mathlib.Core.Bool.{Bool}
+use mathlib.Core.Bool.{Bool, true, false}
 use mathlib.Core.List.{List, [], _∷_, _++_, map}
 use mathlib.Core.Path.{_≡_, _∙_, refl, sym, ap}
 use Prim.Native.Nat.{ℕ, _+_, _≤_}
@@ -11,7 +11,8 @@ use Rattle.demod.specs.Capture.{joined}
 use Rattle.ledger.specs.Ledger.{Ledger, Call, push, flush, byEntry, seconds, ready, chosen, others, now, scans, startCall, closed, messages, events, eventOf, ofFrame}
 use Rattle.ledger.specs.Ledger as ledger
 use Rattle.ledger.specs.Causes as causes
-use Rattle.ledger.specs.Room.{Accepted, scansIf, scanIf}
+use Rattle.ledger.specs.Causes.{mostStarts}
+use Rattle.ledger.specs.Room.{Accepted, openPlaces, scansIf, scanIf}
 use Rattle.ledger.specs.Demodulation.{demodOf}
 use Rattle.ledger.specs.Records.{recordOf, withRecords}
 use Rattle.ledger.specs.declared.Pending.{Pending}
@@ -33,12 +34,19 @@ use Rattle.scan.specs.declared.Scanned as scan
 use Rattle.closing.specs.Written.{Sized, written}
 use Rattle.receiver.specs.State.{ledgerOf, stateOf}
 use Rattle.receiver.specs.Calls.{samplesAfter}
-use Rattle.receiver.specs.Running.{Passes, Under, Scanned, Closable, EndsBy, Ended}
+use Rattle.receiver.specs.Running.{Heard, Passes, Under, Closable, EndsBy, Ended}
 use Rattle.receiver.specs.declared.SigfoxReceiver.{SigfoxReceiver}
-use Rattle.receiver.specs.declared.run.Heard.{Heard}
 use Rattle.receiver.proofs.FillLaws.{FillAt, ledger-end, buffer-end, scan-if-still}
 
 -- ---- a call's scans
+
+-- the scans of the call c on the state s are done
+pub record Scanned (s : SigfoxReceiver) (c : Call) (before : List Float) (old : List ℕ) (h : Heard) (after : List Float) (now : List ℕ) : Type 0 where
+  pub rate : h .receiver .rate ≡ s .rate
+  pub starts : h .receiver .starts .count ≤ mostStarts
+  pub waiting : h .receiver .waiting .count ≤ openPlaces
+  pub under : Under (scans (s .rate) (demodOf (s .rate)) (ledgerOf s before) c) old h now
+  pub samples : after ≡ samplesAfter s c before 0
 
 module _ (s : SigfoxReceiver) (samples : List Float) (old : List ℕ) (scratch : List Float) where
   abbrev rate : ℕ
@@ -165,6 +173,14 @@ module _ (s : SigfoxReceiver) (samples : List Float) (old : List ℕ) (scratch :
 sized : (rs : List (List ℕ)) → AllSized rs → Sized rs
 sized [] a = tt
 sized (r ∷ rs) a = (a .0, sized rs (a .1))
+
+pub ends-push : (xs : List Float) → EndsBy (push xs) false
+unfolding ready
+ends-push xs t = refl
+
+pub ends-flush : EndsBy flush true
+unfolding ready
+ends-flush t = refl
 
 -- the messages that leave
 messages-are : (rate : ℕ) (c : Call) (all : Bool) (l : Ledger byEntry) (t : Float) → EndsBy c all → t ≡ now rate l → messages rate c l ≡ chosen (leaves all t) (l .waiting)

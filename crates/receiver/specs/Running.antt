@@ -19,7 +19,11 @@ use Rattle.receiver.specs.State.{ledgerOf, countsOf, stateOf}
 use Rattle.receiver.specs.Calls.{samplesAfter}
 use Rattle.receiver.specs.declared.SigfoxReceiver.{SigfoxReceiver}
 use Rattle.receiver.specs.declared.Received.{Received}
-use Rattle.receiver.specs.declared.run.Heard.{Heard}
+
+-- the receiver, and how many records are written
+pub record Heard : Type 0 where
+  pub receiver : SigfoxReceiver
+  pub count : ℕ
 
 -- no cause applies to the call c on the state s
 pub record Passes (s : SigfoxReceiver) (c : Call) (samples : List Float) (events : List ℕ) (scratch : List Float) : Type 0 where
@@ -39,14 +43,6 @@ pub record Under (l : Ledger byEntry) (old : List ℕ) (h : Heard) (now : List �
   pub unscanned : h .receiver .unscanned ≡ l .unscanned
   pub midway : Midway l old (h .receiver .starts) (h .receiver .waiting) (h .count) now
 
--- the scans of the call c on the state s are done
-pub record Scanned (s : SigfoxReceiver) (c : Call) (before : List Float) (old : List ℕ) (h : Heard) (after : List Float) (now : List ℕ) : Type 0 where
-  pub rate : h .receiver .rate ≡ s .rate
-  pub starts : h .receiver .starts .count ≤ mostStarts
-  pub waiting : h .receiver .waiting .count ≤ openPlaces
-  pub under : Under (scans (s .rate) (demodOf (s .rate)) (ledgerOf s before) c) old h now
-  pub samples : after ≡ samplesAfter s c before 0
-
 -- what the end of a call asks: the starts and the messages are within their arrays, and the records of those that leave have room
 pub record Closable (h : Heard) (all : Bool) (events : List ℕ) : Type 0 where
   pub starts : h .receiver .starts .count ≤ mostStarts
@@ -62,3 +58,8 @@ EndsBy c all = (t : Float) → ready byEntry c t ≡ leaves all t
 pub record Ended (rate : ℕ) (c : Call) (l : Ledger byEntry) (old : List ℕ) (r : Received) (now : List ℕ) : Type 0 where
   pub answer : r ≡ record { refused = 0; count = length (map recordOf (events rate c l)); receiver = stateOf rate (closed rate c l) }
   pub records : now ≡ withRecords (map recordOf (events rate c l)) old
+
+-- the accepted call c on the state s is done
+pub record Does (s : SigfoxReceiver) (c : Call) (before : List Float) (old : List ℕ) (r : Received) (after : List Float) (now : List ℕ) : Type 0 where
+  pub ended : Ended (s .rate) c (scans (s .rate) (demodOf (s .rate)) (ledgerOf s before) c) old r now
+  pub samples : after ≡ samplesAfter s c before 0

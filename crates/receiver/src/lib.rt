@@ -90,8 +90,7 @@ impl SigfoxReceiver {
                 receiver: self,
             };
         }
-        let heard = run::fillings(self, dbm, samples, events, scratch64);
-        run::finish(heard, false, events)
+        run::hear(self, dbm, samples, events, scratch64)
     }
 
     // Raw samples, -2 times dBm each (receiver.rs `push_raw`).
@@ -123,8 +122,7 @@ impl SigfoxReceiver {
         }
         samples::dbm_of_all(raw, scratch32);
         let n = raw.len();
-        let heard = run::fillings(self, &scratch32[..n], samples, events, scratch64);
-        run::finish(heard, false, events)
+        run::hear(self, &scratch32[..n], samples, events, scratch64)
     }
 
     // What has been heard so far is decoded and every open message written (receiver.rs `flush`).
@@ -153,8 +151,7 @@ impl SigfoxReceiver {
                 receiver: self,
             };
         }
-        let heard = run::last_scan(self, samples, events, scratch64);
-        run::finish(heard, true, events)
+        run::hear_all(self, samples, events, scratch64)
     }
 }
 

@@ -1,18 +1,14 @@
 // An accepted call: its samples come in by fillings, with drops and scans, and at its end the messages that leave are written.
 ghost use mathlib.Core.Path.{_≡_};
 ghost use mathlib.Core.List.{List};
-ghost use Prim.Native.Nat.{ℕ, _+_, _≤_};
-ghost use Rattle.limits.specs.Limits.{lowestRate, highestRate, longestStream};
+ghost use Prim.Native.Nat.{ℕ, _≤_};
+ghost use Rattle.limits.specs.Limits.{highestRate};
 ghost use Rattle.ledger.specs.Ledger.{Ledger, Call, byEntry, push, flush, tail};
-ghost use Rattle.receiver.specs.Running.{Passes, Under, Scanned, Closable, EndsBy, Ended};
+ghost use Rattle.receiver.specs.Running.{Passes, Under, Closable, EndsBy, Ended, Does};
 use crate::Received;
 use crate::SigfoxReceiver;
-
-// A call under way: the receiver, and how many records are written.
-pub struct Heard {
-    pub receiver: SigfoxReceiver,
-    pub count: usize,
-}
+use starts::Starts;
+use waiting::Waiting;
 
 // 0.3 s in samples, rounded: so long ago a burst ended that is taken (TAIL_S).
 fn tail(rate: u32) -> usize
@@ -22,16 +18,51 @@ fn tail(rate: u32) -> usize
     ((3 * rate + 5) / 10) as usize
 }
 
-// A push's samples come in, at a time as many as there is room for (`while off < dbm.len()`); a scan runs where half a second or more is not looked at.
-pub fn fillings(
+// The end of a call, with its receiver in parts and the number of its records: the messages that leave are written, the others kept (`expire`).
+fn finish(
+    rate: u32,
+    held: usize,
+    base: u64,
+    unscanned: usize,
+    remembered: Starts,
+    open: Waiting,
+    count: usize,
+    all: bool,
+    events: &mut [u8],
+) -> Received
+    requires { ⌜ Closable (record { receiver = record { rate = rate; held = held; base = base; unscanned = unscanned; starts = remembered; waiting = «open» }; count = count }) all (now events) ⌝ }
+    ensures { λ r. ⌜ ((c : Call) (l : Ledger byEntry) (old : List ℕ) → EndsBy c all
+        → Under l old (record { receiver = record { rate = rate; held = held; base = base; unscanned = unscanned; starts = remembered; waiting = «open» }; count = count }) (now (events .entry))
+        → Ended rate c l old r (now (events .exit))) ⌝ }
+{
+    let time = scan::seconds(rate, base + (held as u64));
+    let written = closing::write_messages(open, all, time, events, count);
+    let waiting = waiting::keep(open, all, time);
+    let starts = starts::clear(remembered);
+    Received {
+        refused: 0,
+        count: written,
+        receiver: SigfoxReceiver {
+            rate,
+            held,
+            base,
+            unscanned,
+            starts,
+            waiting,
+        },
+    }
+}
+
+// An accepted push: its samples come in, at a time as many as there is room for (`while off < dbm.len()`); a scan runs where half a second or more is not looked at.
+pub fn hear(
     s: SigfoxReceiver,
     dbm: &[f32],
     samples: &mut [f32],
     events: &mut [u8],
     scratch: &mut [f64],
-) -> Heard
+) -> Received
     requires { ⌜ Passes s (push (now dbm)) (now samples) (now events) (now scratch) ⌝ }
-    ensures { λ h. ⌜ Scanned s (push (now (dbm .entry))) (now (samples .entry)) (now (events .entry)) h (now (samples .exit)) (now (events .exit)) ⌝ }
+    ensures { λ r. ⌜ Does s (push (now (dbm .entry))) (now (samples .entry)) (now (events .entry)) r (now (samples .exit)) (now (events .exit)) ⌝ }
 {
     let rate = s.rate;
     let mut held = s.held;
@@ -68,28 +99,28 @@ pub fn fillings(
             unscanned = 0;
         }
     }
-    Heard {
-        receiver: SigfoxReceiver {
-            rate,
-            held,
-            base,
-            unscanned,
-            starts,
-            waiting,
-        },
+    finish(
+        rate,
+        held,
+        base,
+        unscanned,
+        starts,
+        waiting,
         count,
-    }
+        false,
+        events,
+    )
 }
 
-// A flush's scan, which waits for nothing and leaves the count of samples that are not looked at.
-pub fn last_scan(
+// An accepted flush: a scan that waits for nothing and leaves the count of samples not looked at, then every message is written.
+pub fn hear_all(
     s: SigfoxReceiver,
     samples: &[f32],
     events: &mut [u8],
     scratch: &mut [f64],
-) -> Heard
+) -> Received
     requires { ⌜ Passes s flush (now samples) (now events) (now scratch) ⌝ }
-    ensures { λ h. ⌜ Scanned s flush (now (samples .entry)) (now (events .entry)) h (now (samples .entry)) (now (events .exit)) ⌝ }
+    ensures { λ r. ⌜ Does s flush (now (samples .entry)) (now (events .entry)) r (now (samples .entry)) (now (events .exit)) ⌝ }
 {
     let held = s.held;
     let starts = s.starts;
@@ -107,41 +138,15 @@ pub fn last_scan(
     );
     let remembered = t.starts;
     let open = t.waiting;
-    Heard {
-        receiver: SigfoxReceiver {
-            rate: s.rate,
-            held,
-            base: s.base,
-            unscanned: s.unscanned,
-            starts: remembered,
-            waiting: open,
-        },
-        count: t.count,
-    }
-}
-
-// The end of a call: the messages that leave are written, the others kept (`expire`).
-pub fn finish(h: Heard, all: bool, events: &mut [u8]) -> Received
-    requires { ⌜ Closable h all (now events) ⌝ }
-    ensures { λ r. ⌜ ((c : Call) (l : Ledger byEntry) (old : List ℕ) → EndsBy c all → Under l old h (now (events .entry)) → Ended (h .receiver .rate) c l old r (now (events .exit))) ⌝ }
-{
-    let s = h.receiver;
-    let time = scan::seconds(s.rate, s.base + (s.held as u64));
-    let open = s.waiting;
-    let count = closing::write_messages(open, all, time, events, h.count);
-    let waiting = waiting::keep(open, all, time);
-    let remembered = s.starts;
-    let starts = starts::clear(remembered);
-    Received {
-        refused: 0,
-        count,
-        receiver: SigfoxReceiver {
-            rate: s.rate,
-            held: s.held,
-            base: s.base,
-            unscanned: s.unscanned,
-            starts,
-            waiting,
-        },
-    }
+    finish(
+        s.rate,
+        held,
+        s.base,
+        s.unscanned,
+        remembered,
+        open,
+        t.count,
+        true,
+        events,
+    )
 }

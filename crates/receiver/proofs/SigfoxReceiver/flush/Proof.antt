@@ -1,28 +1,23 @@
 -- `receiver::SigfoxReceiver::flush` meets its contract. Assumes nothing.
-use mathlib.Core.Bool.{true}
 use mathlib.Core.Path.{_≡_, _∙_, sym}
 use native.Mathlib.Omega.{arith}
 use lib.ListN.{length}
 use borrow.Author.Needs.{needs}
-use Rattle.ledger.specs.Ledger.{flush, scans}
-use Rattle.ledger.specs.Demodulation.{demodOf}
+use Rattle.ledger.specs.Ledger.{flush}
 use Rattle.message.proofs.SpanLaws.{length-mapped}
-use Rattle.receiver.specs.State.{ledgerOf}
 use Rattle.receiver.specs.Calls.{Memory, refusalOf}
 use Rattle.receiver.specs.Running.{Passes}
-use Rattle.receiver.proofs.RunLaws.{closable}
-use Rattle.receiver.proofs.AnswerLaws.{passes, answered-no, answered-yes, ends-flush}
+use Rattle.receiver.proofs.AnswerLaws.{passes, answered-no, answered-yes}
 use Rattle.receiver.proofs.SigfoxReceiver.flush.Statement.{statement}
 use Rattle.receiver.proofs.SigfoxReceiver.flush.Tie as tie
 use Rattle.receiver.proofs.SigfoxReceiver.flush.Reads as reads
 use Rattle.receiver.proofs.SigfoxReceiver.flush.Lts as lts
 use Rattle.receiver.proofs.flush_cause.Reads as flush-cause-reads
-use Rattle.receiver.proofs.run.last_scan.Reads as last-scan-reads
-use Rattle.receiver.proofs.run.finish.Reads as finish-reads
+use Rattle.receiver.proofs.run.hear_all.Reads as hear-all-reads
 
 -- what is known at the entry
 abbrev Entry : Type 0
-Entry = lts.Start (flush-cause-reads.Asked, flush-cause-reads.Learnt, last-scan-reads.Asked, last-scan-reads.Learnt, finish-reads.Asked, finish-reads.Learnt) reads.Pre reads.Post
+Entry = lts.Start (flush-cause-reads.Asked, flush-cause-reads.Learnt, hear-all-reads.Asked, hear-all-reads.Learnt) reads.Pre reads.Post
 
 abbrev given : Entry → Memory
 given c = record { samples = c .args .samples .now; events = c .args .events .now; scratch32 = c .args .scratch32 .now; scratch64 = c .args .scratch64 .now }
@@ -47,16 +42,8 @@ returns c =
     let s = c .before .before .before .before .before .before .before in
     answered-no (s .args .self) flush (given s) (c .before .flush-cause .result) (c .before .flush-cause .ensures) (c .if1 .taken)
 
-last-scan-requires : tie.Need-last-scan-requires
-last-scan-requires c κs = passing (c .before .before .before .before .before .before .before .before .before .before) (sym (c .before .before .before .before .flush-cause .ensures) ∙ omega (arith, c .before .before .before .if1 .left))
-
-finish-requires : tie.Need-finish-requires
-finish-requires c κs =
-    let s = c .before .before .before .before .before .before .before .before .before .before .before .before .before .before .before .before in
-    let a = s .args in
-    let f = c .before .before .before .before .before .last-scan in
-    closable (a .self) flush (a .samples .now) _ (a .events .now) _ (a .scratch64 .now) (f .result) true
-    (passing s (sym (c .before .before .before .before .before .before .before .before .before .before .flush-cause .ensures) ∙ omega (arith, c .before .before .before .before .before .before .before .before .before .if1 .left))) (f .ensures) ends-flush (f .kept .1 .1 .0)
+hear-all-requires : tie.Need-hear-all-requires
+hear-all-requires c κs = passing (c .before .before .before .before .before .before .before .before .before .before) (sym (c .before .before .before .before .flush-cause .ensures) ∙ omega (arith, c .before .before .before .if1 .left))
 
 same-length-2 : tie.Need-same-length-2
 same-length-2 c = search needs
@@ -69,12 +56,8 @@ same-length-4 c = search needs
 
 returns-2 : tie.Need-returns-2
 returns-2 c =
-    let s = c .before .before .before .before .before .before .before .before .before .before .before .before .before .before .before .before .before .before .before in
-    let a = s .args in
-    let f = c .before .before .before .before .before .before .before .before .last-scan in
-    let e : refusalOf (a .self) flush (given s) ≡ 0 = sym (c .before .before .before .before .before .before .before .before .before .before .before .before .before .flush-cause .ensures) ∙ omega (arith, c .before .before .before .before .before .before .before .before .before .before .before .before .if1 .left) in
-    answered-yes (a .self) flush (given s) (f .result) (c .before .before .finish .result) _ e _ (f .ensures)
-    (c .before .before .finish .ensures flush (scans (a .self .rate) (demodOf (a .self .rate)) (ledgerOf (a .self) (a .samples .now)) flush) (a .events .now) ends-flush (f .ensures .under))
+    let s = c .before .before .before .before .before .before .before .before .before .before .before .before .before .before .before in
+    answered-yes (s .args .self) flush (given s) (c .before .before .before .before .hear-all .result) _ (sym (c .before .before .before .before .before .before .before .before .before .flush-cause .ensures) ∙ omega (arith, c .before .before .before .before .before .before .before .before .if1 .left)) (c .before .before .before .before .hear-all .ensures)
 
 pub flush-spec : {M : Type 1} → statement M
 flush-spec =
@@ -83,8 +66,7 @@ flush-spec =
     flush-cause-requires
     same-length
     returns
-    last-scan-requires
-    finish-requires
+    hear-all-requires
     same-length-2
     same-length-3
     same-length-4

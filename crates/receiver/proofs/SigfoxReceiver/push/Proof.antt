@@ -1,28 +1,23 @@
 -- `receiver::SigfoxReceiver::push` meets its contract. Assumes nothing.
-use mathlib.Core.Bool.{false}
 use mathlib.Core.Path.{_≡_, _∙_, sym}
 use native.Mathlib.Omega.{arith}
 use lib.ListN.{length}
 use borrow.Author.Needs.{needs}
-use Rattle.ledger.specs.Ledger.{push, scans}
-use Rattle.ledger.specs.Demodulation.{demodOf}
+use Rattle.ledger.specs.Ledger.{push}
 use Rattle.message.proofs.SpanLaws.{length-mapped}
-use Rattle.receiver.specs.State.{ledgerOf}
 use Rattle.receiver.specs.Calls.{Memory, refusalOf}
 use Rattle.receiver.specs.Running.{Passes}
-use Rattle.receiver.proofs.RunLaws.{closable}
-use Rattle.receiver.proofs.AnswerLaws.{passes, answered-no, answered-yes, ends-push}
+use Rattle.receiver.proofs.AnswerLaws.{passes, answered-no, answered-yes}
 use Rattle.receiver.proofs.SigfoxReceiver.push.Statement.{statement}
 use Rattle.receiver.proofs.SigfoxReceiver.push.Tie as tie
 use Rattle.receiver.proofs.SigfoxReceiver.push.Reads as reads
 use Rattle.receiver.proofs.SigfoxReceiver.push.Lts as lts
 use Rattle.receiver.proofs.push_cause.Reads as push-cause-reads
-use Rattle.receiver.proofs.run.fillings.Reads as fillings-reads
-use Rattle.receiver.proofs.run.finish.Reads as finish-reads
+use Rattle.receiver.proofs.run.hear.Reads as hear-reads
 
 -- what is known at the entry
 abbrev Entry : Type 0
-Entry = lts.Start (push-cause-reads.Asked, push-cause-reads.Learnt, fillings-reads.Asked, fillings-reads.Learnt, finish-reads.Asked, finish-reads.Learnt) reads.Pre reads.Post
+Entry = lts.Start (push-cause-reads.Asked, push-cause-reads.Learnt, hear-reads.Asked, hear-reads.Learnt) reads.Pre reads.Post
 
 abbrev given : Entry → Memory
 given c = record { samples = c .args .samples .now; events = c .args .events .now; scratch32 = c .args .scratch32 .now; scratch64 = c .args .scratch64 .now }
@@ -47,17 +42,8 @@ returns c =
     let s = c .before .before .before .before .before .before .before .before in
     answered-no (s .args .self) (push (s .args .dbm .now)) (given s) (c .before .push-cause .result) (c .before .push-cause .ensures) (c .if1 .taken)
 
-fillings-requires : tie.Need-fillings-requires
-fillings-requires c κs =
-    passing (c .before .before .before .before .before .before .before .before .before .before .before) (sym (c .before .before .before .before .push-cause .ensures) ∙ omega (arith, c .before .before .before .if1 .left))
-
-finish-requires : tie.Need-finish-requires
-finish-requires c κs =
-    let s = c .before .before .before .before .before .before .before .before .before .before .before .before .before .before .before .before .before .before .before in
-    let a = s .args in
-    let f = c .before .before .before .before .before .before .before .fillings in
-    closable (a .self) (push (a .dbm .now)) (a .samples .now) _ (a .events .now) _ (a .scratch64 .now) (f .result) false
-    (passing s (sym (c .before .before .before .before .before .before .before .before .before .before .before .before .push-cause .ensures) ∙ omega (arith, c .before .before .before .before .before .before .before .before .before .before .before .if1 .left))) (f .ensures) (ends-push (a .dbm .now)) (f .kept .1 .1 .1 .0)
+hear-requires : tie.Need-hear-requires
+hear-requires c κs = passing (c .before .before .before .before .before .before .before .before .before .before .before) (sym (c .before .before .before .before .push-cause .ensures) ∙ omega (arith, c .before .before .before .if1 .left))
 
 same-length-2 : tie.Need-same-length-2
 same-length-2 c = search needs
@@ -70,12 +56,8 @@ same-length-4 c = search needs
 
 returns-2 : tie.Need-returns-2
 returns-2 c =
-    let s = c .before .before .before .before .before .before .before .before .before .before .before .before .before .before .before .before .before .before .before .before .before .before in
-    let a = s .args in
-    let f = c .before .before .before .before .before .before .before .before .before .before .fillings in
-    let e : refusalOf (a .self) (push (a .dbm .now)) (given s) ≡ 0 = sym (c .before .before .before .before .before .before .before .before .before .before .before .before .before .before .before .push-cause .ensures) ∙ omega (arith, c .before .before .before .before .before .before .before .before .before .before .before .before .before .before .if1 .left) in
-    answered-yes (a .self) (push (a .dbm .now)) (given s) (f .result) (c .before .before .finish .result) _ e _ (f .ensures)
-    (c .before .before .finish .ensures (push (a .dbm .now)) (scans (a .self .rate) (demodOf (a .self .rate)) (ledgerOf (a .self) (a .samples .now)) (push (a .dbm .now))) (a .events .now) (ends-push (a .dbm .now)) (f .ensures .under))
+    let s = c .before .before .before .before .before .before .before .before .before .before .before .before .before .before .before .before .before .before in
+    answered-yes (s .args .self) (push (s .args .dbm .now)) (given s) (c .before .before .before .before .before .before .hear .result) _ (sym (c .before .before .before .before .before .before .before .before .before .before .before .push-cause .ensures) ∙ omega (arith, c .before .before .before .before .before .before .before .before .before .before .if1 .left)) (c .before .before .before .before .before .before .hear .ensures)
 
 pub push-spec : {M : Type 1} → statement M
 push-spec =
@@ -84,8 +66,7 @@ push-spec =
     push-cause-requires
     same-length
     returns
-    fillings-requires
-    finish-requires
+    hear-requires
     same-length-2
     same-length-3
     same-length-4

@@ -1,31 +1,25 @@
 -- `receiver::SigfoxReceiver::push_raw` meets its contract. Assumes nothing.
-use mathlib.Core.Bool.{false}
 use mathlib.Core.Path.{_≡_, _∙_, sym}
 use Prim.Native.Nat.{_≤_}
 use native.Mathlib.Omega.{arith}
-use mathlib.Core.List.{map}
 use lib.ListN.{length, length-map}
 use borrow.Author.Needs.{needs}
-use Rattle.ledger.specs.Ledger.{pushRaw, scans, dbmOf}
-use Rattle.ledger.specs.Demodulation.{demodOf}
+use Rattle.ledger.specs.Ledger.{pushRaw, dbmOf}
 use Rattle.message.proofs.SpanLaws.{length-mapped}
-use Rattle.receiver.specs.State.{ledgerOf}
 use Rattle.receiver.specs.Calls.{Memory, refusalOf}
 use Rattle.receiver.specs.Running.{Passes}
-use Rattle.receiver.proofs.RunLaws.{closable}
-use Rattle.receiver.proofs.AnswerLaws.{passes, answered-no, answered-yes, ends-push, scratch-long, raw-taken, raw-fits}
+use Rattle.receiver.proofs.AnswerLaws.{passes, scratch-long, answered-no, answered-yes, raw-taken, raw-fits}
 use Rattle.receiver.proofs.SigfoxReceiver.push_raw.Statement.{statement}
 use Rattle.receiver.proofs.SigfoxReceiver.push_raw.Tie as tie
 use Rattle.receiver.proofs.SigfoxReceiver.push_raw.Reads as reads
 use Rattle.receiver.proofs.SigfoxReceiver.push_raw.Lts as lts
 use Rattle.receiver.proofs.push_raw_cause.Reads as push-raw-cause-reads
-use Rattle.receiver.proofs.run.fillings.Reads as fillings-reads
-use Rattle.receiver.proofs.run.finish.Reads as finish-reads
+use Rattle.receiver.proofs.run.hear.Reads as hear-reads
 use Rattle.samples.proofs.dbm_of_all.Reads as dbm-of-all-reads
 
 -- what is known at the entry
 abbrev Entry : Type 0
-Entry = lts.Start (push-raw-cause-reads.Asked, push-raw-cause-reads.Learnt, dbm-of-all-reads.Asked, dbm-of-all-reads.Learnt, fillings-reads.Asked, fillings-reads.Learnt, finish-reads.Asked, finish-reads.Learnt) reads.Pre reads.Post
+Entry = lts.Start (push-raw-cause-reads.Asked, push-raw-cause-reads.Learnt, dbm-of-all-reads.Asked, dbm-of-all-reads.Learnt, hear-reads.Asked, hear-reads.Learnt) reads.Pre reads.Post
 
 abbrev given : Entry → Memory
 given c = record { samples = c .args .samples .now; events = c .args .events .now; scratch32 = c .args .scratch32 .now; scratch64 = c .args .scratch64 .now }
@@ -61,31 +55,22 @@ narrow c e =
 dbm-of-all-requires : tie.Need-dbm-of-all-requires
 dbm-of-all-requires c κs = narrow (c .before .before .before .before .before .before .before .before .before) (sym (c .before .before .push-raw-cause .ensures) ∙ omega (arith, c .before .if1 .left))
 
-slice-reshare-prefix-fillings : tie.Need-slice-reshare-prefix-fillings
-slice-reshare-prefix-fillings c =
+slice-reshare-prefix-hear : tie.Need-slice-reshare-prefix-hear
+slice-reshare-prefix-hear c =
     let h = narrow (c .before .before .before .before .before .before .before .before .before .before .before .before) (sym (c .before .before .before .before .before .push-raw-cause .ensures) ∙ omega (arith, c .before .before .before .before .if1 .left)) in
     omega (arith, h, c .before .before .dbm-of-all .kept .1 .0)
 
-slice-aggregate-fillings : tie.Need-slice-aggregate-fillings
-slice-aggregate-fillings c =
+slice-aggregate-hear : tie.Need-slice-aggregate-hear
+slice-aggregate-hear c =
     let a = c .before .before .before .before .before .before .before .before .before .before .before .before .before .args in
     rw (raw-taken (a .raw .now) (a .scratch32 .now) (c .before .before .before .dbm-of-all .last .1 .0) (c .before .before .before .dbm-of-all .ensures)) (sym (length-map (a .raw .now) dbmOf))
 
-fillings-requires : tie.Need-fillings-requires
-fillings-requires c κs =
+hear-requires : tie.Need-hear-requires
+hear-requires c κs =
     let s = c .before .before .before .before .before .before .before .before .before .before .before .before .before .before .before .before in
     let a = s .args in
     rw (raw-taken (a .raw .now) (a .scratch32 .now) (c .before .before .before .before .before .before .dbm-of-all .last .1 .0) (c .before .before .before .before .before .before .dbm-of-all .ensures))
     (passing s (sym (c .before .before .before .before .before .before .before .before .before .push-raw-cause .ensures) ∙ omega (arith, c .before .before .before .before .before .before .before .before .if1 .left)))
-
-finish-requires : tie.Need-finish-requires
-finish-requires c κs =
-    let s = c .before .before .before .before .before .before .before .before .before .before .before .before .before .before .before .before .before .before .before .before .before .before .before .before in
-    let a = s .args in
-    let f = c .before .before .before .before .before .before .before .fillings in
-    let t = raw-taken (a .raw .now) (a .scratch32 .now) (c .before .before .before .before .before .before .before .before .before .before .before .before .before .before .dbm-of-all .last .1 .0) (c .before .before .before .before .before .before .before .before .before .before .before .before .before .before .dbm-of-all .ensures) in
-    closable (a .self) (pushRaw (a .raw .now)) (a .samples .now) _ (a .events .now) _ (a .scratch64 .now) (f .result) false
-    (passing s (sym (c .before .before .before .before .before .before .before .before .before .before .before .before .before .before .before .before .before .push-raw-cause .ensures) ∙ omega (arith, c .before .before .before .before .before .before .before .before .before .before .before .before .before .before .before .before .if1 .left))) (rw t at (f .ensures)) (ends-push (map dbmOf (a .raw .now))) (f .kept .1 .1 .1 .0)
 
 same-length-2 : tie.Need-same-length-2
 same-length-2 c = search needs
@@ -101,14 +86,10 @@ same-length-5 c = search needs
 
 returns-2 : tie.Need-returns-2
 returns-2 c =
-    let s = c .before .before .before .before .before .before .before .before .before .before .before .before .before .before .before .before .before .before .before .before .before .before .before .before .before .before .before in
+    let s = c .before .before .before .before .before .before .before .before .before .before .before .before .before .before .before .before .before .before .before .before .before .before .before in
     let a = s .args in
-    let f = c .before .before .before .before .before .before .before .before .before .before .fillings in
-    let t = raw-taken (a .raw .now) (a .scratch32 .now) (c .before .before .before .before .before .before .before .before .before .before .before .before .before .before .before .before .before .dbm-of-all .last .1 .0) (c .before .before .before .before .before .before .before .before .before .before .before .before .before .before .before .before .before .dbm-of-all .ensures) in
-    let d = rw t at (f .ensures) in
-    let e : refusalOf (a .self) (pushRaw (a .raw .now)) (given s) ≡ 0 = sym (c .before .before .before .before .before .before .before .before .before .before .before .before .before .before .before .before .before .before .before .before .push-raw-cause .ensures) ∙ omega (arith, c .before .before .before .before .before .before .before .before .before .before .before .before .before .before .before .before .before .before .before .if1 .left) in
-    answered-yes (a .self) (pushRaw (a .raw .now)) (given s) (f .result) (c .before .before .finish .result) _ e _ d
-    (c .before .before .finish .ensures (pushRaw (a .raw .now)) (scans (a .self .rate) (demodOf (a .self .rate)) (ledgerOf (a .self) (a .samples .now)) (pushRaw (a .raw .now))) (a .events .now) (ends-push (map dbmOf (a .raw .now))) (d .under))
+    let t = raw-taken (a .raw .now) (a .scratch32 .now) (c .before .before .before .before .before .before .before .before .before .before .before .before .before .dbm-of-all .last .1 .0) (c .before .before .before .before .before .before .before .before .before .before .before .before .before .dbm-of-all .ensures) in
+    answered-yes (a .self) (pushRaw (a .raw .now)) (given s) (c .before .before .before .before .before .before .hear .result) _ (sym (c .before .before .before .before .before .before .before .before .before .before .before .before .before .before .before .before .push-raw-cause .ensures) ∙ omega (arith, c .before .before .before .before .before .before .before .before .before .before .before .before .before .before .before .if1 .left)) (rw t at (c .before .before .before .before .before .before .hear .ensures))
 
 pub push-raw-spec : {M : Type 1} → statement M
 push-raw-spec =
@@ -118,10 +99,9 @@ push-raw-spec =
     same-length
     returns
     dbm-of-all-requires
-    slice-reshare-prefix-fillings
-    slice-aggregate-fillings
-    fillings-requires
-    finish-requires
+    slice-reshare-prefix-hear
+    slice-aggregate-hear
+    hear-requires
     same-length-2
     same-length-3
     same-length-4

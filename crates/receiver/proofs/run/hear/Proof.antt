@@ -1,20 +1,23 @@
--- `receiver::run::fillings` meets its contract. The invariant: what the code has stands for a ledger from which the fillings left go to the same end. Assumes nothing.
+-- `receiver::run::hear` meets its contract. The invariant: what the code has stands for a ledger from which the fillings left go to the same end. Assumes nothing.
+use mathlib.Core.Bool.{false}
 use mathlib.Core.Path.{_≡_, _∙_, refl, sym}
 use Prim.Native.Nat.{_+_, _-_, _*_, _≤_, _<_}
 use native.Mathlib.Omega.{arith}
 use lib.ListN.{length}
 use lib.Seq.{length-take-le}
+use Rattle.ledger.specs.Ledger.{push}
 use Rattle.receiver.specs.declared.SigfoxReceiver.{SigfoxReceiver}
 use Rattle.receiver.proofs.FillLaws.{FillAt, FilledAt, left-le, fill-asks, fill-bounds, fill-turn, fill-still, fill-scanned, scan-asks}
-use Rattle.receiver.proofs.RunLaws.{allIn, lastBuffer, fill-start, fill-end}
-use Rattle.receiver.proofs.run.fillings.Statement.{statement}
-use Rattle.receiver.proofs.run.fillings.Tie as tie
-use Rattle.receiver.proofs.run.fillings.Reads as reads
-use Rattle.receiver.proofs.run.fillings.Lts as lts
+use Rattle.receiver.proofs.RunLaws.{Scanned, allIn, lastBuffer, fill-start, fill-end, closable, ends-push}
+use Rattle.receiver.proofs.run.hear.Statement.{statement}
+use Rattle.receiver.proofs.run.hear.Tie as tie
+use Rattle.receiver.proofs.run.hear.Reads as reads
+use Rattle.receiver.proofs.run.hear.Lts as lts
 use Rattle.receiver.proofs.run.tail.Reads as tail-reads
 use Rattle.samples.proofs.fill.Reads as fill-reads
 use Rattle.samples.proofs.halve.Reads as halve-reads
 use Rattle.scan.proofs.scan.Reads as scan-reads
+use Rattle.receiver.proofs.run.finish.Reads as finish-reads
 
 abbrev Inv-loop : tie.InvT-loop
 Inv-loop dbm samples₀ events₀ scratch₀ rate held₀ base₀ unscanned₀ starts₀ waiting₀ count₀ from₀ samples events scratch held base unscanned starts waiting count from =
@@ -27,7 +30,7 @@ abbrev μ-loop : tie.MeasureT-loop
 
 -- after a filling's samples are in
 abbrev Filled : Type 0
-Filled = lts.After-slice-known5 (halve-reads.Asked, halve-reads.Learnt, fill-reads.Asked, fill-reads.Learnt, tail-reads.Asked, tail-reads.Learnt, scan-reads.Asked, scan-reads.Learnt) reads.Pre reads.Post Inv-loop μ-loop
+Filled = lts.After-slice-known5 (halve-reads.Asked, halve-reads.Learnt, fill-reads.Asked, fill-reads.Learnt, tail-reads.Asked, tail-reads.Learnt, scan-reads.Asked, scan-reads.Learnt, finish-reads.Asked, finish-reads.Learnt) reads.Pre reads.Post Inv-loop μ-loop
 
 -- how far it went
 bounds : (c : Filled) → (1 ≤ c .before .before .fill .result) × (c .before .before .before .before .before .before .halve .result + c .before .before .fill .result ≤ 12 * c .before .before .before .before .before .before .before .before .before .before .before .before .before .before .before .before .args .s .rate)
@@ -119,24 +122,41 @@ loop-again-2 c =
     let l = c .before .before .before .before .before .before .before .before .before .before .loop in
     (sized (c .before), l .inv .1, l .inv .2, fill-still _ _ _ _ _ _ _ _ _ _ _ _ _ _ (filled (c .before)) (omega (arith, c .if1 .left)))
 
-same-length : tie.Need-same-length Inv-loop μ-loop
-same-length c = c .before .loop .inv .0
-
-same-length-2 : tie.Need-same-length-2 Inv-loop μ-loop
-same-length-2 c = c .before .loop .inv .1
-
-same-length-3 : tie.Need-same-length-3 Inv-loop μ-loop
-same-length-3 c = c .before .loop .inv .2
-
-returns : tie.Need-returns Inv-loop μ-loop
-returns c =
+-- what the scans left
+done : (c : lts.After-loop (halve-reads.Asked, halve-reads.Learnt, fill-reads.Asked, fill-reads.Learnt, tail-reads.Asked, tail-reads.Learnt, scan-reads.Asked, scan-reads.Learnt, finish-reads.Asked, finish-reads.Learnt) reads.Pre reads.Post Inv-loop μ-loop) → Scanned (c .before .before .before .before .before .before .before .before .args .s) (push (c .before .before .before .before .before .before .before .before .args .dbm .now)) (c .before .before .before .before .before .before .before .before .args .samples .now) (c .before .before .before .before .before .before .before .before .args .events .now)
+    (record { receiver = record { rate = c .before .before .before .before .before .before .before .before .args .s .rate; held = c .before .loop .held; base = c .before .loop .base; unscanned = c .before .loop .unscanned; starts = c .before .loop .starts; waiting = c .before .loop .waiting }; count = c .before .loop .count }) (c .before .loop .samples) (c .before .loop .events)
+done c =
     let s = c .before .before .before .before .before .before .before .before in
     let a = s .args in
     let l = c .before .loop in
     fill-end (a .s) (a .samples .now) (a .events .now) (a .scratch .now) (a .dbm .now) (l .samples) (l .events) (l .held) (l .base) (l .unscanned) (l .starts) (l .waiting) (l .count) (l .from) (l .inv .3) (omega (arith, c .loop-test .left))
 
-pub fillings-spec : {M : Type 1} → statement M
-fillings-spec =
+finish-requires : tie.Need-finish-requires Inv-loop μ-loop
+finish-requires c κs =
+    let s = c .before .before .before .before .before .before .before .before .before in
+    let a = s .args in
+    closable (a .s) (push (a .dbm .now)) (a .samples .now) _ (a .events .now) _ (a .scratch .now) _ false (s .pre) (done (c .before)) (ends-push (a .dbm .now)) (c .before .before .loop .inv .1)
+
+same-length : tie.Need-same-length Inv-loop μ-loop
+same-length c = c .before .before .before .before .before .loop .inv .0
+
+same-length-2 : tie.Need-same-length-2 Inv-loop μ-loop
+same-length-2 c = c .before .before .finish .kept .1 .1 .1 .1 .1 .1 .1 .1 .0 ∙ c .before .before .before .before .before .loop .inv .1
+
+same-length-3 : tie.Need-same-length-3 Inv-loop μ-loop
+same-length-3 c = c .before .before .before .before .before .loop .inv .2
+
+returns : tie.Need-returns Inv-loop μ-loop
+returns c =
+    let a = c .before .before .before .before .before .before .before .before .before .before .before .before .args in
+    let d = done (c .before .before .before .before) in
+    record {
+      ended = c .before .before .finish .ensures (push (a .dbm .now)) (allIn (a .s) (a .samples .now) (a .events .now) (a .scratch .now) (a .dbm .now)) (a .events .now) (ends-push (a .dbm .now)) (d .under);
+      samples = d .samples;
+    }
+
+pub hear-spec : {M : Type 1} → statement M
+hear-spec =
     tie.close
     (tie.spec
     Inv-loop
@@ -159,6 +179,7 @@ fillings-spec =
     loop-again
     loop-less-2
     loop-again-2
+    finish-requires
     same-length
     same-length-2
     same-length-3
