@@ -1,6 +1,6 @@
 -- What the order rules tell, once they are passed. Assumes nothing.
-use mathlib.Core.Path.{_≡_}
-use mathlib.Core.Bool.{true, _&&_}
+use mathlib.Core.Path.{_≡_, refl}
+use mathlib.Core.Bool.{Bool, true, false, _&&_}
 use mathlib.Core.List.{List}
 use Prim.Native.Nat.{ℕ, _+_, _^_, _≤_, _<_}
 use native.Mathlib.Omega.{arith}
@@ -164,3 +164,16 @@ held-tunings s l o = record {
   freqs = o .t .places .freqs;
   small = λ i h. let b = up-to-at (s .signal .n) (l .tuned) (s .tunings) (o .t .places .tuneds) (o .t .indices) i h in let m = o .t .signals .stream in omega arith;
 }
+
+-- the order of the tunings, with room for the readings, is the whole where a look has settled the readings' indices
+pub both-ordered : (t : FrequencyTracker) (at lo : List ℕ) (hz : List Float) (tuned freq : List ℕ) (a b : Bool) → a ≡ tuningsInOrder t tuned freq → b ≡ fitsReadings (t .readings) at lo hz
+    → upTo (t .signal .n + ahead) (take (t .readings) at) ≡ true → (a && b) ≡ (tuningsInOrder t tuned freq && readingsInOrder t at lo hz)
+unfolding tuningsInOrder readingsInOrder
+both-ordered t at lo hz tuned freq a b e f u =
+    rw (e, f, u) (go (signalOk (t .«line_start») (t .signal)) (fitsTunings (t .tunings) tuned freq && upTo (t .signal .n) (take (t .tunings) tuned)) (fitsReadings (t .readings) at lo hz))
+  where
+    go : (s x y : Bool) → ((s && x) && y) ≡ ((s && x) && (s && (y && true)))
+    go false x y = refl
+    go true false y = refl
+    go true true false = refl
+    go true true true = refl

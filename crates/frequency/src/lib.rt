@@ -1,10 +1,14 @@
 // The frequency tracker: frequency.rs, by value, with its lists lent.
 ghost use mathlib.Core.Path.{_≡_};
-ghost use Prim.Native.Nat.{_≤_};
-ghost use lib.ListN.{length};
+ghost use mathlib.Core.Bool.{true};
+ghost use Prim.Native.Nat.{_+_, _≤_};
+ghost use lib.ListN.{length, take};
+ghost use Rattle.signal.specs.Seconds.{oldestOf};
+ghost use Rattle.lists.specs.Lists.{upTo};
+ghost use Rattle.retain.specs.Retain.{Looked};
 ghost use Rattle.tuning.specs.Steps.{settledBy};
 ghost use Rattle.frequency.specs.Lent.{lists};
-ghost use Rattle.frequency.specs.Order.{tuningsInOrder, readingsInOrder, inOrder, floatsOk, numbersOk, causeNew, causeFreq, causeTuned, causeSamples, causeCfo, causeNext, causeFrame};
+ghost use Rattle.frequency.specs.Order.{ahead, tuningsInOrder, readingsInOrder, inOrder, floatsOk, numbersOk, causeNew, causeFreq, causeTuned, causeSamples, causeCfo, causeNext, causeFrame};
 ghost use Rattle.frequency.specs.Calls.{SamplesEnd, CfoEnd, TunedEnd, NextEnd, FrameEnd, Frame1End, freqAnswer, asFrame, asFirst, fresh};
 ghost use Rattle.frequency.specs.Waiting.{Settling, settledOf, stepBy};
 
@@ -117,6 +121,46 @@ fn in_order(
     a & b
 }
 
+// The same where a look may have settled the readings' indices.
+fn in_order_looked(
+    t: FrequencyTracker,
+    settled: bool,
+    at: &[u64],
+    lo: &[u32],
+    hz: &[f64],
+    tuned: &[u64],
+    freq: &[u32],
+) -> bool
+    requires { ⌜ (settled ≡ true → upTo (t .signal .n + ahead) (take (t .readings) (now at)) ≡ true) ⌝ }
+    ensures { λ r. ⌜ r ≡ inOrder t (lists (now (at .entry)) (now (lo .entry)) (now (hz .entry)) (now (tuned .entry)) (now (freq .entry))) ⌝ }
+{
+    if settled {
+        let a = tunings_in_order(t, tuned, freq);
+        return a & lists::fits_readings(t.readings, at, lo, hz);
+    }
+    in_order(t, at, lo, hz, tuned, freq)
+}
+
+// A look at the readings before a line of `more` samples: one pass for their order and for what the line makes go.
+fn first_look(t: FrequencyTracker, more: usize, at: &[u64]) -> retain::Look
+    ensures { λ r. ⌜ (r .settled ≡ true → Looked (oldestOf (t .rate) (t .signal .n + more)) (t .signal .n + ahead) (t .readings) (r .lead) (now (at .entry))) ⌝ }
+{
+    let signal = t.signal;
+    let n = signal.n;
+    let none = retain::Look {
+        settled: false,
+        lead: 0,
+    };
+    if n > limits::LONGEST_STREAM {
+        return none;
+    }
+    if more > limits::MOST_SAMPLES {
+        return none;
+    }
+    let low = signal::oldest(t.rate, n + (more as u64));
+    retain::look_at(low, n + AHEAD, t.readings, at)
+}
+
 // The number of the cause for which `freq` is refused, or 0.
 fn cause_freq(t: FrequencyTracker, tuned: &[u64], freq: &[u32]) -> u8
     ensures { λ r. ⌜ r ≡ causeFreq t (now (tuned .entry)) (now (freq .entry)) ⌝ }
@@ -156,6 +200,7 @@ fn cause_tuned(t: FrequencyTracker, hz: u32, tuned: &[u64], freq: &[u32]) -> u8
 // The same of `samples`.
 fn cause_samples(
     t: FrequencyTracker,
+    settled: bool,
     dbm: &[f32],
     at: &[u64],
     lo: &[u32],
@@ -163,6 +208,7 @@ fn cause_samples(
     tuned: &[u64],
     freq: &[u32],
 ) -> u8
+    requires { ⌜ (settled ≡ true → upTo (t .signal .n + ahead) (take (t .readings) (now at)) ≡ true) ⌝ }
     ensures { λ r. ⌜ r ≡ causeSamples t (lists (now (at .entry)) (now (lo .entry)) (now (hz .entry)) (now (tuned .entry)) (now (freq .entry))) (now (dbm .entry)) ⌝ }
 {
     if !limits::rate_ok(t.rate) {
@@ -174,7 +220,7 @@ fn cause_samples(
     if !limits::all_dbm(dbm) {
         return limits::BAD_SAMPLE;
     }
-    if !in_order(t, at, lo, hz, tuned, freq) {
+    if !in_order_looked(t, settled, at, lo, hz, tuned, freq) {
         return limits::BAD_STATE;
     }
     let signal = t.signal;
@@ -398,7 +444,8 @@ impl FrequencyTracker {
         ensures { λ r. ⌜ SamplesEnd self (now (dbm .entry)) (lists (now (at .entry)) (now (lo .entry)) (now (hz .entry)) (now (tuned .entry)) (now (freq .entry)))
             (r .refused) (r .tracker) (lists (now (at .exit)) (now (lo .exit)) (now (hz .exit)) (now (tuned .exit)) (now (freq .exit))) ⌝ }
     {
-        let cause = cause_samples(self, dbm, at, lo, hz, tuned, freq);
+        let look = first_look(self, dbm.len(), at);
+        let cause = cause_samples(self, look.settled, dbm, at, lo, hz, tuned, freq);
         if cause != 0 {
             return Tracked {
                 refused: cause,
@@ -408,7 +455,7 @@ impl FrequencyTracker {
         let before = self.signal;
         let after = signal::hear_all(self.rate, before, dbm);
         let n = after.n;
-        let kept = retain::retain_readings(self.rate, n, self.readings, at, lo, hz);
+        let kept = retain::retain_looked(look, self.rate, n, self.readings, at, lo, hz);
         let left = retain::retain_tunings(self.rate, n, self.tunings, tuned, freq);
         let requested = self.requested;
         Tracked {

@@ -44,15 +44,16 @@ unfolding every
 every-all p [] d f = refl
 every-all p (x ∷ l) d f = rw (f 0 (omega arith)) (every-all p l d (λ i h. f (suc i) (omega arith)))
 
--- differences that all lie within limit - low
-pub reached : (at : List ℕ) (count low r limit : ℕ) → count ≤ length at → low ≤ limit → r ≤ limit - low → ((i : ℕ) → 0 ≤ i → i < count → Reaches low r (getD at i 0)) → upTo limit (take count at) ≡ true
-reached at count low r limit h L R f =
+pub up-to-all : (limit : ℕ) (at : List ℕ) (count : ℕ) → count ≤ length at → ((i : ℕ) → i < count → getD at i 0 ≤ limit) → upTo limit (take count at) ≡ true
+up-to-all limit at count h f =
     every-all (λ (a : ℕ). leb a limit) (take count at) 0 (λ i k. small i (subst (λ (z : ℕ). i < z) (length-take-le count at h) k))
   where
     small : (i : ℕ) → i < count → leb (getD (take count at) i 0) limit ≡ true
-    small i k =
-        let z = f i (omega arith) k .0 in
-        subst (λ (a : ℕ). leb a limit ≡ true) (sym (getD-take count at i 0 k)) (le-leb (getD at i 0) limit (omega arith))
+    small i k = subst (λ (a : ℕ). leb a limit ≡ true) (sym (getD-take count at i 0 k)) (le-leb (getD at i 0) limit (f i k))
+
+-- differences that all lie within limit - low
+pub reached : (at : List ℕ) (count low r limit : ℕ) → count ≤ length at → low ≤ limit → r ≤ limit - low → ((i : ℕ) → 0 ≤ i → i < count → Reaches low r (getD at i 0)) → upTo limit (take count at) ≡ true
+reached at count low r limit h L R f = up-to-all limit at count h (λ i k. let z = f i (omega arith) k .0 in omega arith)
 
 pub none-held : (at : List ℕ) (count limit : ℕ) → count ≡ 0 → upTo limit (take count at) ≡ true
 unfolding every

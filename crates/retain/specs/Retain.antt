@@ -1,10 +1,12 @@
 -- What `samples` forgets, and what a retention in place leaves in the parallel slices. Assumes nothing.
 use Prim.Native.Nat.{ℕ, _+_, _-_, _≤_, _<_, _^_}
 use mathlib.Core.Path.{_≡_}
-use mathlib.Core.Bool.{Bool, true, cond}
+use mathlib.Core.Bool.{Bool, true, false, cond}
 use mathlib.Core.List.{List, [], _∷_, _++_}
+use lib.Dec.{leb}
 use lib.ListN.{length, take, drop, getD}
 use lib.Ieee.{Float, nan}
+use Rattle.lists.specs.Lists.{upTo}
 use Rattle.lists.specs.Marks.{marked, gathered, put}
 use Rattle.signal.specs.Seconds.{kept}
 
@@ -37,6 +39,18 @@ pub record Held (count : ℕ) (at lo : List ℕ) (hz : List Float) : Type 0 wher
   pub los : count ≤ length lo
   pub hzs : count ≤ length hz
   pub small : (i : ℕ) → i < count → getD at i 0 ≤ 2 ^ 41
+
+-- the first `lead` of count indices are before low, and no other is
+pub record Leads (low count lead : ℕ) (at : List ℕ) : Type 0 where
+  pub leads : lead ≤ count
+  pub gone : (i : ℕ) → i < lead → leb low (getD at i 0) ≡ false
+  pub stay : (i : ℕ) → lead ≤ i → i < count → leb low (getD at i 0) ≡ true
+
+-- and all of them are at most limit
+pub record Looked (low limit count lead : ℕ) (at : List ℕ) : Type 0 where
+  pub held : count ≤ length at
+  pub front : Leads low count lead at
+  pub within : upTo limit (take count at) ≡ true
 
 -- the marked ones stand in front, and the rest as it was
 pub record Compacted (bs : List Bool) (at lo : List ℕ) (hz : List Float) (r : ℕ) (at′ lo′ : List ℕ) (hz′ : List Float) : Type 0 where

@@ -6,8 +6,14 @@ ghost use Prim.Native.Nat.{ℕ, _+_, _-_, _≤_, _<_, _^_};
 ghost use lib.ListN.{length, take, getD};
 ghost use lib.Dec.{eqb, leb};
 ghost use Rattle.limits.specs.Limits.{longestStream};
-ghost use Rattle.signal.specs.Seconds.{Rate, kept};
-ghost use Rattle.retain.specs.Retain.{moved, stays, KeptReading, Held, Moved, Compacted, KeptTuning, HeldTunings, CompactedTunings};
+ghost use Rattle.signal.specs.Seconds.{Rate, kept, oldestOf};
+ghost use Rattle.retain.specs.Retain.{moved, stays, KeptReading, Held, Leads, Looked, Moved, Compacted, KeptTuning, HeldTunings, CompactedTunings};
+
+// Whether a look at the readings has settled their order, and how many of them, in front, go.
+pub struct Look {
+    pub settled: bool,
+    pub lead: usize,
+}
 
 // No two indices in order are so far apart.
 const FAR: u64 = 0x8000_0000_0000_0000;
@@ -130,9 +136,30 @@ fn leading(oldest: u64, count: usize, at: &[u64]) -> usize
     i
 }
 
+// A look at the readings: those in front are before low, and all others lie between low and limit, or nothing is settled.
+pub fn look_at(low: u64, limit: u64, count: usize, at: &[u64]) -> Look
+    ensures { λ r. ⌜ (r .settled ≡ true → Looked low limit count (r .lead) (now (at .entry))) ⌝ }
+{
+    let none = Look {
+        settled: false,
+        lead: 0,
+    };
+    if at.len() < count {
+        return none;
+    }
+    if limit < low {
+        return none;
+    }
+    let lead = leading(low, count, at);
+    Look {
+        settled: lists::spread(at, lead, count, low) <= limit - low,
+        lead: lead,
+    }
+}
+
 // The readings of the last 60 s stay (readings.retain). Readings come in the order of their indices, so that those that go
 // mostly stand in front; any other list is compacted one by one.
-pub fn retain_readings(
+fn retain_readings(
     rate: u32,
     n: u64,
     count: usize,
@@ -150,6 +177,27 @@ pub fn retain_readings(
     }
     forget(lead, count, at, lo, hz);
     count - lead
+}
+
+// The same after a look that may have settled which go.
+pub fn retain_looked(
+    look: Look,
+    rate: u32,
+    n: u64,
+    count: usize,
+    at: &mut [u64],
+    lo: &mut [u32],
+    hz: &mut [f64],
+) -> usize
+    requires { ⌜ Rate rate × (n ≤ longestStream) × Held count (now at) (now lo) (now hz) × (look .settled ≡ true → Leads (oldestOf rate n) count (look .lead) (now at)) ⌝ }
+    ensures { λ r. ⌜ Compacted (map (kept rate n) (take count (now (at .entry)))) (now (at .entry)) (now (lo .entry)) (now (hz .entry)) r (now (at .exit)) (now (lo .exit)) (now (hz .exit)) ⌝ }
+{
+    if look.settled {
+        let lead = look.lead;
+        forget(lead, count, at, lo, hz);
+        return count - lead;
+    }
+    retain_readings(rate, n, count, at, lo, hz)
 }
 
 // A tuning stays while it is the last one or the next one is still kept.

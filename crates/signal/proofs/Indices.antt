@@ -10,7 +10,7 @@ use Rattle.rates.proofs.Values.{same-leb}
 use Rattle.limits.specs.Limits.{longestStream}
 use Rattle.signal.specs.declared.Sample.{Sample}
 use Rattle.signal.specs.declared.Sample.the-variants.{Never, At}
-use Rattle.signal.specs.Seconds.{Rate, gap, quiet, since, young, late, settling, kept}
+use Rattle.signal.specs.Seconds.{Rate, gap, quiet, since, young, late, settling, kept, oldestOf}
 
 module _ (r : ℕ) (R : Rate r) where
   pub gap-never : (n : ℕ) → gap r n Never ≡ true
@@ -51,5 +51,5 @@ module _ (r : ℕ) (R : Rate r) where
   kept-is n at N A = C.kept-is r (R .0) (R .1) n at (omega arith) A
 
   -- by the oldest index that is kept
-  pub kept-from : (n a : ℕ) → n ≤ longestStream → a ≤ 2 ^ 41 → kept r n a ≡ leb (n - 60 * r) a
-  kept-from n a N A = kept-is n a N A ∙ same-leb n (a + 60 * r) (n - 60 * r) a (λ h. omega arith) (λ h. omega arith)
+  pub kept-from : (n a : ℕ) → n ≤ longestStream → a ≤ 2 ^ 41 → kept r n a ≡ leb (oldestOf r n) a
+  kept-from n a N A = kept-is n a N A ∙ same-leb n (a + 60 * r) (oldestOf r n) a (λ h. omega arith) (λ h. omega arith)

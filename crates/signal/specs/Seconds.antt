@@ -1,6 +1,6 @@
 -- frequency.rs's comparisons of sample indices with seconds, as the Rust has them, in binary64; proofs/Indices.antt says what they are on whole numbers.
 -- rates/specs/Numbers.antt has SETTLE_S, GAP_S, QUIET_S and KEEP_S. The Rust's i64 index that may be -1 or absent is a `Sample`. Assumes nothing.
-use Prim.Native.Nat.{ℕ, _+_, _-_, _≤_}
+use Prim.Native.Nat.{ℕ, _+_, _-_, _*_, _≤_}
 use mathlib.Core.Bool.{Bool, false}
 use lib.IntN.{negsuc}
 use lib.Ieee.{Float, inf, binary64, add, sub, mul, lt, le, ofInt}
@@ -52,3 +52,7 @@ settling rate tuned at = lt (num at) (add binary64 (num tuned) (mul binary64 set
 -- at as f64 >= n as f64 - KEEP_S * rate
 unfoldable pub kept : ℕ → ℕ → ℕ → Bool
 kept rate n at = le (sub binary64 (num n) (mul binary64 keepS (num rate))) (num at)
+
+-- the same by whole numbers: what is kept is at this index or later (proofs/Indices.antt)
+abbrev pub oldestOf : ℕ → ℕ → ℕ
+oldestOf rate n = n - 60 * rate

@@ -7,7 +7,7 @@ ghost use lib.Dec.{leb};
 ghost use lib.ListN.{length};
 ghost use Rattle.limits.specs.Limits.{longestStream};
 ghost use Rattle.limits.specs.Samples.{isDbm};
-ghost use Rattle.signal.specs.Seconds.{Rate, gap, quiet, young, late, settling, kept};
+ghost use Rattle.signal.specs.Seconds.{Rate, gap, quiet, young, late, settling, kept, oldestOf};
 ghost use Rattle.signal.specs.Heard.{known, pickSample, loud, soft, hear, heard};
 ghost use Rattle.signal.specs.Order.{Index, indexOk, floorOk, signalOk};
 
@@ -111,8 +111,7 @@ pub fn is_kept(rate: u32, n: u64, at: u64) -> bool
 
 // The oldest index of the last KEEP_S.
 pub fn oldest(rate: u32, n: u64) -> u64
-    requires { ⌜ Rate rate × (n ≤ longestStream) ⌝ }
-    ensures { λ r. ⌜ (r ≤ longestStream) × ((a : ℕ) → a ≤ 2 ^ 41 → kept rate n a ≡ leb r a) ⌝ }
+    ensures { λ r. ⌜ r ≡ oldestOf rate n ⌝ }
 {
     let keep = KEEP_S * (rate as u64);
     if n < keep {

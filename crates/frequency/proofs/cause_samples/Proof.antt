@@ -35,35 +35,35 @@ returns-3 : tie.Need-returns-3
 unfolding causeSamples
 returns-3 c = let a = c .before .before .before .before .before .before .before .before .before .before .before .before .args in sym (passed 1 _ (ap not (sym (c .before .before .before .before .before .rate-ok .ensures)) ∙ c .before .before .before .before .if1 .left) ∙ passed 3 _ (le-ltb _ _ (c .before .before .if2 .left)) ∙ chosen 4 _ (ap not (sym (c .before .all-dbm .ensures)) ∙ c .if3 .taken))
 
-in-order-requires : tie.Need-in-order-requires
-in-order-requires c κs = search needs
+in-order-looked-requires : tie.Need-in-order-looked-requires
+in-order-looked-requires c κs = c .before .before .before .before .before .before .before .before .before .before .before .before .pre
 
 returns-4 : tie.Need-returns-4
 unfolding causeSamples
-returns-4 c = let a = c .before .before .before .before .before .before .before .before .before .before .before .before .before .before .args in sym (passed 1 _ (ap not (sym (c .before .before .before .before .before .before .before .rate-ok .ensures)) ∙ c .before .before .before .before .before .before .if1 .left) ∙ passed 3 _ (le-ltb _ _ (c .before .before .before .before .if2 .left)) ∙ passed 4 _ (ap not (sym (c .before .before .before .all-dbm .ensures)) ∙ c .before .before .if3 .left) ∙ chosen 5 _ (ap not (sym (c .before .in-order .ensures)) ∙ c .if4 .taken))
+returns-4 c = let a = c .before .before .before .before .before .before .before .before .before .before .before .before .before .before .args in sym (passed 1 _ (ap not (sym (c .before .before .before .before .before .before .before .rate-ok .ensures)) ∙ c .before .before .before .before .before .before .if1 .left) ∙ passed 3 _ (le-ltb _ _ (c .before .before .before .before .if2 .left)) ∙ passed 4 _ (ap not (sym (c .before .before .before .all-dbm .ensures)) ∙ c .before .before .if3 .left) ∙ chosen 5 _ (ap not (sym (c .before .in-order-looked .ensures)) ∙ c .if4 .taken))
 
 add-if5 : tie.Need-add-if5
 add-if5 c =
     let a = c .before .before .before .before .before .before .before .before .before .before .before .before .before .before .before .before .args in
-    let o = ordered-of (a .t) (lists (a .at .now) (a .lo .now) (a .hz .now) (a .tuned .now) (a .freq .now)) (sym (c .before .before .before .in-order .ensures) ∙ not-false _ (c .before .before .if4 .left)) in
+    let o = ordered-of (a .t) (lists (a .at .now) (a .lo .now) (a .hz .now) (a .tuned .now) (a .freq .now)) (sym (c .before .before .before .in-order-looked .ensures) ∙ not-false _ (c .before .before .if4 .left)) in
     let h = o .t .signals .stream in
-    let b = c .before .before .before .before .before .before .before .before .before .before .before .before .before .before .before .before .good .1 .0 .1 in
+    let b = c .before .before .before .before .before .before .before .before .before .before .before .before .before .before .before .before .good .1 .1 .0 .1 in
     record { fits = omega arith }
 
 returns-5 : tie.Need-returns-5
 unfolding causeSamples
-returns-5 c = let a = c .before .before .before .before .before .before .before .before .before .before .before .before .before .before .before .before .before .args in sym (passed 1 _ (ap not (sym (c .before .before .before .before .before .before .before .before .before .before .rate-ok .ensures)) ∙ c .before .before .before .before .before .before .before .before .before .if1 .left) ∙ passed 3 _ (le-ltb _ _ (c .before .before .before .before .before .before .before .if2 .left)) ∙ passed 4 _ (ap not (sym (c .before .before .before .before .before .before .all-dbm .ensures)) ∙ c .before .before .before .before .before .if3 .left) ∙ passed 5 _ (ap not (sym (c .before .before .before .before .in-order .ensures)) ∙ c .before .before .before .if4 .left) ∙ chosen 7 _ (lt-ltb _ _ (c .if5 .taken)))
+returns-5 c = let a = c .before .before .before .before .before .before .before .before .before .before .before .before .before .before .before .before .before .args in sym (passed 1 _ (ap not (sym (c .before .before .before .before .before .before .before .before .before .before .rate-ok .ensures)) ∙ c .before .before .before .before .before .before .before .before .before .if1 .left) ∙ passed 3 _ (le-ltb _ _ (c .before .before .before .before .before .before .before .if2 .left)) ∙ passed 4 _ (ap not (sym (c .before .before .before .before .before .before .all-dbm .ensures)) ∙ c .before .before .before .before .before .if3 .left) ∙ passed 5 _ (ap not (sym (c .before .before .before .before .in-order-looked .ensures)) ∙ c .before .before .before .if4 .left) ∙ chosen 7 _ (lt-ltb _ _ (c .if5 .taken)))
 
 floats-ok-requires : tie.Need-floats-ok-requires
 floats-ok-requires c κs = search needs
 
 returns-6 : tie.Need-returns-6
 unfolding causeSamples
-returns-6 c = let a = c .before .before .before .before .before .before .before .before .before .before .before .before .before .before .before .before .before .before .before .args in sym (passed 1 _ (ap not (sym (c .before .before .before .before .before .before .before .before .before .before .before .before .rate-ok .ensures)) ∙ c .before .before .before .before .before .before .before .before .before .before .before .if1 .left) ∙ passed 3 _ (le-ltb _ _ (c .before .before .before .before .before .before .before .before .before .if2 .left)) ∙ passed 4 _ (ap not (sym (c .before .before .before .before .before .before .before .before .all-dbm .ensures)) ∙ c .before .before .before .before .before .before .before .if3 .left) ∙ passed 5 _ (ap not (sym (c .before .before .before .before .before .before .in-order .ensures)) ∙ c .before .before .before .before .before .if4 .left) ∙ passed 7 _ (le-ltb _ _ (c .before .before .if5 .left)) ∙ chosen 9 _ (ap not (sym (c .before .floats-ok .ensures)) ∙ c .if6 .taken))
+returns-6 c = let a = c .before .before .before .before .before .before .before .before .before .before .before .before .before .before .before .before .before .before .before .args in sym (passed 1 _ (ap not (sym (c .before .before .before .before .before .before .before .before .before .before .before .before .rate-ok .ensures)) ∙ c .before .before .before .before .before .before .before .before .before .before .before .if1 .left) ∙ passed 3 _ (le-ltb _ _ (c .before .before .before .before .before .before .before .before .before .if2 .left)) ∙ passed 4 _ (ap not (sym (c .before .before .before .before .before .before .before .before .all-dbm .ensures)) ∙ c .before .before .before .before .before .before .before .if3 .left) ∙ passed 5 _ (ap not (sym (c .before .before .before .before .before .before .in-order-looked .ensures)) ∙ c .before .before .before .before .before .if4 .left) ∙ passed 7 _ (le-ltb _ _ (c .before .before .if5 .left)) ∙ chosen 9 _ (ap not (sym (c .before .floats-ok .ensures)) ∙ c .if6 .taken))
 
 returns-7 : tie.Need-returns-7
 unfolding causeSamples
-returns-7 c = let a = c .before .before .before .before .before .before .before .before .before .before .before .before .before .before .before .before .before .before .before .args in sym (passed 1 _ (ap not (sym (c .before .before .before .before .before .before .before .before .before .before .before .before .rate-ok .ensures)) ∙ c .before .before .before .before .before .before .before .before .before .before .before .if1 .left) ∙ passed 3 _ (le-ltb _ _ (c .before .before .before .before .before .before .before .before .before .if2 .left)) ∙ passed 4 _ (ap not (sym (c .before .before .before .before .before .before .before .before .all-dbm .ensures)) ∙ c .before .before .before .before .before .before .before .if3 .left) ∙ passed 5 _ (ap not (sym (c .before .before .before .before .before .before .in-order .ensures)) ∙ c .before .before .before .before .before .if4 .left) ∙ passed 7 _ (le-ltb _ _ (c .before .before .if5 .left)) ∙ passed 9 _ (ap not (sym (c .before .floats-ok .ensures)) ∙ c .if6 .left))
+returns-7 c = let a = c .before .before .before .before .before .before .before .before .before .before .before .before .before .before .before .before .before .before .before .args in sym (passed 1 _ (ap not (sym (c .before .before .before .before .before .before .before .before .before .before .before .before .rate-ok .ensures)) ∙ c .before .before .before .before .before .before .before .before .before .before .before .if1 .left) ∙ passed 3 _ (le-ltb _ _ (c .before .before .before .before .before .before .before .before .before .if2 .left)) ∙ passed 4 _ (ap not (sym (c .before .before .before .before .before .before .before .before .all-dbm .ensures)) ∙ c .before .before .before .before .before .before .before .if3 .left) ∙ passed 5 _ (ap not (sym (c .before .before .before .before .before .before .in-order-looked .ensures)) ∙ c .before .before .before .before .before .if4 .left) ∙ passed 7 _ (le-ltb _ _ (c .before .before .if5 .left)) ∙ passed 9 _ (ap not (sym (c .before .floats-ok .ensures)) ∙ c .if6 .left))
 
 pub cause-samples-spec : {M : Type 1} → statement M
 cause-samples-spec =
@@ -76,7 +76,7 @@ cause-samples-spec =
     returns-2
     all-dbm-requires
     returns-3
-    in-order-requires
+    in-order-looked-requires
     returns-4
     add-if5
     returns-5

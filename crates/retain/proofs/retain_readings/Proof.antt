@@ -1,5 +1,10 @@
 -- `retain::retain_readings` meets its contract. Assumes nothing.
-use Rattle.retain.proofs.Retained.{front-goes}
+use Rattle.retain.proofs.Retained.{front-goes, leads-of}
+use Rattle.retain.specs.Retain.{Leads}
+use Rattle.signal.proofs.Indices.{kept-from}
+use Rattle.signal.specs.Seconds.{oldestOf}
+use mathlib.Core.Path.{subst}
+use Prim.Native.Nat.{ℕ}
 use native.Mathlib.Omega.{arith}
 use borrow.Author.Needs.{needs}
 use Rattle.retain.proofs.retain_readings.Statement.{statement}
@@ -51,8 +56,10 @@ returns-2 c =
     let o = c .before .before .before .before .before .before .before .before .before .before .before .before .before .before .before .oldest in
     let l = c .before .before .before .before .before .before .before .before .before .before .before .before .before .leading in
     let p = c .before .before .before .before .before .before .before .before .before .before .before .spread in
-    front-goes (a .rate) (a .n) (a .count) (o .result) (a .at .now) (a .lo .now) (a .hz .now) (s .pre .2) (o .ensures .1) (l .result) (p .result) (l .ensures .0) (l .ensures .1) (p .ensures)
-    (omega (arith, o .ensures .0, c .before .before .before .before .before .before .before .before .before .before .if1 .left)) _ _ _ (c .before .before .before .before .before .before .forget .ensures)
+    let e = o .ensures in
+    front-goes (a .rate) (a .n) (a .count) (oldestOf (a .rate) (a .n)) (a .at .now) (a .lo .now) (a .hz .now) (s .pre .2) (λ b h. kept-from (a .rate) (s .pre .0) (a .n) b (s .pre .1) h) (l .result)
+    (subst (λ (z : ℕ). Leads z (a .count) (l .result) (a .at .now)) e (leads-of (o .result) (a .count) (l .result) (p .result) (a .at .now) (l .ensures .0) (l .ensures .1) (p .ensures) (omega (arith, e, c .before .before .before .before .before .before .before .before .before .before .if1 .left))))
+    _ _ _ (c .before .before .before .before .before .before .forget .ensures)
 
 pub retain-readings-spec : {M : Type 1} → statement M
 retain-readings-spec =

@@ -2,9 +2,9 @@
 use Rattle.frequency.proofs.Sampled.{made, fine, sampled-state, sampled-lists}
 use Rattle.frequency.proofs.Ordered.{counts-of, held-of, held-tunings}
 use Rattle.frequency.specs.Lent.{lists}
-use Rattle.retain.specs.Retain.{stays, Compacted, CompactedTunings}
+use Rattle.retain.specs.Retain.{stays, Leads, Compacted, CompactedTunings}
 use Rattle.signal.proofs.Hearing.{heard-n}
-use Rattle.signal.specs.Seconds.{kept}
+use Rattle.signal.specs.Seconds.{kept, oldestOf}
 use Rattle.signal.specs.declared.Signal.{Signal}
 use Rattle.limits.specs.Limits.{longestStream}
 use lib.ListN.{take}
@@ -15,8 +15,11 @@ use borrow.Author.Needs.{needs}
 use Rattle.frequency.proofs.FrequencyTracker.samples.Statement.{statement}
 use Rattle.frequency.proofs.FrequencyTracker.samples.Tie as tie
 
+first-look-requires : tie.Need-first-look-requires
+first-look-requires c κs = search needs
+
 cause-samples-requires : tie.Need-cause-samples-requires
-cause-samples-requires c κs = search needs
+cause-samples-requires c κs = λ e. c .before .before .before .before .before .first-look .ensures e .within
 
 same-length : tie.Need-same-length
 same-length c = search needs
@@ -40,20 +43,22 @@ returns c =
 
 hear-all-requires : tie.Need-hear-all-requires
 hear-all-requires c κs =
-    let a = c .before .before .before .before .before .before .before .before .before .before .before .before .before .before .args in
+    let a = c .before .before .before .before .before .before .before .before .before .before .before .before .before .before .before .before .args in
     let f = fine (a .self) (lists (a .at .now) (a .lo .now) (a .hz .now) (a .tuned .now) (a .freq .now)) (a .dbm .now) (sym (c .before .before .cause-samples .ensures) ∙ c .before .if1 .left) in
     (f .rate, f .room, f .ordered .t .signals .last)
 
-retain-readings-requires : tie.Need-retain-readings-requires
-retain-readings-requires c κs =
-    let a = c .before .before .before .before .before .before .before .before .before .before .before .before .before .before .before .before .before .before .args in
+retain-looked-requires : tie.Need-retain-looked-requires
+retain-looked-requires c κs =
+    let a = c .before .before .before .before .before .before .before .before .before .before .before .before .before .before .before .before .before .before .before .before .args in
     let f = fine (a .self) (lists (a .at .now) (a .lo .now) (a .hz .now) (a .tuned .now) (a .freq .now)) (a .dbm .now) (sym (c .before .before .before .before .before .before .cause-samples .ensures) ∙ c .before .before .before .before .before .if1 .left) in
     let m : c .before .before .before .hear-all .result .n ≤ longestStream = subst (λ (z : ℕ). z ≤ longestStream) (sym (ap (λ (z : Signal). z .n) (c .before .before .before .hear-all .ensures) ∙ heard-n (a .self .rate) (a .self .signal) (a .dbm .now))) (f .room) in
-    (f .rate, m, held-of (a .self) (lists (a .at .now) (a .lo .now) (a .hz .now) (a .tuned .now) (a .freq .now)) (f .ordered))
+    let look = c .before .before .before .before .before .before .before .before .before .before .before .before .first-look in
+    let h = ap (λ (z : Signal). z .n) (c .before .before .before .hear-all .ensures) ∙ heard-n (a .self .rate) (a .self .signal) (a .dbm .now) in
+    (f .rate, m, held-of (a .self) (lists (a .at .now) (a .lo .now) (a .hz .now) (a .tuned .now) (a .freq .now)) (f .ordered), λ e. subst (λ (z : ℕ). Leads (oldestOf (a .self .rate) z) (a .self .readings) (look .result .lead) (a .at .now)) (sym h) (look .ensures e .front))
 
 retain-tunings-requires : tie.Need-retain-tunings-requires
 retain-tunings-requires c κs =
-    let a = c .before .before .before .before .before .before .before .before .before .before .before .before .before .before .before .before .before .before .before .before .before .before .before .before .before .before .before .args in
+    let a = c .before .before .before .before .before .before .before .before .before .before .before .before .before .before .before .before .before .before .before .before .before .before .before .before .before .before .before .before .before .args in
     let f = fine (a .self) (lists (a .at .now) (a .lo .now) (a .hz .now) (a .tuned .now) (a .freq .now)) (a .dbm .now) (sym (c .before .before .before .before .before .before .before .before .before .before .before .before .before .before .before .cause-samples .ensures) ∙ c .before .before .before .before .before .before .before .before .before .before .before .before .before .before .if1 .left) in
     let m : c .before .before .before .before .before .before .before .before .before .before .before .before .hear-all .result .n ≤ longestStream = subst (λ (z : ℕ). z ≤ longestStream) (sym (ap (λ (z : Signal). z .n) (c .before .before .before .before .before .before .before .before .before .before .before .before .hear-all .ensures) ∙ heard-n (a .self .rate) (a .self .signal) (a .dbm .now))) (f .room) in
     (f .rate, m, held-tunings (a .self) (lists (a .at .now) (a .lo .now) (a .hz .now) (a .tuned .now) (a .freq .now)) (f .ordered))
@@ -75,14 +80,14 @@ same-length-10 c = search needs
 
 returns-2 : tie.Need-returns-2
 returns-2 c =
-    let a = c .before .before .before .before .before .before .before .before .before .before .before .before .before .before .before .before .before .before .before .before .before .before .before .before .before .before .before .before .before .before .before .before .args in
+    let a = c .before .before .before .before .before .before .before .before .before .before .before .before .before .before .before .before .before .before .before .before .before .before .before .before .before .before .before .before .before .before .before .before .before .before .args in
     let s = a .self in
     let l = (lists (a .at .now) (a .lo .now) (a .hz .now) (a .tuned .now) (a .freq .now)) in
     let o = counts-of (a .self) (lists (a .at .now) (a .lo .now) (a .hz .now) (a .tuned .now) (a .freq .now)) (fine (a .self) (lists (a .at .now) (a .lo .now) (a .hz .now) (a .tuned .now) (a .freq .now)) (a .dbm .now) (sym (c .before .before .before .before .before .before .before .before .before .before .before .before .before .before .before .before .before .before .before .before .cause-samples .ensures) ∙ c .before .before .before .before .before .before .before .before .before .before .before .before .before .before .before .before .before .before .before .if1 .left) .ordered) in
     let e = c .before .before .before .before .before .before .before .before .before .before .before .before .before .before .before .before .before .hear-all .ensures in
-    let x = c .before .before .before .before .before .before .before .before .before .before .before .before .before .retain-readings in
+    let x = c .before .before .before .before .before .before .before .before .before .before .before .before .before .retain-looked in
     let y = c .before .before .before .before .retain-tunings in
-    let p = subst (λ (z : Signal). Compacted (map (kept (s .rate) (z .n)) (take (s .readings) (a .at .now))) (a .at .now) (a .lo .now) (a .hz .now) (x .result) (x .last .1 .1 .1 .0) (x .last .1 .1 .1 .1 .0) (x .last .1 .1 .1 .1 .1 .0)) e (x .ensures) in
+    let p = subst (λ (z : Signal). Compacted (map (kept (s .rate) (z .n)) (take (s .readings) (a .at .now))) (a .at .now) (a .lo .now) (a .hz .now) (x .result) (x .last .1 .1 .1 .1 .0) (x .last .1 .1 .1 .1 .1 .0) (x .last .1 .1 .1 .1 .1 .1 .0)) e (x .ensures) in
     let q = subst (λ (z : Signal). CompactedTunings (stays (s .rate) (z .n) (take (s .tunings) (a .tuned .now))) (a .tuned .now) (a .freq .now) (y .result) (y .last .1 .1 .1 .0) (y .last .1 .1 .1 .1 .0)) e (y .ensures) in
     record {
       refusal = sym (c .before .before .before .before .before .before .before .before .before .before .before .before .before .before .before .before .before .before .before .if1 .left) ∙ c .before .before .before .before .before .before .before .before .before .before .before .before .before .before .before .before .before .before .before .before .cause-samples .ensures;
@@ -96,6 +101,7 @@ pub samples-spec : {M : Type 1} → statement M
 samples-spec =
     tie.close
     (tie.spec
+    first-look-requires
     cause-samples-requires
     same-length
     same-length-2
@@ -104,7 +110,7 @@ samples-spec =
     same-length-5
     returns
     hear-all-requires
-    retain-readings-requires
+    retain-looked-requires
     retain-tunings-requires
     same-length-6
     same-length-7
