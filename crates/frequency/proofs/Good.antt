@@ -11,14 +11,16 @@ use lib.Ieee.{Float, nan, inf, fin, lt, le, eq, isNan, round, ofInt}
 use lib.Ieee.Scale.{finite}
 use Rattle.floats.specs.Number.{num}
 use Rattle.limits.specs.Limits.{mostReadings, longestStream}
-use Rattle.limits.specs.Samples.{rateOk}
+use Rattle.limits.specs.Samples.{rateOk, allDbm}
 use Rattle.limits.proofs.Samples.{and-left, and-right}
 use Rattle.cfo.specs.Cfo.{readingHz}
 use Rattle.cfo.proofs.Numbers.{reading-number}
 use Rattle.signal.specs.Seconds.{kept, settling}
 use Rattle.signal.specs.Heard.{heard}
 use Rattle.signal.proofs.Hearing.{heard-n}
+use Rattle.signal.specs.Order.{floorOk}
 use Rattle.signal.proofs.Kept.{heard-last, heard-from}
+use Rattle.signal.proofs.Ranges.{heard-floor}
 use Rattle.lists.specs.Lists.{Reading, Tuning, cfoEvery, every, upTo, noNan, lastOr, readingsFrom}
 use Rattle.lists.specs.Marks.{retained}
 use Rattle.lists.proofs.Gather.{map-retained, every-retained}
@@ -27,13 +29,14 @@ use Rattle.tuning.specs.Ranges.{highestStep, stepOk}
 use Rattle.frequency.specs.Order.{ahead}
 use Rattle.frequency.specs.Tracker.{Tracker, freqOf, due, tuned, samples, cfo, nextTuning, stepOf, afterTuning}
 use Rattle.frequency.proofs.Held.{map-append}
-use Rattle.frequency.proofs.Ordered.{Signals}
+use Rattle.frequency.proofs.Ordered.{Signals, rate-of}
 
 pub record Good (u : Tracker) : Type 0 where
   pub rates : rateOk (u .rate) ≡ true
   pub steps : stepOk (u .step) ≡ true
   pub base : u .base ≤ 2 ^ 32
   pub signals : Signals (u .line) (u .signal)
+  pub floors : floorOk (u .signal .floor) ≡ true
   pub tuneds : upTo (u .signal .n) (map (λ (x : Tuning). x .at) (u .tunings)) ≡ true
   pub freqs : upTo (2 ^ 32) (map (λ (x : Tuning). x .freq) (u .tunings)) ≡ true
   pub ats : upTo (u .signal .n + ahead) (map (λ (x : Reading). x .at) (u .readings)) ≡ true
@@ -76,6 +79,7 @@ good-tuned u f h g = record {
   steps = g .steps;
   base = g .base;
   signals = g .signals;
+  floors = g .floors;
   tuneds = cond-up-to (u .signal .n) (due u f) (λ (x : Tuning). x .at) (u .tunings) (record { at = u .signal .n; freq = f }) (g .tuneds) (omega arith);
   freqs = cond-up-to (2 ^ 32) (due u f) (λ (x : Tuning). x .freq) (u .tunings) (record { at = u .signal .n; freq = f }) (g .freqs) (omega arith);
   ats = g .ats;
@@ -83,10 +87,11 @@ good-tuned u f h g = record {
 }
 
 -- ---- samples
-pub good-samples : (u : Tracker) (dbm : List Float) → u .signal .n + length dbm ≤ longestStream → Good u → Good (samples u dbm)
+pub good-samples : (u : Tracker) (dbm : List Float) → u .signal .n + length dbm ≤ longestStream → allDbm dbm ≡ true → Good u → Good (samples u dbm)
 unfolding samples
-good-samples u dbm h g =
+good-samples u dbm h v g =
     let e = heard-n (u .rate) (u .signal) dbm in
+    let r = rate-of (u .rate) (g .rates) in
     record {
       rates = g .rates;
       steps = g .steps;
@@ -97,6 +102,7 @@ good-samples u dbm h g =
         last = heard-last (u .rate) (u .signal) dbm (g .signals .last);
         from = heard-from (u .rate) (u .signal) dbm (g .signals .from);
       };
+      floors = heard-floor (u .rate) (omega arith) (omega arith) (u .signal) dbm (g .floors) v;
       tuneds = retained-up-to (λ (x : Tuning). x .at) (u .signal .n) (heard (u .rate) (u .signal) dbm .n) (stays (u .rate) (heard (u .rate) (u .signal) dbm .n) (map (λ (x : Tuning). x .at) (u .tunings))) (u .tunings) (omega arith) (g .tuneds);
       freqs = retained-up-to (λ (x : Tuning). x .freq) (2 ^ 32) (2 ^ 32) (stays (u .rate) (heard (u .rate) (u .signal) dbm .n) (map (λ (x : Tuning). x .at) (u .tunings))) (u .tunings) (omega arith) (g .freqs);
       ats = retained-up-to (λ (x : Reading). x .at) (u .signal .n + ahead) (heard (u .rate) (u .signal) dbm .n + ahead) (map (kept (u .rate) (heard (u .rate) (u .signal) dbm .n)) (map (λ (x : Reading). x .at) (u .readings))) (u .readings) (omega arith) (g .ats);
@@ -155,6 +161,7 @@ good-cfo u raw h g =
       steps = g .steps;
       base = g .base;
       signals = g .signals;
+      floors = g .floors;
       tuneds = g .tuneds;
       freqs = g .freqs;
       ats = subst (λ (z : List ℕ). upTo (u .signal .n + ahead) z ≡ true) (sym (map-append (λ (x : Reading). x .at) (u .readings) new))
@@ -173,6 +180,7 @@ good-next u g = record {
   steps = g .steps;
   base = g .base;
   signals = record { stream = g .signals .stream; upto = g .signals .upto; last = g .signals .last; from = g .signals .from };
+  floors = g .floors;
   tuneds = g .tuneds;
   freqs = g .freqs;
   ats = g .ats;

@@ -26,7 +26,7 @@ use Rattle.frequency.specs.declared.FrequencyTracker.{FrequencyTracker}
 use Rattle.frequency.specs.Calls.{Beside, fresh}
 use Rattle.frequency.specs.Grown.{Grown, new, tuned, samples, cfo, next}
 use Rattle.frequency.specs.Lent.{Lists, lists, tuningsOf, tracker, packed, over, stored}
-use Rattle.frequency.specs.Order.{ahead, tuningsInOrder, readingsInOrder, inOrder, dueOf, causeNew}
+use Rattle.frequency.specs.Order.{ahead, tuningsInOrder, readingsInOrder, inOrder, numbersOk, dueOf, causeNew}
 use Rattle.frequency.specs.Tracker as T
 use Rattle.frequency.proofs.Choices.{not-refused}
 use Rattle.frequency.proofs.Good.{Good, good-tuned, good-samples, good-cfo, good-next}
@@ -127,6 +127,7 @@ sound-new rate base step l b e =
         steps = not-false (stepOk step) (q .0);
         base = omega arith;
         signals = record { stream = omega arith; upto = omega arith; last = tt; from = tt };
+        floors = refl;
         tuneds = refl;
         freqs = refl;
         ats = refl;
@@ -216,7 +217,7 @@ sound (samples {s} {t} {l} {m} dbm g c) =
     let i = sound g in
     let o = counts-of s l i in
     let p = Sampled.fine s l dbm (sym (c .refusal)) in
-    sound-after (T.samples (tracker s l) dbm) l t m (good-samples (tracker s l) dbm (room s l dbm (p .room)) (i .good))
+    sound-after (T.samples (tracker s l) dbm) l t m (good-samples (tracker s l) dbm (room s l dbm (p .room)) (p .levels) (i .good))
     (sampled-readings s l o dbm (i .readings)) (sampled-tunings s l o dbm (i .tunings)) (c .state refl) (c .lists refl)
 sound (cfo {s} {t} {l} {m} raw g c) =
     let i = sound g in
@@ -255,18 +256,17 @@ in-order s l o i =
       c,
     ) refl
 
-numbers : (s : FrequencyTracker) (l : Lists) → Counts s l → Sound s l → noNan (take (s .readings) (l .hz)) ≡ true
-unfolding tracker
-numbers s l o i = subst (λ (z : List Float). noNan z ≡ true) (hzs s l o) (i .good .numbers)
+numbers : (s : FrequencyTracker) (l : Lists) → Counts s l → Sound s l → numbersOk s (l .hz) ≡ true
+unfolding numbersOk tracker
+numbers s l o i = rw (i .good .steps, i .good .floors) (subst (λ (z : List Float). noNan z ≡ true) (hzs s l o) (i .good .numbers))
 
-rates : (s : FrequencyTracker) (l : Lists) → Sound s l → (rateOk (s .rate) ≡ true) × (stepOk (s .«step_hz») ≡ true)
+rates : (s : FrequencyTracker) (l : Lists) → Sound s l → rateOk (s .rate) ≡ true
 unfolding tracker
-rates s l i = (i .good .rates, i .good .steps)
+rates s l i = i .good .rates
 
--- 01: 'a port can't refuse for a state that it spoiled itself'
-pub never-refused : {s : FrequencyTracker} {l : Lists} → Grown s l → (rateOk (s .rate) ≡ true) × (inOrder s l ≡ true) × (stepOk (s .«step_hz») ≡ true) × (noNan (take (s .readings) (l .hz)) ≡ true)
+-- 01: 'a port can't refuse for a state that it spoiled itself'; the floor stays between -200 and 100, and the readings are numbers
+pub never-refused : {s : FrequencyTracker} {l : Lists} → Grown s l → (rateOk (s .rate) ≡ true) × (inOrder s l ≡ true) × (numbersOk s (l .hz) ≡ true)
 never-refused {s} {l} g =
     let i = sound g in
     let o = counts-of s l i in
-    let r = rates s l i in
-    (r .0, in-order s l o i, r .1, numbers s l o i)
+    (rates s l i, in-order s l o i, numbers s l o i)

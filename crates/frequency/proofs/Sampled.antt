@@ -1,6 +1,6 @@
 -- `samples` of a state in order, from what the functions that it calls leave. Assumes nothing.
 use mathlib.Core.Path.{_≡_, refl, _∙_}
-use mathlib.Core.Bool.{not}
+use mathlib.Core.Bool.{true, not}
 use mathlib.Core.List.{List, map}
 use Prim.Native.Nat.{ℕ, _+_, _*_, _≤_}
 use borrow.Author.Tests.{ltb-false, not-false}
@@ -37,6 +37,7 @@ made s r q g = record {
 
 pub record Fine (s : FrequencyTracker) (l : Lists) (dbm : List Float) : Type 0 where
   pub rate : Rate (s .rate)
+  pub levels : allDbm dbm ≡ true
   pub ordered : Ordered s l
   pub room : s .signal .n + length dbm ≤ longestStream
 
@@ -50,6 +51,7 @@ fine s l dbm e =
     let f = not-refused 6 _ (ltb (longestStream) (s .signal .n + length dbm)) (d .1) in
     record {
       rate = rate-of (s .rate) (not-false (rateOk (s .rate)) (a .0));
+      levels = not-false (allDbm dbm) (c .0);
       ordered = ordered-of s l (not-false (inOrder s l) (d .0));
       room = ltb-false (longestStream) (s .signal .n + length dbm) (f .0);
     }

@@ -3,3 +3,4 @@ pub mod Constants
 pub mod Indices
 pub mod Hearing
 pub mod Kept
+pub mod Ranges

@@ -2,8 +2,8 @@
 
 pub use super::band::STEP_HZ;
 use super::events::Calls;
-pub use super::listen::RATE;
 use super::listen;
+pub use super::listen::RATE;
 use super::put::Put;
 use super::rng::Rng;
 use super::signal::{self, Air, Shape};

@@ -155,6 +155,19 @@ fn tunings(cases: &mut Vec<Case>) {
             .level(8, QUIET)
             .case("more tunings than fit"),
     );
+    let mut minute = Calls::new(200, BASE, STEP_HZ);
+    for i in 0..65 {
+        minute = minute.tuned(BASE + i).level(180, QUIET);
+    }
+    for i in 65..70 {
+        minute = minute.level(180, QUIET).tuned(BASE + i).freq();
+    }
+    cases.push(
+        minute
+            .level(2400, QUIET)
+            .tuned(BASE)
+            .case("65 tunings in 60 s, and some that are forgotten"),
+    );
     let mut full = Calls::new(1000, BASE, STEP_HZ).level(8, QUIET);
     for n in [4096, 3904, 0, 1, 4096, 4097] {
         full = full.readings(n, 5);
