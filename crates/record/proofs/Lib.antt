@@ -5,3 +5,4 @@ pub mod RecordLaws
 pub mod JoinLaws
 pub mod ReaderLaws
 pub mod ReadBack
+pub mod SameLaws
