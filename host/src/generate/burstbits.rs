@@ -37,6 +37,7 @@ pub fn directed() -> Vec<Case> {
         ));
     }
     points(&mut cases);
+    anchors(&mut cases);
     ends(&mut cases);
     boundaries(&mut cases);
     half_ppm(&mut cases);
@@ -72,6 +73,23 @@ fn points(cases: &mut Vec<Case>) {
         let count = rng.range(8, 20);
         let places: Vec<usize> = (1..=count).map(|i| 20 * i + rng.below(9)).collect();
         cases.push(of("shaken dips", 2000, &comb(500, &places)));
+    }
+}
+
+/// Of the first dips every other one half a bit off: their mean has hardly a length, and what sine and cosine leave of it decides the grid.
+fn anchors(cases: &mut Vec<Case>) {
+    for (rate, bit) in [(200, 2), (1000, 10), (4000, 40)] {
+        for count in [8, 12, 13, 20] {
+            for apart in [2, 3, 5] {
+                let places: Vec<usize> = (1..=count).map(|i| i * apart * bit + i % 2 * bit / 2).collect();
+                let seg = comb((count + 2) * apart * bit, &places);
+                cases.push(of(
+                    format!("{count} dips, every other one between bits, {rate}"),
+                    rate,
+                    &seg,
+                ));
+            }
+        }
     }
 }
 
