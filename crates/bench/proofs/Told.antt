@@ -10,7 +10,10 @@ use Rattle.dips.specs.Dips.{dipsAfter}
 use Rattle.dips.specs.declared.DipCount.{DipCount}
 use Rattle.clock.specs.Bits.{Outcome, bitsLeft, Free}
 use Rattle.clock.specs.declared.BurstBits.{BurstBits}
-use Rattle.bench.specs.Demod.{countOf, bitCountOf}
+use Rattle.demod.specs.Capture.{captureLeft}
+use Rattle.demod.specs.Capture as capture
+use Rattle.demod.specs.declared.Captured.{Captured}
+use Rattle.bench.specs.Demod.{countOf, bitCountOf, recordCountOf}
 
 -- the answer's number, from the case that it is
 pub number-of : {A : Type 0} {N : Type 0} (f : A → N) {r w case : A} → r ≡ w → r ≡ case → f case ≡ f w
@@ -30,3 +33,9 @@ pub bits-told : (r w : BurstBits) (o : Outcome) (old now : List ℕ) (a a' b b' 
     → (n ≡ bitCountOf w) × (now ≡ bitsLeft w o old) × Free w a a' × Free w b b'
 bits-told r w o old now a a' b b' n e h =
     subst (λ (x : BurstBits). (n ≡ bitCountOf x) × (now ≡ bitsLeft x o old) × Free x a a' × Free x b b') (e .0) (h, e .1, e .2, e .3)
+
+pub capture-told : (r w : Captured) (records : List (List ℕ)) (old now : List ℕ) (a a' b b' : List Float) (n : ℕ)
+    → (r ≡ w) × (now ≡ captureLeft r records old) × capture.Free r a a' × capture.Free r b b' → n ≡ recordCountOf r
+    → (n ≡ recordCountOf w) × (now ≡ captureLeft w records old) × capture.Free w a a' × capture.Free w b b'
+capture-told r w records old now a a' b b' n e h =
+    subst (λ (x : Captured). (n ≡ recordCountOf x) × (now ≡ captureLeft x records old) × capture.Free x a a' × capture.Free x b b') (e .0) (h, e .1, e .2, e .3)

@@ -9,6 +9,8 @@ use Rattle.dips.specs.declared.DipCount.{DipCount}
 use Rattle.dips.specs.declared.DipCount.the-variants as dip
 use Rattle.clock.specs.declared.BurstBits.{BurstBits}
 use Rattle.clock.specs.declared.BurstBits.the-variants as bit
+use Rattle.demod.specs.declared.Captured.{Captured}
+use Rattle.demod.specs.declared.Captured.the-variants as caught
 
 -- the floor
 abbrev pub levelOf : Level → Float
@@ -31,3 +33,8 @@ abbrev pub bitCountOf : BurstBits → ℕ
 bitCountOf (bit.Refused n) = 0
 bitCountOf bit.Nothing = 0
 bitCountOf (bit.Bits count period ppm level points) = count
+
+-- how many records
+abbrev pub recordCountOf : Captured → ℕ
+recordCountOf (caught.Refused n) = 0
+recordCountOf (caught.Count n) = n

@@ -7,11 +7,15 @@ ghost use Rattle.bursts.specs.Levels.{floorAnswer};
 ghost use Rattle.dips.specs.Dips.{dipsOf, dipAnswer, dipsAfter};
 ghost use Rattle.clock.specs.Bits.{outcome, bitsAnswer, bitsLeft, Free};
 ghost use Rattle.bench.specs.Select.{numbers, selected};
-ghost use Rattle.bench.specs.Demod.{levelOf, endOf, countOf, bitCountOf};
+ghost use Rattle.demod.specs.Capture.{floorOf, captured, captureAnswer, captureLeft};
+ghost use Rattle.demod.specs.Capture as capture;
+ghost use Rattle.bench.specs.Demod.{levelOf, endOf, countOf, bitCountOf, recordCountOf};
 use bursts::BurstOptions;
 use bursts::Level;
 use bursts::NextBurst;
 use clock::BurstBits;
+use demod::Captured;
+use demod::Floor;
 use dips::DipCount;
 
 // Whether no element is a NaN. No early exit, so that it runs several elements at a time.
@@ -129,5 +133,26 @@ pub extern "C" fn bench_burst_bits(
         BurstBits::Refused(_) => 0,
         BurstBits::Nothing => 0,
         BurstBits::Bits(count, _, _, _, _) => count,
+    }
+}
+
+// How many records demod::decode_capture writes, over the noise floor.
+#[no_mangle]
+pub extern "C" fn bench_capture(
+    dbm: &[f32],
+    rate: u32,
+    t0: f64,
+    events: &mut [u8],
+    scratch32: &mut [f32],
+    scratch64: &mut [f64],
+) -> usize
+    ensures { λ r. ⌜ (r ≡ recordCountOf (captureAnswer (now (dbm .entry)) rate t0 Floor.Measured (length (now (events .entry))) (length (now (scratch32 .entry))) (length (now (scratch64 .entry)))))
+        × (now (events .exit) ≡ captureLeft (captureAnswer (now (dbm .entry)) rate t0 Floor.Measured (length (now (events .entry))) (length (now (scratch32 .entry))) (length (now (scratch64 .entry)))) (captured (now (dbm .entry)) rate t0 (floorOf Floor.Measured (now (dbm .entry)))) (now (events .entry)))
+        × capture.Free (captureAnswer (now (dbm .entry)) rate t0 Floor.Measured (length (now (events .entry))) (length (now (scratch32 .entry))) (length (now (scratch64 .entry)))) (now (scratch32 .entry)) (now (scratch32 .exit))
+        × capture.Free (captureAnswer (now (dbm .entry)) rate t0 Floor.Measured (length (now (events .entry))) (length (now (scratch32 .entry))) (length (now (scratch64 .entry)))) (now (scratch64 .entry)) (now (scratch64 .exit)) ⌝ }
+{
+    match demod::decode_capture(dbm, rate, t0, Floor::Measured, events, scratch32, scratch64) {
+        Captured::Refused(_) => 0,
+        Captured::Count(n) => n,
     }
 }

@@ -10,6 +10,7 @@ use lib.Dec.{eqb, leb}
 use lib.ListN.{length, drop, getD}
 use lib.Seq.{drop-cons, drop-length}
 use borrow.Author.Tests.{leb-true}
+use Rattle.limits.proofs.Samples.{and-assoc, and-true, and-right}
 use Rattle.coding.specs.Bits.{plus, odd, bitOf, areBits}
 
 sum-below : (x y : ℕ) → x < 2 → y < 2 → odd (x + y) ≡ plus (eqb x 1) (eqb y 1)
@@ -58,14 +59,6 @@ plus-twice false false = refl
 
 -- ---- bit bytes, passed one by one
 
-and-assoc : (a b c : Bool) → (a && b) && c ≡ a && (b && c)
-and-assoc true b c = refl
-and-assoc false b c = refl
-
-and-true : (a : Bool) → a && true ≡ a
-and-true true = refl
-and-true false = refl
-
 -- a turn of the loop that looks at each, and its end
 pub bits-turn : (ok : Bool) (l : List ℕ) (i : ℕ) (w : Bool) → i < length l → ok && areBits (drop i l) ≡ w
     → (ok && leb (getD l i 0) 1) && areBits (drop (i + 1) l) ≡ w
@@ -76,11 +69,6 @@ pub bits-end : (ok : Bool) (l : List ℕ) (i : ℕ) (w : Bool) → i ≡ length 
 unfolding areBits
 bits-end ok l i w e p = sym (and-true ok) ∙ rw (e, drop-length l) at p
 
-rest : (x y : Bool) → x && y ≡ true → y ≡ true
-rest true y e = e
-rest false true e = refl
-rest false false e = e
-
 pub bit-at : (l : List ℕ) (i : ℕ) → areBits l ≡ true → getD l i 0 < 2
 unfolding areBits
 bit-at [] i h = omega arith
@@ -89,14 +77,14 @@ bit-at (b ∷ l) zero h = first (leb b 1) (areBits l) (leb-true b 1) h
     first : (x y : Bool) → (x ≡ true → b ≤ 1) → x && y ≡ true → b < 2
     first true y f e = omega (arith, f refl)
     first false y f e = omega (arith, f e)
-bit-at (b ∷ l) (suc i) h = bit-at l i (rest (leb b 1) (areBits l) h)
+bit-at (b ∷ l) (suc i) h = bit-at l i (and-right (leb b 1) (areBits l) h)
 
 -- a part of bit bytes is one
 pub bits-drop : (n : ℕ) (l : List ℕ) → areBits l ≡ true → areBits (drop n l) ≡ true
 unfolding areBits
 bits-drop zero l h = h
 bits-drop (suc n) [] h = h
-bits-drop (suc n) (b ∷ l) h = bits-drop n l (rest (leb b 1) (areBits l) h)
+bits-drop (suc n) (b ∷ l) h = bits-drop n l (and-right (leb b 1) (areBits l) h)
 
 pub length-map-odd : (l : List ℕ) → length (map odd l) ≡ length l
 length-map-odd [] = refl

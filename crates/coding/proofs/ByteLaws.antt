@@ -10,6 +10,7 @@ use lib.Bits.{bitXor, xor-shr, xor-mod, xor-lt, xor-comm, xor-self, xor-zero-l, 
 use lib.Dec.{eqb}
 use lib.ListN.{length, replicate}
 use borrow.Author.Tests.{eqb-true, eqb-false}
+use Rattle.limits.proofs.Samples.{and-left, and-right}
 use Rattle.coding.specs.Bits.{plus, odd, digits, value}
 use Rattle.coding.specs.Crc.{onto, polynomial}
 use Rattle.coding.specs.Register.{step, run}
@@ -118,21 +119,12 @@ all-go : allBelow 256 ≡ true
 unfolding run step digits zeros
 all-go = refl
 
-go-first : (a b : Bool) → a && b ≡ true → a ≡ true
-go-first true b e = refl
-go-first false b e = e
-
-go-rest : (a b : Bool) → a && b ≡ true → b ≡ true
-go-rest true b e = e
-go-rest false true e = refl
-go-rest false false e = e
-
 below : (n : ℕ) → allBelow n ≡ true → (x : ℕ) → x < n → goes x ≡ true
 below zero t x h = absurd (omega arith)
-below (suc n) t x h = choose (eqb x n) (eqb-true x n) (eqb-false x n) (below n (go-rest (goes n) (allBelow n) t) x)
+below (suc n) t x h = choose (eqb x n) (eqb-true x n) (eqb-false x n) (below n (and-right (goes n) (allBelow n) t) x)
   where
     choose : (b : Bool) → (b ≡ true → x ≡ n) → (b ≡ false → x ≡ n → ⊥) → (x < n → goes x ≡ true) → goes x ≡ true
-    choose true f g r = ap goes (f refl) ∙ go-first (goes n) (allBelow n) t
+    choose true f g r = ap goes (f refl) ∙ and-left (goes n) (allBelow n) t
     choose false f g r = r (omega (arith, g refl))
 
 module _ (x : ℕ) (h : x < 256) where
@@ -149,13 +141,13 @@ module _ (x : ℕ) (h : x < 256) where
   third = eqb (run (x * 256) zeros) (folded x)
 
   own : run (x * 256) (digits 8 x) ≡ 0
-  own = eqb-true _ _ (go-first first (second && third) there)
+  own = eqb-true _ _ (and-left first (second && third) there)
 
   moves : run x zeros ≡ x * 256
-  moves = eqb-true _ _ (go-first second third (go-rest first (second && third) there))
+  moves = eqb-true _ _ (and-left second third (and-right first (second && third) there))
 
   comes-round : run (x * 256) zeros ≡ folded x
-  comes-round = eqb-true _ _ (go-rest second third (go-rest first (second && third) there))
+  comes-round = eqb-true _ _ (and-right second third (and-right first (second && third) there))
 
 -- ---- a byte more
 

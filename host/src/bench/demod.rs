@@ -2,11 +2,12 @@
 
 use super::Row;
 use crate::generate::load;
-use crate::rust::demod::{BIT_RATE, BurstOptions, burst_bits, find_bursts, find_dips, noise_floor};
+use crate::rust::demod::{BIT_RATE, BurstOptions, burst_bits, decode_capture, find_bursts, find_dips, noise_floor};
 
 const BUFFER_S: usize = 12;
 const DIPS: usize = 3000;
 const BITS: usize = 1024;
+const EVENTS: usize = 30_720;
 
 unsafe extern "C" {
     fn bench_noise_floor(dbm: *const f32, dbm_len: usize, scratch: *mut f32, scratch_len: usize) -> f32;
@@ -25,6 +26,18 @@ unsafe extern "C" {
         rate: u32,
         bits: *mut u8,
         bits_len: usize,
+        scratch32: *mut f32,
+        scratch32_len: usize,
+        scratch64: *mut f64,
+        scratch64_len: usize,
+    ) -> usize;
+    fn bench_capture(
+        dbm: *const f32,
+        dbm_len: usize,
+        rate: u32,
+        t0: f64,
+        events: *mut u8,
+        events_len: usize,
         scratch32: *mut f32,
         scratch32_len: usize,
         scratch64: *mut f64,
@@ -68,12 +81,30 @@ fn bits(seg: &[f32], rate: u32, bits: &mut [u8], scratch32: &mut [f32], scratch6
     }
 }
 
+fn capture(dbm: &[f32], rate: u32, events: &mut [u8], scratch32: &mut [f32], scratch64: &mut [f64]) -> usize {
+    unsafe {
+        bench_capture(
+            dbm.as_ptr(),
+            dbm.len(),
+            rate,
+            0.0,
+            events.as_mut_ptr(),
+            events.len(),
+            scratch32.as_mut_ptr(),
+            scratch32.len(),
+            scratch64.as_mut_ptr(),
+            scratch64.len(),
+        )
+    }
+}
+
 pub fn rows() -> Vec<Row> {
     let rates = [1000, 4000];
     let bursts = rates.map(bursts_row);
     let dips = rates.map(dips_row);
     let bits = rates.map(bits_row);
-    bursts.into_iter().chain(dips).chain(bits).collect()
+    let captures = rates.map(capture_row);
+    bursts.into_iter().chain(dips).chain(bits).chain(captures).collect()
 }
 
 const TIMES: usize = 100;
@@ -105,4 +136,15 @@ fn bits_row(rate: u32) -> Row {
     };
     assert_eq!(port(&seg), rust(&seg));
     Row::new(TIMES, format!("burst_bits, 12-byte frame, {rate}/s"), seg, rust, port)
+}
+
+fn capture_row(rate: u32) -> Row {
+    let dbm = load::samples(rate);
+    let rust = move |dbm: &Vec<f32>| decode_capture(dbm, rate, 0.0, None).len();
+    let port = move |dbm: &Vec<f32>| {
+        let mut scratch32 = vec![0.0; BUFFER_S * rate as usize];
+        capture(dbm, rate, &mut [0; EVENTS], &mut scratch32, &mut [0.0; DIPS])
+    };
+    assert_eq!(port(&dbm), rust(&dbm));
+    Row::new(TIMES, format!("decode_capture, 12 s, {rate}/s"), dbm, rust, port)
 }
