@@ -1,0 +1,78 @@
+// The lines of a call.
+use ledger::Pending;
+use receiver::SigfoxReceiver;
+use starts::Starts;
+use waiting::Waiting;
+
+fn print_starts(s: Starts) {
+    let n = s.count;
+    let mut i: usize = 0;
+    while i < starts::MOST_STARTS {
+        if i == n {
+            return;
+        }
+        replay::print(b" ");
+        replay::print_number(s.at[i]);
+        i += 1;
+    }
+}
+
+// Device, counter and the time of the frame that joined last.
+fn print_message(p: Pending) {
+    let m = p.message;
+    replay::print(b" ");
+    replay::print_hex(m.device_id as u64, 8);
+    replay::print(b":");
+    replay::print_number(m.counter as u64);
+    replay::print(b":");
+    replay::print_f64(p.last);
+}
+
+fn print_waiting(w: Waiting) {
+    let n = w.count;
+    let mut i: usize = 0;
+    while i < 168 {
+        if i == n {
+            return;
+        }
+        print_message(w.messages[i]);
+        i += 1;
+    }
+}
+
+fn print_field(n: u64) {
+    replay::print(b" ");
+    replay::print_number(n);
+}
+
+fn print_state(r: SigfoxReceiver) -> bool {
+    let starts = r.starts;
+    let waiting = r.waiting;
+    replay::print(b"S");
+    print_field(r.held as u64);
+    print_field(r.base);
+    print_field(r.unscanned as u64);
+    print_field(starts.count as u64);
+    print_starts(starts);
+    print_field(waiting.count as u64);
+    print_waiting(waiting);
+    replay::print_end()
+}
+
+// The call, its records, and the state.
+pub fn print_answer(
+    index: u64,
+    name: &[u8],
+    count: usize,
+    r: SigfoxReceiver,
+    events: &mut [u8; 30720],
+) -> bool {
+    replay::print(b"C");
+    print_field(index);
+    replay::print(b" ");
+    replay::print(name);
+    print_field(count as u64);
+    replay::print_end();
+    records::print_records(events, count);
+    print_state(r)
+}
