@@ -1,0 +1,4 @@
+// `listen` on no input.
+fn main() {
+    listening::run();
+}
