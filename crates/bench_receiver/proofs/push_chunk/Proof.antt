@@ -1,0 +1,64 @@
+-- `bench_receiver::push_chunk` meets its contract. Assumes nothing.
+use Prim.Native.Nat.{_-_, _≤_}
+use native.Mathlib.Omega.{arith}
+use lib.ListN.{length}
+use borrow.Author.Needs.{needs}
+use Rattle.bench_receiver.proofs.push_chunk.Statement.{statement}
+use Rattle.bench_receiver.proofs.push_chunk.Tie as tie
+
+abbrev Inv-loop : tie.InvT-loop
+Inv-loop raw step samples₀ events₀ scratch32₀ scratch64₀ t₀ at₀ samples events scratch32 scratch64 t at = at ≤ length raw
+
+abbrev μ-loop : tie.MeasureT-loop
+μ-loop raw step samples₀ events₀ scratch32₀ scratch64₀ t₀ at₀ samples events scratch32 scratch64 t at = length raw - at
+
+loop-holds : tie.Need-loop-holds Inv-loop μ-loop
+loop-holds c = search needs
+
+sub-least : tie.Need-sub-least Inv-loop μ-loop
+sub-least c = search needs
+
+least-requires : tie.Need-least-requires Inv-loop μ-loop
+least-requires c κs = search needs
+
+add-end : tie.Need-add-end Inv-loop μ-loop
+add-end c = search needs
+
+sub-push : tie.Need-sub-push Inv-loop μ-loop
+sub-push c = search needs
+
+part-push-start : tie.Need-part-push-start Inv-loop μ-loop
+part-push-start c = search needs
+
+part-push-end : tie.Need-part-push-end Inv-loop μ-loop
+part-push-end c = search needs
+
+push-requires : tie.Need-push-requires Inv-loop μ-loop
+push-requires c κs = search needs
+
+loop-less : tie.Need-loop-less Inv-loop μ-loop
+loop-less c = search needs
+
+loop-again : tie.Need-loop-again Inv-loop μ-loop
+loop-again c = search needs
+
+returns : tie.Need-returns Inv-loop μ-loop
+returns c = search needs
+
+pub push-chunk-spec : {M : Type 1} → statement M
+push-chunk-spec =
+    tie.close
+    (tie.spec
+    Inv-loop
+    μ-loop
+    loop-holds
+    sub-least
+    least-requires
+    add-end
+    sub-push
+    part-push-start
+    part-push-end
+    push-requires
+    loop-less
+    loop-again
+    returns)

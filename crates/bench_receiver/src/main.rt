@@ -1,0 +1,110 @@
+// What `host/bench` measures of the receiver: raw samples in pushes of one size, then a flush; it prints how many records there were.
+ghost use Prim.Native.Nat.{_<_};
+use libc::STDIN_FILENO;
+use receiver::Received;
+use receiver::SigfoxReceiver;
+
+// Between two pushes: the receiver, how many records it wrote, and the refusal of the last call or 0.
+struct State {
+    receiver: SigfoxReceiver,
+    records: u64,
+    refused: u8,
+}
+
+fn after(s: State, r: Received) -> State {
+    let receiver = r.receiver;
+    State {
+        receiver,
+        records: std::num::wrapping_add_u64(s.records, r.count as u64),
+        refused: r.refused,
+    }
+}
+
+// The next samples of a chunk, `step` of them or what is left.
+fn push(
+    s: State,
+    raw: &[u8],
+    samples: &mut [f32; 48000],
+    events: &mut [u8; 30720],
+    scratch32: &mut [f32; 48000],
+    scratch64: &mut [f64; 3000],
+) -> State {
+    let receiver = s.receiver;
+    after(
+        s,
+        receiver.push_raw(raw, samples, events, scratch32, scratch64),
+    )
+}
+
+fn flush(
+    s: State,
+    samples: &mut [f32; 48000],
+    events: &mut [u8; 30720],
+    scratch32: &mut [f32; 48000],
+    scratch64: &mut [f64; 3000],
+) -> State {
+    let receiver = s.receiver;
+    after(s, receiver.flush(samples, events, scratch32, scratch64))
+}
+
+fn push_chunk(
+    s: State,
+    raw: &[u8],
+    step: usize,
+    samples: &mut [f32; 48000],
+    events: &mut [u8; 30720],
+    scratch32: &mut [f32; 48000],
+    scratch64: &mut [f64; 3000],
+) -> State
+    requires { ⌜ 0 < step ⌝ }
+{
+    let mut t = s;
+    let mut at: usize = 0;
+    while at < raw.len() {
+        let n = dips::least(step, raw.len() - at);
+        let end = at + n;
+        t = push(t, &raw[at..end], samples, events, scratch32, scratch64);
+        at = end;
+    }
+    t
+}
+
+fn main() {
+    let mut samples = [0.0f32; 48000];
+    let mut events = [0u8; 30720];
+    let mut scratch32 = [0.0f32; 48000];
+    let mut scratch64 = [0.0f64; 3000];
+    let mut head = [0u8; 8];
+    let whole = replay::read_part(&mut head);
+    let receiver = SigfoxReceiver::new(endian::get_u32(&head, 0));
+    let step = endian::get_u32(&head, 4) as usize;
+    let mut s = State {
+        receiver,
+        records: 0,
+        refused: 0,
+    };
+    let mut left = replay::MOST_CASES;
+    let mut more = whole & (0 < step);
+    while left > 0 && more {
+        let mut raw = [0u8; 48000];
+        let n = io::read_full(STDIN_FILENO, &mut raw);
+        if 0 < step && n <= 48000 {
+            s = push_chunk(
+                s,
+                &raw[..n],
+                step,
+                &mut samples,
+                &mut events,
+                &mut scratch32,
+                &mut scratch64,
+            );
+        }
+        more = n == 48000;
+        left -= 1;
+    }
+    s = flush(s, &mut samples, &mut events, &mut scratch32, &mut scratch64);
+    replay::print_number(s.records);
+    replay::print(b" ");
+    replay::print_number(s.refused as u64);
+    replay::print_end();
+}
