@@ -1,13 +1,7 @@
 -- The constants of the code, as the check has them, by bit patterns, are those of specs. Assumes nothing.
 use mathlib.Core.Path.{_≡_, refl}
 use lib.Ieee.{binary64, round, ofInt, ofBits}
-use Rattle.floats.specs.Number.{num}
-use Rattle.rates.specs.Numbers.{bitRate}
 use Rattle.clock.specs.Numbers.{offGrid, endDb, million}
-
-pub bit-rate-is : ofBits binary64 0x4059_0000_0000_0000 ≡ num bitRate
-unfolding ofBits ofInt round
-bit-rate-is = refl
 
 pub off-grid-is : ofBits binary64 0x3fd6_6666_6666_6666 ≡ offGrid
 unfolding ofBits round

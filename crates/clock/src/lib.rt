@@ -16,8 +16,6 @@ ghost use Rattle.clock.specs.Tracked.{Tracked};
 ghost use Rattle.clock.specs.Walk.{heads, walked, places, Ready};
 ghost use Rattle.clock.specs.Bits.{lastHigh, endIndex, ppmOf, clocked, outcome, told, handed, bitsAnswer, bitsLeft, Free};
 
-const BIT_RATE: f64 = 100.0;
-
 // The level of a burst is the value at nine tenths of its sorted samples: floor(len * 0.9) is the whole part of 9 * len / 10.
 const LEVEL_TENTHS: usize = 9;
 
@@ -74,7 +72,7 @@ pub enum Fit {
 fn nominal_of(rate: u32) -> f64
     ensures { λ r. ⌜ r ≡ nominalOf rate ⌝ }
 {
-    (rate as f64) / BIT_RATE
+    (rate as f64) / (dips::BIT_RATE as f64)
 }
 
 fn angle_of(nominal: f64, d0: f64, d: f64) -> f64

@@ -21,6 +21,10 @@ use Rattle.clock.specs.Bits as bits
 use Rattle.demod.specs.declared.DecodedFrame.{DecodedFrame}
 use Rattle.demod.specs.declared.BurstFrame.{BurstFrame}
 
+-- 0.02 s in samples, at the highest rate
+abbrev pub widestPad : ℕ
+widestPad = 80
+
 -- the frame of an answer that has none, and such answers
 abbrev pub blankDecoded : DecodedFrame
 blankDecoded = record { frame = blankFrame; time = num 0; end = num 0; rssi = num 0; «clock_error_ppm» = pos 0 }

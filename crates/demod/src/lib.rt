@@ -11,7 +11,7 @@ ghost use Rattle.rates.specs.Rates.{padOf};
 ghost use Rattle.record.specs.Record.{frameRecord};
 ghost use Rattle.bursts.specs.Levels.{noiseFloor};
 ghost use Rattle.clock.specs.Bits.{outcome};
-ghost use Rattle.demod.specs.Decode.{without, timeAt, withBurst, heardIn, decodeBurst, timeOk, burstOk, decodeAnswer};
+ghost use Rattle.demod.specs.Decode.{widestPad, without, timeAt, withBurst, heardIn, decodeBurst, timeOk, burstOk, decodeAnswer};
 ghost use Rattle.demod.specs.Decode as decode;
 ghost use Rattle.demod.specs.Capture.{floorOf, floorOk, receptionOf, recordOf, captured, joined, captureAnswer, captureLeft};
 ghost use Rattle.demod.specs.Capture as capture;
@@ -106,12 +106,15 @@ fn decode_segment(
     }
 }
 
-// 0.02 s on both sides: round(rate * 0.02), as a whole number.
+// A burst's segment reaches 0.02 s past it on both sides: a fiftieth of a second.
+const PAD_PART: u32 = 50;
+
+// round(rate * 0.02), as a whole number.
 fn margin(rate: u32) -> usize
     requires { ⌜ (lowestRate ≤ rate) × (rate ≤ highestRate) ⌝ }
-    ensures { λ r. ⌜ (r ≡ padOf rate) × (r ≤ 80) ⌝ }
+    ensures { λ r. ⌜ (r ≡ padOf rate) × (r ≤ widestPad) ⌝ }
 {
-    ((rate + 25) / 50) as usize
+    ((rate + PAD_PART / 2) / PAD_PART) as usize
 }
 
 fn greatest(a: usize, b: usize) -> usize

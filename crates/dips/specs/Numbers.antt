@@ -15,6 +15,13 @@ dimDb = num 25
 abbrev pub lowestSide : Float
 lowestSide = neg (num 200)
 
+-- 1.5 and 0.4 bits in samples, at the highest rate
+abbrev pub widestSide : ℕ
+widestSide = 60
+
+abbrev pub widestHalf : ℕ
+widestHalf = 16
+
 -- no 12 s of samples have more dips
 abbrev pub mostDips : ℕ
 mostDips = 2906

@@ -9,7 +9,7 @@ ghost use Rattle.floats.specs.Fold.{maxFrom};
 ghost use Rattle.limits.specs.Limits.{lowestRate, highestRate, bufferS, mostSamples, scratch64};
 ghost use Rattle.limits.specs.Samples.{allDbm};
 ghost use Rattle.rates.specs.Rates.{winOf, halfOf};
-ghost use Rattle.dips.specs.Numbers.{lowestSide, mostDips};
+ghost use Rattle.dips.specs.Numbers.{lowestSide, widestSide, widestHalf, mostDips};
 ghost use Rattle.dips.specs.Dips.{sides, against, neighbours, isDip, centre, dipsOf, Written, dipAnswer, dipsAfter};
 
 // A dip lies strictly more than DIP_DB under the lower side, and the higher side at most DIM_DB under the level.
@@ -19,6 +19,18 @@ const DIM_DB: f64 = 25.0;
 
 // No side has a lower level.
 const LOWEST_SIDE: f32 = -200.0;
+
+// Bits in a second.
+pub const BIT_RATE: u32 = 100;
+
+// A side is 1.5 bits, three halves of one, and a dip the lowest sample within 0.4 bits, two fifths.
+const SIDE_HALVES: u32 = 3;
+
+const SIDE_UNIT: u32 = 2 * BIT_RATE;
+
+const HALF_FIFTHS: u32 = 2;
+
+const HALF_UNIT: u32 = 5 * BIT_RATE;
 
 // What `find_dips` answers.
 pub enum DipCount {
@@ -132,20 +144,20 @@ fn dip_centre(seg: &[f32], i: usize) -> f64
     floats::count_as_f64(i) + floats::pick64(denom != 0.0, 0.5 * (a - c) / denom, 0.0)
 }
 
-// 1.5 bits: round(nominal * 1.5), as a whole number.
+// round(nominal * 1.5), as a whole number.
 fn side_window(rate: u32) -> usize
     requires { ⌜ (lowestRate ≤ rate) × (rate ≤ highestRate) ⌝ }
-    ensures { λ r. ⌜ (r ≡ winOf rate) × (r ≤ 60) ⌝ }
+    ensures { λ r. ⌜ (r ≡ winOf rate) × (r ≤ widestSide) ⌝ }
 {
-    ((3 * rate + 100) / 200) as usize
+    ((SIDE_HALVES * rate + SIDE_UNIT / 2) / SIDE_UNIT) as usize
 }
 
-// 0.4 bits: round(nominal * 0.4), as a whole number.
+// round(nominal * 0.4), as a whole number.
 fn half_window(rate: u32) -> usize
     requires { ⌜ (lowestRate ≤ rate) × (rate ≤ highestRate) ⌝ }
-    ensures { λ r. ⌜ (r ≡ halfOf rate) × (0 < r) × (r ≤ 16) × (bufferS * rate ≤ mostDips * (r + 1) + 2) ⌝ }
+    ensures { λ r. ⌜ (r ≡ halfOf rate) × (0 < r) × (r ≤ widestHalf) × (bufferS * rate ≤ mostDips * (r + 1) + 2) ⌝ }
 {
-    ((2 * rate + 250) / 500) as usize
+    ((HALF_FIFTHS * rate + HALF_UNIT / 2) / HALF_UNIT) as usize
 }
 
 // The dips of valid samples into the front of a slice; a dip leaves no room for another in its half window.
