@@ -7,6 +7,7 @@ mod frame;
 #[cfg(has_bench)]
 mod order;
 mod programs;
+mod receiver;
 mod tracker;
 
 use std::hint::black_box;

@@ -4,7 +4,7 @@ use std::fs::{self, File};
 use std::path::{Path, PathBuf};
 use std::process::{Command, Stdio};
 
-use super::{Row, tracker};
+use super::{Row, receiver, tracker};
 use crate::compare::{program, root};
 use crate::generate::load::{Load, loads};
 
@@ -13,6 +13,7 @@ pub fn rows() -> Result<Vec<Row>, String> {
     fs::create_dir_all(&folder).map_err(|e| format!("{}: {e}", folder.display()))?;
     let oracle = std::env::current_exe().map_err(|e| e.to_string())?;
     let mut rows = tracker::rows(&folder)?;
+    rows.extend(receiver::rows(&folder)?);
     for (i, load) in loads().iter().enumerate() {
         rows.push(row(&folder, i, load, &oracle)?);
     }

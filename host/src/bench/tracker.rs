@@ -45,7 +45,8 @@ fn row(folder: &Path, all: bool, calls: &str, stream: Vec<u8>) -> Result<Row, St
     })
 }
 
-fn run(program: &Path, input: &Path) -> String {
+/// What a program prints for an input.
+pub fn run(program: &Path, input: &Path) -> String {
     let stdin = File::open(input).expect("the input was written");
     let output = Command::new(program).stdin(stdin).output();
     let output = output.expect("the program can be run");

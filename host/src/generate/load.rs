@@ -43,11 +43,16 @@ pub fn records(seconds: usize) -> Vec<u8> {
     listen::stream(&mut Rng::new(1), seconds, 0.0).bytes
 }
 
-/// Raw pushes of n samples, from scenes of 30 s one after the other.
-fn events(label: &'static str, rate: u32, seconds: usize, n: usize) -> Load {
+/// Raw samples, from scenes of 30 s one after the other.
+pub fn air(rate: u32, seconds: usize) -> Vec<u8> {
     let mut rng = Rng::new(u64::from(rate));
     let scenes = (0..seconds / 30).map(|_| signal::scene(&mut rng, rate, 30 * rate as usize));
-    let raw: Vec<u8> = scenes.flat_map(|air: Air| air.raw()).collect();
+    scenes.flat_map(|air: Air| air.raw()).collect()
+}
+
+/// Raw pushes of n samples.
+fn events(label: &'static str, rate: u32, seconds: usize, n: usize) -> Load {
+    let raw = air(rate, seconds);
     let calls = raw.chunks(n).fold(Calls::new(rate), Calls::push_raw);
     Load {
         label,
