@@ -24,7 +24,7 @@ use Rattle.starts.specs.Starts as starts
 use Rattle.waiting.specs.Waiting as waiting
 use Rattle.receiver.specs.State.{ledgerOf, countsOf}
 use Rattle.receiver.specs.Calls.{Memory, lengthsOf, refusalOf, recordsOf, stateAfter, samplesAfter, Free, Answered}
-use Rattle.receiver.specs.Running.{Passes, Does}
+use Rattle.receiver.specs.Running.{Passes, Answers}
 use Rattle.receiver.specs.declared.SigfoxReceiver.{SigfoxReceiver}
 use Rattle.receiver.specs.declared.Received.{Received}
 use Rattle.receiver.proofs.StateLaws.{numbersOk, numbers-fit, orderly-is}
@@ -137,7 +137,7 @@ module _ (s : SigfoxReceiver) (c : Call) (m : Memory) where
         scratch64 = free-kept (refusalOf s c m) (m .scratch64) k;
       }
 
-  pub answered-yes : (r : Received) (t : Memory) → refusalOf s c m ≡ 0 → Does s c (m .samples) (m .events) r (t .samples) (t .events) → Answered s c m t r
+  pub answered-yes : (r : Received) (t : Memory) → refusalOf s c m ≡ 0 → Answers s c (m .samples) (m .events) r (t .samples) (t .events) → Answered s c m t r
   unfolding callEvents stateAfter Free
   answered-yes r t e d =
       record {

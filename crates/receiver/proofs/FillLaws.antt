@@ -149,8 +149,7 @@ midway-as l k old s w n e a b c m =
 
 module _ (rate : ℕ) (xs : List Float) (w : Ledger byEntry) (b : Buffer) (old : List ℕ) where
   -- `from` samples are in; f is what the filling under way does yet with the ledger, and 2 × unscanned is below `most`
-  pub record Midst (f : Ledger byEntry → Ledger byEntry) (most : ℕ) (samples : List Float) (events : List ℕ) (held base unscanned : ℕ) (starts : Starts) (waiting : Waiting)
-      (count from : ℕ) : Type 0 where
+  pub record Midst (f : Ledger byEntry → Ledger byEntry) (most : ℕ) (samples : List Float) (events : List ℕ) (held base unscanned : ℕ) (t : Scanned) (from : ℕ) : Type 0 where
     pub ledger : Ledger byEntry
     pub inside : from ≤ length xs
     pub places : capacity rate ≤ length samples
@@ -162,21 +161,21 @@ module _ (rate : ℕ) (xs : List Float) (w : Ledger byEntry) (b : Buffer) (old :
     pub quiet : 2 * unscanned < most
     pub valid : allDbm (ledger .held) ≡ true
     pub stream : base + held + length xs ≤ longestStream + from
-    pub midway : Midway ledger old starts waiting count events
-    pub within : Within (record { starts = starts; waiting = waiting; count = count })
+    pub midway : Midway ledger old (t .starts) (t .waiting) (t .count) events
+    pub within : Within t
     pub rest : fillsIf rate (demodOf rate) (length xs) (f ledger) (drop from xs) ≡ w
     pub buffer : allFilled rate (length xs) (record { held = held; places = samples }) (drop from xs) ≡ b
 
   -- a filling is to begin
-  abbrev pub FillAt : List Float → List ℕ → ℕ → ℕ → ℕ → Starts → Waiting → ℕ → ℕ → Type 0
+  abbrev pub FillAt : List Float → List ℕ → ℕ → ℕ → ℕ → Scanned → ℕ → Type 0
   FillAt = Midst (λ l. l) rate
 
   -- its samples are in, and a scan may be due
-  abbrev pub FilledAt : List Float → List ℕ → ℕ → ℕ → ℕ → Starts → Waiting → ℕ → ℕ → Type 0
+  abbrev pub FilledAt : List Float → List ℕ → ℕ → ℕ → ℕ → Scanned → ℕ → Type 0
   FilledAt = Midst (dueIf rate (demodOf rate)) (25 * rate)
 
-  module _ (samples : List Float) (events : List ℕ) (held base unscanned : ℕ) (starts : Starts) (waiting : Waiting) (count from : ℕ) where
-    module _ (lo : lowestRate ≤ rate) (ok : allDbm xs ≡ true) (m : FillAt samples events held base unscanned starts waiting count from) (h : from < length xs) where
+  module _ (samples : List Float) (events : List ℕ) (held base unscanned : ℕ) (t : Scanned) (from : ℕ) where
+    module _ (lo : lowestRate ≤ rate) (ok : allDbm xs ≡ true) (m : FillAt samples events held base unscanned t from) (h : from < length xs) where
       abbrev left : ℕ
       left = leftHeld rate held
 
@@ -199,7 +198,7 @@ module _ (rate : ℕ) (xs : List Float) (w : Ledger byEntry) (b : Buffer) (old :
           let k : length coming ≡ length xs - from = length-drop from xs in
           (omega arith, omega arith, omega arith, left-le rate held)
 
-      filled-at : FilledAt (paste moved left coming n) events (left + n) (base + (held - left)) (unscanned + n) starts waiting count (from + n)
+      filled-at : FilledAt (paste moved left coming n) events (left + n) (base + (held - left)) (unscanned + n) t (from + n)
       unfolding add fillIf filled
       filled-at =
           let l = m .ledger in
@@ -225,7 +224,7 @@ module _ (rate : ℕ) (xs : List Float) (w : Ledger byEntry) (b : Buffer) (old :
             quiet = omega (arith, m .quiet, z);
             valid = valid-join (k .held) (take (amount rate k coming) coming) (r .valid (m .valid)) (all-take (amount rate k coming) coming (all-drop from xs ok));
             stream = omega (arith, m .stream, z);
-            midway = midway-as l (add rate k coming) old starts waiting count events (r .starts) (r .waiting) (r .heard) (m .midway);
+            midway = midway-as l (add rate k coming) old (t .starts) (t .waiting) (t .count) events (r .starts) (r .waiting) (r .heard) (m .midway);
             within = m .within;
             rest = ledger-turn rate (demodOf rate) pos l w xs from n (rw e (m .fits)) h a (m .rest);
             buffer = buffer-turn rate pos (record { held = held; places = samples }) (record { held = left + n; places = paste moved left coming n }) b xs from n (m .fits) h refl refl (m .buffer);
@@ -240,15 +239,15 @@ module _ (rate : ℕ) (xs : List Float) (w : Ledger byEntry) (b : Buffer) (old :
           (omega arith, omega arith, omega arith, omega arith, omega (arith, m .quiet))
 
       pub fill-turn : (rest k : ℕ) (one two : List Float) → rest ≡ leftHeld rate held → one ≡ leftPlaces rate held samples → k ≡ buffer.room rate rest coming
-          → two ≡ paste one rest coming k → FilledAt two events (rest + k) (base + (held - rest)) (unscanned + k) starts waiting count (from + k)
+          → two ≡ paste one rest coming k → FilledAt two events (rest + k) (base + (held - rest)) (unscanned + k) t (from + k)
       fill-turn rest k one two e f g i =
           let gg : k ≡ n = g ∙ ap (λ (x : ℕ). buffer.room rate x coming) e in
           let ii : two ≡ paste moved left coming n = i ∙ rw (f, e, gg) refl in
           rw (ii, gg, e) filled-at
 
-    module _ (m : FilledAt samples events held base unscanned starts waiting count from) where
+    module _ (m : FilledAt samples events held base unscanned t from) where
       -- no scan is due
-      pub fill-still : 2 * unscanned < rate → FillAt samples events held base unscanned starts waiting count from
+      pub fill-still : 2 * unscanned < rate → FillAt samples events held base unscanned t from
       unfolding dueIf
       fill-still h =
           record {
@@ -272,9 +271,9 @@ module _ (rate : ℕ) (xs : List Float) (w : Ledger byEntry) (b : Buffer) (old :
           }
 
       -- what a scan asks
-      pub scan-asks : (scratch : List Float) (wait : ℕ) → wait ≡ tail rate → lowestRate ≤ rate → rate ≤ highestRate → scratch64 ≤ length scratch
-          → Lent rate base wait (take held samples) events scratch × Within (record { starts = starts; waiting = waiting; count = count })
-      scan-asks scratch wait i lo hi q =
+      pub scan-asks : (scratch : List Float) → lowestRate ≤ rate → rate ≤ highestRate → scratch64 ≤ length scratch
+          → Lent rate base (tail rate) (take held samples) events scratch × Within t
+      scan-asks scratch lo hi q =
           let e : length (take held samples) ≡ held = length-take-le held samples (omega (arith, m .fits, m .places)) in (
             record {
               lowest = lo;
@@ -290,11 +289,11 @@ module _ (rate : ℕ) (xs : List Float) (w : Ledger byEntry) (b : Buffer) (old :
           )
 
       -- a scan is due
-      pub fill-scanned : rate ≤ 2 * unscanned → lowestRate ≤ rate → (t : Scanned) (after : List ℕ) (wait : ℕ) → wait ≡ tail rate → length after ≡ length events
-          → Does (scanIf rate (demodOf rate) wait) (take held samples) base (record { starts = starts; waiting = waiting; count = count }) events t after
-          → FillAt samples after held base 0 (t .starts) (t .waiting) (t .count) from
+      pub fill-scanned : rate ≤ 2 * unscanned → lowestRate ≤ rate → (u : Scanned) (after : List ℕ) → length after ≡ length events
+          → Does (scanIf rate (demodOf rate) (tail rate)) (take held samples) base t events u after
+          → FillAt samples after held base 0 u from
       unfolding dueIf scanned
-      fill-scanned h lo t after wait i size s =
+      fill-scanned h lo u after size s =
           let l = scanned (m .ledger) in
           let k = scanIf rate (demodOf rate) (tail rate) l in
           let z = scan-if-still rate (demodOf rate) (tail rate) l in
@@ -311,7 +310,7 @@ module _ (rate : ℕ) (xs : List Float) (w : Ledger byEntry) (b : Buffer) (old :
             valid = rw (z .held) (m .valid);
             stream = m .stream;
             midway =
-                rw (← i) (s .midway l old (sym (m .holds)) (sym (m .based)) (midway-as (m .ledger) l old starts waiting count events refl refl refl (m .midway)));
+                s .midway l old (sym (m .holds)) (sym (m .based)) (midway-as (m .ledger) l old (t .starts) (t .waiting) (t .count) events refl refl refl (m .midway));
             within = s .within;
             rest =
                 let q : leb rate (2 * m .ledger .unscanned) ≡ true = le-leb rate (2 * m .ledger .unscanned) (rw (← m .unseen) h) in

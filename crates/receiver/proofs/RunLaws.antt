@@ -30,22 +30,21 @@ use Rattle.waiting.specs.Waiting.{waitingOf, leaves}
 use Rattle.waiting.specs.Waiting as waiting
 use Rattle.waiting.specs.declared.Waiting.{Waiting}
 use Rattle.scan.specs.Midway.{Midway, Lent, Within, Does, AllSized}
-use Rattle.scan.specs.declared.Scanned as scan
+use Rattle.scan.specs.declared.Scanned.{Scanned}
 use Rattle.closing.specs.Written.{Sized, written}
 use Rattle.receiver.specs.State.{ledgerOf, stateOf}
 use Rattle.receiver.specs.Calls.{samplesAfter}
-use Rattle.receiver.specs.Running.{Heard, Passes, Under, Closable, EndsBy, Ended}
+use Rattle.receiver.specs.Running.{Passes, Under, Closable, EndsBy, Ended}
 use Rattle.receiver.specs.declared.SigfoxReceiver.{SigfoxReceiver}
 use Rattle.receiver.proofs.FillLaws.{FillAt, ledger-end, buffer-end, scan-if-still}
 
 -- ---- a call's scans
 
 -- the scans of the call c on the state s are done
-pub record Scanned (s : SigfoxReceiver) (c : Call) (before : List Float) (old : List ℕ) (h : Heard) (after : List Float) (now : List ℕ) : Type 0 where
-  pub rate : h .receiver .rate ≡ s .rate
-  pub starts : h .receiver .starts .count ≤ mostStarts
-  pub waiting : h .receiver .waiting .count ≤ openPlaces
-  pub under : Under (scans (s .rate) (demodOf (s .rate)) (ledgerOf s before) c) old h now
+pub record Done (s : SigfoxReceiver) (c : Call) (before : List Float) (old : List ℕ) (held base unscanned : ℕ) (t : Scanned) (after : List Float) (now : List ℕ) : Type 0 where
+  pub starts : t .starts .count ≤ mostStarts
+  pub waiting : t .waiting .count ≤ openPlaces
+  pub under : Under (scans (s .rate) (demodOf (s .rate)) (ledgerOf s before) c) old held base unscanned t now
   pub samples : after ≡ samplesAfter s c before 0
 
 module _ (s : SigfoxReceiver) (samples : List Float) (old : List ℕ) (scratch : List Float) where
@@ -83,7 +82,7 @@ module _ (s : SigfoxReceiver) (samples : List Float) (old : List ℕ) (scratch :
     abbrev pub lastBuffer : Buffer
     lastBuffer = allFilled rate (length xs) (record { held = s .held; places = samples }) xs
 
-    pub fill-start : Passes s (push xs) samples old scratch → FillAt rate xs allIn lastBuffer old samples old (s .held) (s .base) (s .unscanned) (s .starts) (s .waiting) 0 0
+    pub fill-start : Passes s (push xs) samples old scratch → FillAt rate xs allIn lastBuffer old samples old (s .held) (s .base) (s .unscanned) (record { starts = s .starts; waiting = s .waiting; count = 0 }) 0
     unfolding scansIf startCall
     fill-start p =
         let e = held-is (push xs) p in
@@ -105,24 +104,23 @@ module _ (s : SigfoxReceiver) (samples : List Float) (old : List ℕ) (scratch :
           buffer = refl;
         }
 
-    pub fill-end : (places : List Float) (now : List ℕ) (held base unscanned : ℕ) (a : Starts) (b : Waiting) (count from : ℕ)
-        → FillAt rate xs allIn lastBuffer old places now held base unscanned a b count from → length xs ≤ from
-        → Scanned s (push xs) samples old (record { receiver = record { rate = rate; held = held; base = base; unscanned = unscanned; starts = a; waiting = b }; count = count }) places now
+    pub fill-end : (places : List Float) (now : List ℕ) (held base unscanned : ℕ) (t : Scanned) (from : ℕ)
+        → FillAt rate xs allIn lastBuffer old places now held base unscanned t from → length xs ≤ from
+        → Done s (push xs) samples old held base unscanned t places now
     unfolding samplesAfter
-    fill-end places now held base unscanned a b count from m h =
+    fill-end places now held base unscanned t from m h =
         let q : from ≡ length xs = omega (arith, m .inside) in
         let e : m .ledger ≡ allIn = ledger-end rate (demodOf rate) (m .ledger) allIn xs from q (m .rest) in
         let f = buffer-end rate (record { held = held; places = places }) lastBuffer xs from q (m .buffer) in
         record {
-          rate = refl;
           starts = m .within .starts;
           waiting = m .within .waiting;
           under =
               rw (← e)
               (record {
-                held = sym (held-length rate held places (m .ledger) (m .fits) (m .places) (m .holds));
-                base = m .based;
-                unscanned = m .unseen;
+                holds = sym (held-length rate held places (m .ledger) (m .fits) (m .places) (m .holds));
+                based = m .based;
+                unseen = m .unseen;
                 midway = m .midway;
               });
           samples = ap (λ (x : Buffer). x .places) f;
@@ -147,22 +145,21 @@ module _ (s : SigfoxReceiver) (samples : List Float) (old : List ℕ) (scratch :
           begins flush p,
         )
 
-    pub flush-end : (t : scan.Scanned) (now : List ℕ) → Does (scanIf rate (demodOf rate) 0) (take (s .held) samples) (s .base) (record { starts = s .starts; waiting = s .waiting; count = 0 }) old t now
-        → Scanned s flush samples old (record { receiver = record { rate = rate; held = s .held; base = s .base; unscanned = s .unscanned; starts = t .starts; waiting = t .waiting }; count = t .count }) samples now
+    pub flush-end : (t : Scanned) (now : List ℕ) → Does (scanIf rate (demodOf rate) 0) (take (s .held) samples) (s .base) (record { starts = s .starts; waiting = s .waiting; count = 0 }) old t now
+        → Done s flush samples old (s .held) (s .base) (s .unscanned) t samples now
     unfolding scansIf startCall samplesAfter
     flush-end t now d =
         let l = ledgerOf s samples in
         let z = scan-if-still rate (demodOf rate) 0 l in
         record {
-          rate = refl;
           starts = d .within .starts;
           waiting = d .within .waiting;
           under =
               rw (← uncapped flush p)
               (record {
-                held = held-is flush p ∙ ap length (sym (z .held));
-                base = sym (z .base);
-                unscanned = sym (z .unscanned);
+                holds = held-is flush p ∙ ap length (sym (z .held));
+                based = sym (z .base);
+                unseen = sym (z .unscanned);
                 midway = d .midway l old refl refl start;
               });
           samples = refl;
@@ -191,69 +188,65 @@ others-are : (rate : ℕ) (c : Call) (all : Bool) (l : Ledger byEntry) (t : Floa
     → others (ready byEntry c (now rate l)) (l .waiting) ≡ others (leaves all t) (l .waiting)
 others-are rate c all l t k e = rw e (ap (λ (f : Pending → Bool). others f (l .waiting)) (k (now rate l)))
 
-module _ (l : Ledger byEntry) (old : List ℕ) (h : Heard) (bytes : List ℕ) (u : Under l old h bytes) where
+module _ (rate : ℕ) (l : Ledger byEntry) (old : List ℕ) (held base unscanned : ℕ) (t : Scanned) (bytes : List ℕ) (u : Under l old held base unscanned t bytes) where
   -- "Now is (base + held)/rate"
-  time-is : seconds (h .receiver .rate) (h .receiver .base + h .receiver .held) ≡ now (h .receiver .rate) l
+  abbrev time : Float
+  time = seconds rate (base + held)
+
+  time-is : time ≡ now rate l
   unfolding now
-  time-is = rw (u .held, u .base) refl
+  time-is = rw (u .holds, u .based) refl
 
   module _ (c : Call) (all : Bool) (k : EndsBy c all) where
-    leaving : written all (seconds (h .receiver .rate) (h .receiver .base + h .receiver .held)) (waitingOf (h .receiver .waiting))
-        ≡ map recordOf (map (eventOf byEntry) (messages (h .receiver .rate) c l))
-    leaving =
-        let t = seconds (h .receiver .rate) (h .receiver .base + h .receiver .held) in
-        rw (u .midway .waiting, messages-are (h .receiver .rate) c all l t k time-is) refl
+    abbrev leaving : List (List ℕ)
+    leaving = written all time (waitingOf (t .waiting))
 
-    records-are : map recordOf (events (h .receiver .rate) c l)
-        ≡ map recordOf (map ofFrame (l .heard)) ++ written all (seconds (h .receiver .rate) (h .receiver .base + h .receiver .held)) (waitingOf (h .receiver .waiting))
-    records-are = map-join recordOf (map ofFrame (l .heard)) (map (eventOf byEntry) (messages (h .receiver .rate) c l)) ∙ rw leaving refl
+    leaving-are : leaving ≡ map recordOf (map (eventOf byEntry) (messages rate c l))
+    leaving-are = rw (u .midway .waiting, messages-are rate c all l time k time-is) refl
+
+    records-are : map recordOf (events rate c l) ≡ map recordOf (map ofFrame (l .heard)) ++ leaving
+    records-are = map-join recordOf (map ofFrame (l .heard)) (map (eventOf byEntry) (messages rate c l)) ∙ rw leaving-are refl
 
     module _ (n : ℕ) (now : List ℕ)
-        (w : (rs : List (List ℕ)) (was : List ℕ) → Sized rs → h .count ≡ length rs → bytes ≡ withRecords rs was
-        → (n ≡ length (rs ++ written all (seconds (h .receiver .rate) (h .receiver .base + h .receiver .held)) (waitingOf (h .receiver .waiting))))
-        × (now ≡ withRecords (rs ++ written all (seconds (h .receiver .rate) (h .receiver .base + h .receiver .held)) (waitingOf (h .receiver .waiting))) was)) where
-      wrote : (n ≡ length (map recordOf (events (h .receiver .rate) c l))) × (now ≡ withRecords (map recordOf (events (h .receiver .rate) c l)) old)
+        (w : (rs : List (List ℕ)) (was : List ℕ) → Sized rs → t .count ≡ length rs → bytes ≡ withRecords rs was
+        → (n ≡ length (rs ++ written all (seconds rate (base + held)) (waitingOf (t .waiting))))
+        × (now ≡ withRecords (rs ++ written all (seconds rate (base + held)) (waitingOf (t .waiting))) was)) where
+      wrote : (n ≡ length (map recordOf (events rate c l))) × (now ≡ withRecords (map recordOf (events rate c l)) old)
       wrote =
           rw records-are
           (w (map recordOf (map ofFrame (l .heard))) old (sized (map recordOf (map ofFrame (l .heard))) (u .midway .sized))
           (u .midway .count ∙ sym (length-map (map ofFrame (l .heard)) recordOf ∙ length-map (l .heard) ofFrame)) (u .midway .events))
 
-      pub ended : (a : Starts) (b : Waiting) → a ≡ starts.cleared (starts.remembered (h .receiver .starts))
-          → b ≡ waiting.cleared (others (leaves all (seconds (h .receiver .rate) (h .receiver .base + h .receiver .held))) (waitingOf (h .receiver .waiting)))
-          → Ended (h .receiver .rate) c l old
-          (record {
-            refused = 0;
-            count = n;
-            receiver =
-                record { rate = h .receiver .rate; held = h .receiver .held; base = h .receiver .base; unscanned = h .receiver .unscanned; starts = a; waiting = b };
-          })
-          now
+      pub ended : (a : Starts) (b : Waiting) → a ≡ starts.cleared (starts.remembered (t .starts))
+          → b ≡ waiting.cleared (others (leaves all (seconds rate (base + held))) (waitingOf (t .waiting)))
+          → Ended rate c l old
+          (record { refused = 0; count = n; receiver = record { rate = rate; held = held; base = base; unscanned = unscanned; starts = a; waiting = b } }) now
       unfolding stateOf closed
       ended a b ea eb =
-          let t = seconds (h .receiver .rate) (h .receiver .base + h .receiver .held) in
           let x : a ≡ starts.cleared (l .starts) = ea ∙ ap starts.cleared (u .midway .starts) in
-          let y : b ≡ waiting.cleared (others (ready byEntry c (ledger.now (h .receiver .rate) l)) (l .waiting)) =
-          eb ∙ rw (u .midway .waiting, others-are (h .receiver .rate) c all l t k time-is) refl in
-          record { answer = rw (wrote .0, u .held, u .base, u .unscanned, x, y) refl; records = wrote .1 }
+          let y : b ≡ waiting.cleared (others (ready byEntry c (ledger.now rate l)) (l .waiting)) =
+          eb ∙ rw (u .midway .waiting, others-are rate c all l time k time-is) refl in
+          record { answer = rw (wrote .0, u .holds, u .based, u .unseen, x, y) refl; records = wrote .1 }
 
 -- the records of a call whose scans are done have room
-pub closable : (s : SigfoxReceiver) (c : Call) (samples places : List Float) (old now : List ℕ) (scratch : List Float) (h : Heard) (all : Bool)
-    → Passes s c samples old scratch → Scanned s c samples old h places now → EndsBy c all → length now ≡ length old → Closable h all now
-closable s c samples places old now scratch h all p d k e =
+pub closable : (s : SigfoxReceiver) (c : Call) (samples places : List Float) (old now : List ℕ) (scratch : List Float) (held base unscanned : ℕ) (t : Scanned) (all : Bool)
+    → Passes s c samples old scratch → Done s c samples old held base unscanned t places now → EndsBy c all → length now ≡ length old
+    → Closable (s .rate) (base + held) t all now
+closable s c samples places old now scratch held base unscanned t all p d k e =
+    let rate = s .rate in
     let l = ledgerOf s samples in
-    let w = scans (s .rate) (demodOf (s .rate)) l c in
-    let pos : 1 ≤ s .rate = omega (arith, p .lowest) in
-    let fair = demod-fair (s .rate) (p .lowest) (p .highest) in
-    let few = bounded (s .rate) (demodOf (s .rate)) fair entries-lawful pos .events l c (p .order) (p .accepted) in
-    let long = scans-small (s .rate) (demodOf (s .rate)) l c pos (p .order .room) .1 in
-    let n : length (written all (seconds (h .receiver .rate) (h .receiver .base + h .receiver .held)) (waitingOf (h .receiver .waiting))) ≡ length (messages (s .rate) c w)
-    = ap length (leaving w old h now (d .under) c all k)
-    ∙ length-map (map (eventOf byEntry) (messages (h .receiver .rate) c w)) recordOf ∙ length-map (messages (h .receiver .rate) c w) (eventOf byEntry)
-    ∙ ap (λ (x : ℕ). length (messages x c w)) (d .rate) in
+    let w = scans rate (demodOf rate) l c in
+    let pos : 1 ≤ rate = omega (arith, p .lowest) in
+    let fair = demod-fair rate (p .lowest) (p .highest) in
+    let few = bounded rate (demodOf rate) fair entries-lawful pos .events l c (p .order) (p .accepted) in
+    let long = scans-small rate (demodOf rate) l c pos (p .order .room) .1 in
+    let n : length (written all (seconds rate (base + held)) (waitingOf (t .waiting))) ≡ length (messages rate c w)
+    = ap length (leaving-are rate w old held base unscanned t now (d .under) c all k)
+    ∙ length-map (map (eventOf byEntry) (messages rate c w)) recordOf ∙ length-map (messages rate c w) (eventOf byEntry) in
     record {
       starts = d .starts;
       waiting = d .waiting;
-      stream = omega (arith, d .under .held, d .under .base, ends l c (p .order .stream) (p .accepted), long);
+      stream = omega (arith, d .under .holds, d .under .based, ends l c (p .order .stream) (p .accepted), long);
       room = omega (arith, n, few, d .under .midway .count, p .bytes);
     }
   where

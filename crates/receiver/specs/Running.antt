@@ -14,16 +14,12 @@ use Rattle.ledger.specs.Demodulation.{demodOf}
 use Rattle.ledger.specs.Records.{recordOf, withRecords}
 use Rattle.waiting.specs.Waiting.{waitingOf, leaves}
 use Rattle.scan.specs.Midway.{Midway}
+use Rattle.scan.specs.declared.Scanned.{Scanned}
 use Rattle.closing.specs.Written.{written}
 use Rattle.receiver.specs.State.{ledgerOf, countsOf, stateOf}
 use Rattle.receiver.specs.Calls.{samplesAfter}
 use Rattle.receiver.specs.declared.SigfoxReceiver.{SigfoxReceiver}
 use Rattle.receiver.specs.declared.Received.{Received}
-
--- the receiver, and how many records are written
-pub record Heard : Type 0 where
-  pub receiver : SigfoxReceiver
-  pub count : ℕ
 
 -- no cause applies to the call c on the state s
 pub record Passes (s : SigfoxReceiver) (c : Call) (samples : List Float) (events : List ℕ) (scratch : List Float) : Type 0 where
@@ -36,19 +32,19 @@ pub record Passes (s : SigfoxReceiver) (c : Call) (samples : List Float) (events
   pub order : InOrder (s .rate) (ledgerOf s samples)
   pub accepted : Accepted (s .rate) (ledgerOf s samples) c
 
--- a receiver and its records, in a call that found the event buffer as `old`, stand for the ledger l
-pub record Under (l : Ledger byEntry) (old : List ℕ) (h : Heard) (now : List ℕ) : Type 0 where
-  pub held : h .receiver .held ≡ length (l .held)
-  pub base : h .receiver .base ≡ l .base
-  pub unscanned : h .receiver .unscanned ≡ l .unscanned
-  pub midway : Midway l old (h .receiver .starts) (h .receiver .waiting) (h .count) now
+-- samples held, the first one's index, samples not looked at and what a scan left stand for the ledger l, in a call that found the event buffer as `old`
+pub record Under (l : Ledger byEntry) (old : List ℕ) (held base unscanned : ℕ) (t : Scanned) (now : List ℕ) : Type 0 where
+  pub holds : held ≡ length (l .held)
+  pub based : base ≡ l .base
+  pub unseen : unscanned ≡ l .unscanned
+  pub midway : Midway l old (t .starts) (t .waiting) (t .count) now
 
--- what the end of a call asks: the starts and the messages are within their arrays, and the records of those that leave have room
-pub record Closable (h : Heard) (all : Bool) (events : List ℕ) : Type 0 where
-  pub starts : h .receiver .starts .count ≤ mostStarts
-  pub waiting : h .receiver .waiting .count ≤ openPlaces
-  pub stream : h .receiver .base + h .receiver .held ≤ longestStream
-  pub room : recordSize * (h .count + length (written all (seconds (h .receiver .rate) (h .receiver .base + h .receiver .held)) (waitingOf (h .receiver .waiting)))) ≤ length events
+-- what the end of a call asks at the sample `end`: the starts and the messages are within their arrays, and the records of those that leave have room
+pub record Closable (rate end : ℕ) (t : Scanned) (all : Bool) (events : List ℕ) : Type 0 where
+  pub starts : t .starts .count ≤ mostStarts
+  pub waiting : t .waiting .count ≤ openPlaces
+  pub stream : end ≤ longestStream
+  pub room : recordSize * (t .count + length (written all (seconds rate end) (waitingOf (t .waiting)))) ≤ length events
 
 -- a push writes the messages that are complete, a flush all
 abbrev pub EndsBy : Call → Bool → Type 0
@@ -60,6 +56,6 @@ pub record Ended (rate : ℕ) (c : Call) (l : Ledger byEntry) (old : List ℕ) (
   pub records : now ≡ withRecords (map recordOf (events rate c l)) old
 
 -- the accepted call c on the state s is done
-pub record Does (s : SigfoxReceiver) (c : Call) (before : List Float) (old : List ℕ) (r : Received) (after : List Float) (now : List ℕ) : Type 0 where
+pub record Answers (s : SigfoxReceiver) (c : Call) (before : List Float) (old : List ℕ) (r : Received) (after : List Float) (now : List ℕ) : Type 0 where
   pub ended : Ended (s .rate) c (scans (s .rate) (demodOf (s .rate)) (ledgerOf s before) c) old r now
   pub samples : after ≡ samplesAfter s c before 0

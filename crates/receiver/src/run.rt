@@ -1,14 +1,16 @@
 // An accepted call: its samples come in by fillings, with drops and scans, and at its end the messages that leave are written.
 ghost use mathlib.Core.Path.{_≡_};
 ghost use mathlib.Core.List.{List};
-ghost use Prim.Native.Nat.{ℕ, _≤_};
+ghost use Prim.Native.Nat.{ℕ, _+_, _≤_};
 ghost use Rattle.limits.specs.Limits.{highestRate};
 ghost use Rattle.ledger.specs.Ledger.{Ledger, Call, byEntry, push, flush, tail};
-ghost use Rattle.receiver.specs.Running.{Passes, Under, Closable, EndsBy, Ended, Does};
+ghost use Rattle.ledger.specs.Room.{scanIf};
+ghost use Rattle.ledger.specs.Demodulation.{demodOf};
+ghost use Rattle.scan.specs.Midway.{Lent, Within, Does};
+ghost use Rattle.receiver.specs.Running.{Passes, Under, Closable, EndsBy, Ended, Answers};
 use crate::Received;
 use crate::SigfoxReceiver;
-use starts::Starts;
-use waiting::Waiting;
+use scan::Scanned;
 
 // 0.3 s in samples, rounded: so long ago a burst ended that is taken (TAIL_S).
 fn tail(rate: u32) -> usize
@@ -18,26 +20,52 @@ fn tail(rate: u32) -> usize
     ((3 * rate + 5) / 10) as usize
 }
 
-// The end of a call, with its receiver in parts and the number of its records: the messages that leave are written, the others kept (`expire`).
+// A scan that leaves bursts which ended less than 0.3 s before the newest sample.
+fn scan_tail(
+    held: &[f32],
+    rate: u32,
+    base: u64,
+    t: Scanned,
+    events: &mut [u8],
+    scratch: &mut [f64],
+) -> Scanned
+    requires { ⌜ Lent rate base (tail rate) (now held) (now events) (now scratch) × Within t ⌝ }
+    ensures { λ u. ⌜ Does (scanIf rate (demodOf rate) (tail rate)) (now (held .entry)) base t (now (events .entry)) u (now (events .exit)) ⌝ }
+{
+    let starts = t.starts;
+    let waiting = t.waiting;
+    let wait = tail(rate);
+    scan::scan(
+        held,
+        rate,
+        base,
+        wait,
+        starts,
+        waiting,
+        events,
+        t.count,
+        scratch,
+    )
+}
+
+// The end of a call: the messages that leave are written, the others kept (`expire`).
 fn finish(
     rate: u32,
     held: usize,
     base: u64,
     unscanned: usize,
-    remembered: Starts,
-    open: Waiting,
-    count: usize,
+    t: Scanned,
     all: bool,
     events: &mut [u8],
 ) -> Received
-    requires { ⌜ Closable (record { receiver = record { rate = rate; held = held; base = base; unscanned = unscanned; starts = remembered; waiting = «open» }; count = count }) all (now events) ⌝ }
-    ensures { λ r. ⌜ ((c : Call) (l : Ledger byEntry) (old : List ℕ) → EndsBy c all
-        → Under l old (record { receiver = record { rate = rate; held = held; base = base; unscanned = unscanned; starts = remembered; waiting = «open» }; count = count }) (now (events .entry))
-        → Ended rate c l old r (now (events .exit))) ⌝ }
+    requires { ⌜ Closable rate (base + held) t all (now events) ⌝ }
+    ensures { λ r. ⌜ ((c : Call) (l : Ledger byEntry) (old : List ℕ) → EndsBy c all → Under l old held base unscanned t (now (events .entry)) → Ended rate c l old r (now (events .exit))) ⌝ }
 {
     let time = scan::seconds(rate, base + (held as u64));
-    let written = closing::write_messages(open, all, time, events, count);
+    let open = t.waiting;
+    let written = closing::write_messages(open, all, time, events, t.count);
     let waiting = waiting::keep(open, all, time);
+    let remembered = t.starts;
     let starts = starts::clear(remembered);
     Received {
         refused: 0,
@@ -62,15 +90,19 @@ pub fn hear(
     scratch: &mut [f64],
 ) -> Received
     requires { ⌜ Passes s (push (now dbm)) (now samples) (now events) (now scratch) ⌝ }
-    ensures { λ r. ⌜ Does s (push (now (dbm .entry))) (now (samples .entry)) (now (events .entry)) r (now (samples .exit)) (now (events .exit)) ⌝ }
+    ensures { λ r. ⌜ Answers s (push (now (dbm .entry))) (now (samples .entry)) (now (events .entry)) r (now (samples .exit)) (now (events .exit)) ⌝ }
 {
     let rate = s.rate;
     let mut held = s.held;
     let mut base = s.base;
     let mut unscanned = s.unscanned;
-    let mut starts = s.starts;
-    let mut waiting = s.waiting;
-    let mut count: usize = 0;
+    let starts = s.starts;
+    let waiting = s.waiting;
+    let mut t = Scanned {
+        starts,
+        waiting,
+        count: 0,
+    };
     let mut from: usize = 0;
     while from < dbm.len() {
         let left = samples::halve(samples, rate, held);
@@ -80,36 +112,12 @@ pub fn hear(
         unscanned = unscanned + n;
         from = from + n;
         if (rate as usize) <= 2 * unscanned {
-            let t = scan::scan(
-                &samples[..held],
-                rate,
-                base,
-                tail(rate),
-                starts,
-                waiting,
-                events,
-                count,
-                scratch,
-            );
-            let remembered = t.starts;
-            starts = remembered;
-            let open = t.waiting;
-            waiting = open;
-            count = t.count;
+            let u = scan_tail(&samples[..held], rate, base, t, events, scratch);
+            t = u;
             unscanned = 0;
         }
     }
-    finish(
-        rate,
-        held,
-        base,
-        unscanned,
-        starts,
-        waiting,
-        count,
-        false,
-        events,
-    )
+    finish(rate, held, base, unscanned, t, false, events)
 }
 
 // An accepted flush: a scan that waits for nothing and leaves the count of samples not looked at, then every message is written.
@@ -120,7 +128,7 @@ pub fn hear_all(
     scratch: &mut [f64],
 ) -> Received
     requires { ⌜ Passes s flush (now samples) (now events) (now scratch) ⌝ }
-    ensures { λ r. ⌜ Does s flush (now (samples .entry)) (now (events .entry)) r (now (samples .entry)) (now (events .exit)) ⌝ }
+    ensures { λ r. ⌜ Answers s flush (now (samples .entry)) (now (events .entry)) r (now (samples .entry)) (now (events .exit)) ⌝ }
 {
     let held = s.held;
     let starts = s.starts;
@@ -136,17 +144,5 @@ pub fn hear_all(
         0,
         scratch,
     );
-    let remembered = t.starts;
-    let open = t.waiting;
-    finish(
-        s.rate,
-        held,
-        s.base,
-        s.unscanned,
-        remembered,
-        open,
-        t.count,
-        true,
-        events,
-    )
+    finish(s.rate, held, s.base, s.unscanned, t, true, events)
 }

@@ -11,7 +11,7 @@ seconds-requires : tie.Need-seconds-requires
 seconds-requires c κs = search needs
 
 write-messages-requires : tie.Need-write-messages-requires
-write-messages-requires c κs = let s = c .before .before .before in (s .pre .waiting, rw (c .before .seconds .ensures) (s .pre .room))
+write-messages-requires c κs = let s = c .before .before .before .before in (s .pre .waiting, rw (c .before .before .seconds .ensures) (s .pre .room))
 
 keep-requires : tie.Need-keep-requires
 keep-requires c κs = search needs
@@ -24,10 +24,10 @@ same-length c = search needs
 
 returns : tie.Need-returns
 returns c k l old e u =
-    let a = c .before .before .before .before .before .before .before .before .args in
-    let t = c .before .before .before .before .before .before .seconds in
-    let w = c .before .before .before .before .write-messages in
-    ended l old _ (a .events .now) u k (a .all) e (w .result) _ (rw (t .ensures) at (w .ensures)) (c .clear .result) (c .before .keep .result) (c .clear .ensures) (rw (t .ensures) at (c .before .keep .ensures))
+    let a = c .before .before .before .before .before .before .before .before .before .before .args in
+    let t = c .before .before .before .before .before .before .before .before .seconds in
+    let w = c .before .before .before .before .before .write-messages in
+    ended (a .rate) l old (a .held) (a .base) (a .unscanned) (a .t) (a .events .now) u k (a .all) e (w .result) _ (rw (t .ensures) at (w .ensures)) (c .clear .result) (c .before .before .keep .result) (c .clear .ensures) (rw (t .ensures) at (c .before .before .keep .ensures))
 
 pub finish-spec : {M : Type 1} → statement M
 finish-spec =

@@ -8,29 +8,28 @@ use lib.Seq.{length-take-le}
 use Rattle.ledger.specs.Ledger.{push}
 use Rattle.receiver.specs.declared.SigfoxReceiver.{SigfoxReceiver}
 use Rattle.receiver.proofs.FillLaws.{FillAt, FilledAt, left-le, fill-asks, fill-bounds, fill-turn, fill-still, fill-scanned, scan-asks}
-use Rattle.receiver.proofs.RunLaws.{Scanned, allIn, lastBuffer, fill-start, fill-end, closable, ends-push}
+use Rattle.receiver.proofs.RunLaws.{Done, allIn, lastBuffer, fill-start, fill-end, closable, ends-push}
 use Rattle.receiver.proofs.run.hear.Statement.{statement}
 use Rattle.receiver.proofs.run.hear.Tie as tie
 use Rattle.receiver.proofs.run.hear.Reads as reads
 use Rattle.receiver.proofs.run.hear.Lts as lts
-use Rattle.receiver.proofs.run.tail.Reads as tail-reads
+use Rattle.receiver.proofs.run.scan_tail.Reads as scan-tail-reads
 use Rattle.samples.proofs.fill.Reads as fill-reads
 use Rattle.samples.proofs.halve.Reads as halve-reads
-use Rattle.scan.proofs.scan.Reads as scan-reads
 use Rattle.receiver.proofs.run.finish.Reads as finish-reads
 
 abbrev Inv-loop : tie.InvT-loop
-Inv-loop dbm samples₀ events₀ scratch₀ rate held₀ base₀ unscanned₀ starts₀ waiting₀ count₀ from₀ samples events scratch held base unscanned starts waiting count from =
-    let s : SigfoxReceiver = record { rate = rate; held = held₀; base = base₀; unscanned = unscanned₀; starts = starts₀; waiting = waiting₀ } in
+Inv-loop dbm samples₀ events₀ scratch₀ rate held₀ base₀ unscanned₀ t₀ from₀ samples events scratch held base unscanned t from =
+    let s : SigfoxReceiver = record { rate = rate; held = held₀; base = base₀; unscanned = unscanned₀; starts = t₀ .starts; waiting = t₀ .waiting } in
     (length samples ≡ length samples₀) × (length events ≡ length events₀) × (length scratch ≡ length scratch₀)
-    × FillAt rate dbm (allIn s samples₀ events₀ scratch₀ dbm) (lastBuffer s samples₀ events₀ scratch₀ dbm) events₀ samples events held base unscanned starts waiting count from
+    × FillAt rate dbm (allIn s samples₀ events₀ scratch₀ dbm) (lastBuffer s samples₀ events₀ scratch₀ dbm) events₀ samples events held base unscanned t from
 
 abbrev μ-loop : tie.MeasureT-loop
-μ-loop dbm samples₀ events₀ scratch₀ rate held₀ base₀ unscanned₀ starts₀ waiting₀ count₀ from₀ samples events scratch held base unscanned starts waiting count from = length dbm - from
+μ-loop dbm samples₀ events₀ scratch₀ rate held₀ base₀ unscanned₀ t₀ from₀ samples events scratch held base unscanned t from = length dbm - from
 
 -- after a filling's samples are in
 abbrev Filled : Type 0
-Filled = lts.After-slice-known5 (halve-reads.Asked, halve-reads.Learnt, fill-reads.Asked, fill-reads.Learnt, tail-reads.Asked, tail-reads.Learnt, scan-reads.Asked, scan-reads.Learnt, finish-reads.Asked, finish-reads.Learnt) reads.Pre reads.Post Inv-loop μ-loop
+Filled = lts.After-slice-known5 (halve-reads.Asked, halve-reads.Learnt, fill-reads.Asked, fill-reads.Learnt, scan-tail-reads.Asked, scan-tail-reads.Learnt, finish-reads.Asked, finish-reads.Learnt) reads.Pre reads.Post Inv-loop μ-loop
 
 -- how far it went
 bounds : (c : Filled) → (1 ≤ c .before .before .fill .result) × (c .before .before .before .before .before .before .halve .result + c .before .before .fill .result ≤ 12 * c .before .before .before .before .before .before .before .before .before .before .before .before .before .before .before .before .args .s .rate)
@@ -39,15 +38,15 @@ bounds : (c : Filled) → (1 ≤ c .before .before .fill .result) × (c .before 
 bounds c =
     let s = c .before .before .before .before .before .before .before .before .before .before .before .before .before .before .before .before in
     let l = c .before .before .before .before .before .before .before .before .before .loop in
-    fill-bounds (s .args .s .rate) (s .args .dbm .now) (allIn (s .args .s) (s .args .samples .now) (s .args .events .now) (s .args .scratch .now) (s .args .dbm .now)) (lastBuffer (s .args .s) (s .args .samples .now) (s .args .events .now) (s .args .scratch .now) (s .args .dbm .now)) (s .args .events .now) (l .samples) (l .events) (l .held) (l .base) (l .unscanned) (l .starts) (l .waiting) (l .count) (l .from) (s .pre .lowest) (s .pre .accepted .samples) (l .inv .3) (omega (arith, c .before .before .before .before .before .before .before .before .loop-test .taken)) (c .before .before .before .before .before .before .halve .result) (c .before .before .fill .result) (c .before .before .before .before .before .before .halve .ensures .0) (c .before .before .fill .ensures .0)
+    fill-bounds (s .args .s .rate) (s .args .dbm .now) (allIn (s .args .s) (s .args .samples .now) (s .args .events .now) (s .args .scratch .now) (s .args .dbm .now)) (lastBuffer (s .args .s) (s .args .samples .now) (s .args .events .now) (s .args .scratch .now) (s .args .dbm .now)) (s .args .events .now) (l .samples) (l .events) (l .held) (l .base) (l .unscanned) (l .t) (l .from) (s .pre .lowest) (s .pre .accepted .samples) (l .inv .3) (omega (arith, c .before .before .before .before .before .before .before .before .loop-test .taken)) (c .before .before .before .before .before .before .halve .result) (c .before .before .fill .result) (c .before .before .before .before .before .before .halve .ensures .0) (c .before .before .fill .ensures .0)
 
 -- what it made
 filled : (c : Filled) → FilledAt ((c .before .before .before .before .before .before .before .before .before .before .before .before .before .before .before .before) .args .s .rate) ((c .before .before .before .before .before .before .before .before .before .before .before .before .before .before .before .before) .args .dbm .now) (allIn ((c .before .before .before .before .before .before .before .before .before .before .before .before .before .before .before .before) .args .s) ((c .before .before .before .before .before .before .before .before .before .before .before .before .before .before .before .before) .args .samples .now) ((c .before .before .before .before .before .before .before .before .before .before .before .before .before .before .before .before) .args .events .now) ((c .before .before .before .before .before .before .before .before .before .before .before .before .before .before .before .before) .args .scratch .now) ((c .before .before .before .before .before .before .before .before .before .before .before .before .before .before .before .before) .args .dbm .now)) (lastBuffer ((c .before .before .before .before .before .before .before .before .before .before .before .before .before .before .before .before) .args .s) ((c .before .before .before .before .before .before .before .before .before .before .before .before .before .before .before .before) .args .samples .now) ((c .before .before .before .before .before .before .before .before .before .before .before .before .before .before .before .before) .args .events .now) ((c .before .before .before .before .before .before .before .before .before .before .before .before .before .before .before .before) .args .scratch .now) ((c .before .before .before .before .before .before .before .before .before .before .before .before .before .before .before .before) .args .dbm .now)) ((c .before .before .before .before .before .before .before .before .before .before .before .before .before .before .before .before) .args .events .now) (c .before .before .fill .last .0) (c .before .before .before .before .before .before .before .before .before .loop .events) (c .before .before .before .before .before .before .halve .result + c .before .before .fill .result)
-    (c .before .before .before .before .before .before .before .before .before .loop .base + (c .before .before .before .before .before .before .before .before .before .loop .held - c .before .before .before .before .before .before .halve .result)) (c .before .before .before .before .before .before .before .before .before .loop .unscanned + c .before .before .fill .result) (c .before .before .before .before .before .before .before .before .before .loop .starts) (c .before .before .before .before .before .before .before .before .before .loop .waiting) (c .before .before .before .before .before .before .before .before .before .loop .count) (c .before .before .before .before .before .before .before .before .before .loop .from + c .before .before .fill .result)
+    (c .before .before .before .before .before .before .before .before .before .loop .base + (c .before .before .before .before .before .before .before .before .before .loop .held - c .before .before .before .before .before .before .halve .result)) (c .before .before .before .before .before .before .before .before .before .loop .unscanned + c .before .before .fill .result) (c .before .before .before .before .before .before .before .before .before .loop .t) (c .before .before .before .before .before .before .before .before .before .loop .from + c .before .before .fill .result)
 filled c =
     let s = c .before .before .before .before .before .before .before .before .before .before .before .before .before .before .before .before in
     let l = c .before .before .before .before .before .before .before .before .before .loop in
-    fill-turn (s .args .s .rate) (s .args .dbm .now) (allIn (s .args .s) (s .args .samples .now) (s .args .events .now) (s .args .scratch .now) (s .args .dbm .now)) (lastBuffer (s .args .s) (s .args .samples .now) (s .args .events .now) (s .args .scratch .now) (s .args .dbm .now)) (s .args .events .now) (l .samples) (l .events) (l .held) (l .base) (l .unscanned) (l .starts) (l .waiting) (l .count) (l .from) (s .pre .lowest) (s .pre .accepted .samples) (l .inv .3) (omega (arith, c .before .before .before .before .before .before .before .before .loop-test .taken)) (c .before .before .before .before .before .before .halve .result) (c .before .before .fill .result) (c .before .before .before .before .before .before .halve .last .0) (c .before .before .fill .last .0) (c .before .before .before .before .before .before .halve .ensures .0) (c .before .before .before .before .before .before .halve .ensures .1) (c .before .before .fill .ensures .0) (c .before .before .fill .ensures .1)
+    fill-turn (s .args .s .rate) (s .args .dbm .now) (allIn (s .args .s) (s .args .samples .now) (s .args .events .now) (s .args .scratch .now) (s .args .dbm .now)) (lastBuffer (s .args .s) (s .args .samples .now) (s .args .events .now) (s .args .scratch .now) (s .args .dbm .now)) (s .args .events .now) (l .samples) (l .events) (l .held) (l .base) (l .unscanned) (l .t) (l .from) (s .pre .lowest) (s .pre .accepted .samples) (l .inv .3) (omega (arith, c .before .before .before .before .before .before .before .before .loop-test .taken)) (c .before .before .before .before .before .before .halve .result) (c .before .before .fill .result) (c .before .before .before .before .before .before .halve .last .0) (c .before .before .fill .last .0) (c .before .before .before .before .before .before .halve .ensures .0) (c .before .before .before .before .before .before .halve .ensures .1) (c .before .before .fill .ensures .0) (c .before .before .fill .ensures .1)
 
 -- the buffer is as long as it was
 sized : (c : Filled) → length (c .before .before .fill .last .0) ≡ length (c .before .before .before .before .before .before .before .before .before .before .before .before .before .before .before .before .args .samples .now)
@@ -70,7 +69,7 @@ fill-requires c κs =
     let s = c .before .before .before .before .before .before .before .before .before .before .before .before .before in
     let l = c .before .before .before .before .before .before .loop in
     let h = c .before .before .before .halve in
-    let g = fill-asks (s .args .s .rate) (s .args .dbm .now) (allIn (s .args .s) (s .args .samples .now) (s .args .events .now) (s .args .scratch .now) (s .args .dbm .now)) (lastBuffer (s .args .s) (s .args .samples .now) (s .args .events .now) (s .args .scratch .now) (s .args .dbm .now)) (s .args .events .now) (l .samples) (l .events) (l .held) (l .base) (l .unscanned) (l .starts) (l .waiting) (l .count) (l .from) (s .pre .lowest) (s .pre .accepted .samples) (l .inv .3) (omega (arith, c .before .before .before .before .before .loop-test .taken)) in
+    let g = fill-asks (s .args .s .rate) (s .args .dbm .now) (allIn (s .args .s) (s .args .samples .now) (s .args .events .now) (s .args .scratch .now) (s .args .dbm .now)) (lastBuffer (s .args .s) (s .args .samples .now) (s .args .events .now) (s .args .scratch .now) (s .args .dbm .now)) (s .args .events .now) (l .samples) (l .events) (l .held) (l .base) (l .unscanned) (l .t) (l .from) (s .pre .lowest) (s .pre .accepted .samples) (l .inv .3) (omega (arith, c .before .before .before .before .before .loop-test .taken)) in
     (rw (h .ensures .1) (g .0), rw (h .ensures .0) (g .1), g .2)
 
 add-held : tie.Need-add-held Inv-loop μ-loop
@@ -88,31 +87,28 @@ cast-if1 c = omega (arith, c .before .before .before .before .before .before .be
 mul-if1 : tie.Need-mul-if1 Inv-loop μ-loop
 mul-if1 c = omega (arith, bounds c, c .before .before .before .before .before .before .before .before .before .before .before .before .before .before .before .before .pre .highest)
 
-slice-reshare-prefix-scan : tie.Need-slice-reshare-prefix-scan Inv-loop μ-loop
-slice-reshare-prefix-scan c = let m = filled (c .before) in omega (arith, m .fits, m .places)
+slice-reshare-prefix-scan-tail : tie.Need-slice-reshare-prefix-scan-tail Inv-loop μ-loop
+slice-reshare-prefix-scan-tail c = let m = filled (c .before) in omega (arith, m .fits, m .places)
 
-slice-aggregate-scan : tie.Need-slice-aggregate-scan Inv-loop μ-loop
-slice-aggregate-scan c =
+slice-aggregate-scan-tail : tie.Need-slice-aggregate-scan-tail Inv-loop μ-loop
+slice-aggregate-scan-tail c =
     let m = filled (c .before .before) in
     sym (length-take-le (c .before .before .before .before .before .before .before .before .halve .result + c .before .before .before .before .fill .result) (c .before .before .before .before .fill .last .0) (omega (arith, m .fits, m .places)))
 
-tail-requires : tie.Need-tail-requires Inv-loop μ-loop
-tail-requires c κs = c .before .before .before .before .before .before .before .before .before .before .before .before .before .before .before .before .before .before .pre .highest
-
-scan-requires : tie.Need-scan-requires Inv-loop μ-loop
-scan-requires c κs =
-    let s = c .before .before .before .before .before .before .before .before .before .before .before .before .before .before .before .before .before .before .before .before .before in
-    scan-asks _ _ _ _ _ _ _ _ _ _ _ _ _ _ (filled (c .before .before .before .before .before)) _ (c .before .before .tail .result) (c .before .before .tail .ensures) (s .pre .lowest) (s .pre .highest) (omega (arith, s .pre .numbers, c .before .before .before .before .before .before .before .before .before .before .before .before .before .before .loop .inv .2))
+scan-tail-requires : tie.Need-scan-tail-requires Inv-loop μ-loop
+scan-tail-requires c κs =
+    let s = c .before .before .before .before .before .before .before .before .before .before .before .before .before .before .before .before .before .before .before .before in
+    scan-asks _ _ _ _ _ _ _ _ _ _ _ _ (filled (c .before .before .before .before)) _ (s .pre .lowest) (s .pre .highest) (omega (arith, s .pre .numbers, c .before .before .before .before .before .before .before .before .before .before .before .before .before .loop .inv .2))
 
 loop-less : tie.Need-loop-less Inv-loop μ-loop
-loop-less c = omega (arith, bounds (c .before .before .before .before .before .before .before .before .before .before .before .before), c .before .before .before .before .before .before .before .before .before .before .before .before .before .before .before .before .before .before .before .before .loop-test .taken)
+loop-less c = omega (arith, bounds (c .before .before .before .before .before .before .before .before .before), c .before .before .before .before .before .before .before .before .before .before .before .before .before .before .before .before .before .loop-test .taken)
 
 loop-again : tie.Need-loop-again Inv-loop μ-loop
 loop-again c =
-    let s = c .before .before .before .before .before .before .before .before .before .before .before .before .before .before .before .before .before .before .before .before .before .before .before .before .before .before .before .before in
-    let l = c .before .before .before .before .before .before .before .before .before .before .before .before .before .before .before .before .before .before .before .before .before .loop in
-    let t = c .before .before .before .before .before .before .scan in
-    (sized (c .before .before .before .before .before .before .before .before .before .before .before .before), t .kept .1 .1 .1 .1 .1 .1 .0 ∙ l .inv .1, t .kept .1 .1 .1 .1 .1 .1 .1 .1 .0 ∙ l .inv .2, fill-scanned _ _ _ _ _ _ _ _ _ _ _ _ _ _ (filled (c .before .before .before .before .before .before .before .before .before .before .before .before)) (omega (arith, c .before .before .before .before .before .before .before .before .before .before .before .if1 .taken)) (s .pre .lowest) (t .result) _ (c .before .before .before .before .before .before .before .before .before .tail .result) (c .before .before .before .before .before .before .before .before .before .tail .ensures) (t .kept .1 .1 .1 .1 .1 .1 .0) (t .ensures))
+    let s = c .before .before .before .before .before .before .before .before .before .before .before .before .before .before .before .before .before .before .before .before .before .before .before .before .before in
+    let l = c .before .before .before .before .before .before .before .before .before .before .before .before .before .before .before .before .before .before .loop in
+    let t = c .before .before .before .before .scan-tail in
+    (sized (c .before .before .before .before .before .before .before .before .before), t .kept .1 .1 .1 .1 .0 ∙ l .inv .1, t .kept .1 .1 .1 .1 .1 .0 ∙ l .inv .2, fill-scanned _ _ _ _ _ _ _ _ _ _ _ _ (filled (c .before .before .before .before .before .before .before .before .before)) (omega (arith, c .before .before .before .before .before .before .before .before .if1 .taken)) (s .pre .lowest) (t .result) _ (t .kept .1 .1 .1 .1 .0) (t .ensures))
 
 loop-less-2 : tie.Need-loop-less-2 Inv-loop μ-loop
 loop-less-2 c = omega (arith, bounds (c .before), c .before .before .before .before .before .before .before .before .before .loop-test .taken)
@@ -120,28 +116,28 @@ loop-less-2 c = omega (arith, bounds (c .before), c .before .before .before .bef
 loop-again-2 : tie.Need-loop-again-2 Inv-loop μ-loop
 loop-again-2 c =
     let l = c .before .before .before .before .before .before .before .before .before .before .loop in
-    (sized (c .before), l .inv .1, l .inv .2, fill-still _ _ _ _ _ _ _ _ _ _ _ _ _ _ (filled (c .before)) (omega (arith, c .if1 .left)))
+    (sized (c .before), l .inv .1, l .inv .2, fill-still _ _ _ _ _ _ _ _ _ _ _ _ (filled (c .before)) (omega (arith, c .if1 .left)))
 
 -- what the scans left
-done : (c : lts.After-loop (halve-reads.Asked, halve-reads.Learnt, fill-reads.Asked, fill-reads.Learnt, tail-reads.Asked, tail-reads.Learnt, scan-reads.Asked, scan-reads.Learnt, finish-reads.Asked, finish-reads.Learnt) reads.Pre reads.Post Inv-loop μ-loop) → Scanned (c .before .before .before .before .before .before .before .before .args .s) (push (c .before .before .before .before .before .before .before .before .args .dbm .now)) (c .before .before .before .before .before .before .before .before .args .samples .now) (c .before .before .before .before .before .before .before .before .args .events .now)
-    (record { receiver = record { rate = c .before .before .before .before .before .before .before .before .args .s .rate; held = c .before .loop .held; base = c .before .loop .base; unscanned = c .before .loop .unscanned; starts = c .before .loop .starts; waiting = c .before .loop .waiting }; count = c .before .loop .count }) (c .before .loop .samples) (c .before .loop .events)
+done : (c : lts.After-loop (halve-reads.Asked, halve-reads.Learnt, fill-reads.Asked, fill-reads.Learnt, scan-tail-reads.Asked, scan-tail-reads.Learnt, finish-reads.Asked, finish-reads.Learnt) reads.Pre reads.Post Inv-loop μ-loop) → Done (c .before .before .before .before .before .before .before .before .args .s) (push (c .before .before .before .before .before .before .before .before .args .dbm .now)) (c .before .before .before .before .before .before .before .before .args .samples .now) (c .before .before .before .before .before .before .before .before .args .events .now)
+    (c .before .loop .held) (c .before .loop .base) (c .before .loop .unscanned) (c .before .loop .t) (c .before .loop .samples) (c .before .loop .events)
 done c =
     let s = c .before .before .before .before .before .before .before .before in
     let a = s .args in
     let l = c .before .loop in
-    fill-end (a .s) (a .samples .now) (a .events .now) (a .scratch .now) (a .dbm .now) (l .samples) (l .events) (l .held) (l .base) (l .unscanned) (l .starts) (l .waiting) (l .count) (l .from) (l .inv .3) (omega (arith, c .loop-test .left))
+    fill-end (a .s) (a .samples .now) (a .events .now) (a .scratch .now) (a .dbm .now) (l .samples) (l .events) (l .held) (l .base) (l .unscanned) (l .t) (l .from) (l .inv .3) (omega (arith, c .loop-test .left))
 
 finish-requires : tie.Need-finish-requires Inv-loop μ-loop
 finish-requires c κs =
     let s = c .before .before .before .before .before .before .before .before .before in
     let a = s .args in
-    closable (a .s) (push (a .dbm .now)) (a .samples .now) _ (a .events .now) _ (a .scratch .now) _ false (s .pre) (done (c .before)) (ends-push (a .dbm .now)) (c .before .before .loop .inv .1)
+    closable (a .s) (push (a .dbm .now)) (a .samples .now) _ (a .events .now) _ (a .scratch .now) _ _ _ _ false (s .pre) (done (c .before)) (ends-push (a .dbm .now)) (c .before .before .loop .inv .1)
 
 same-length : tie.Need-same-length Inv-loop μ-loop
 same-length c = c .before .before .before .before .before .loop .inv .0
 
 same-length-2 : tie.Need-same-length-2 Inv-loop μ-loop
-same-length-2 c = c .before .before .finish .kept .1 .1 .1 .1 .1 .1 .1 .1 .0 ∙ c .before .before .before .before .before .loop .inv .1
+same-length-2 c = c .before .before .finish .kept .1 .1 .1 .1 .1 .1 .0 ∙ c .before .before .before .before .before .loop .inv .1
 
 same-length-3 : tie.Need-same-length-3 Inv-loop μ-loop
 same-length-3 c = c .before .before .before .before .before .loop .inv .2
@@ -171,10 +167,9 @@ hear-spec =
     add-from
     cast-if1
     mul-if1
-    slice-reshare-prefix-scan
-    slice-aggregate-scan
-    tail-requires
-    scan-requires
+    slice-reshare-prefix-scan-tail
+    slice-aggregate-scan-tail
+    scan-tail-requires
     loop-less
     loop-again
     loop-less-2

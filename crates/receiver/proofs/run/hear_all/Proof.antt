@@ -16,10 +16,10 @@ scan-requires c κs = let s = c .before .before .before .before .before .before 
 
 finish-requires : tie.Need-finish-requires
 finish-requires c κs =
-    let s = c .before .before .before .before .before .before .before .before .before .before .before .before .before .before .before .before in
+    let s = c .before .before .before .before .before .before .before .before .before .before .before .before .before .before in
     let a = s .args in
-    let t = c .before .before .before .before .before .before .before .scan in
-    closable (a .s) flush (a .samples .now) _ (a .events .now) _ (a .scratch .now) _ true (s .pre)
+    let t = c .before .before .before .before .before .scan in
+    closable (a .s) flush (a .samples .now) _ (a .events .now) _ (a .scratch .now) _ _ _ _ true (s .pre)
     (flush-end (a .s) (a .samples .now) (a .events .now) (a .scratch .now) (s .pre) (t .result) _ (t .ensures)) ends-flush (t .kept .1 .1 .1 .1 .1 .1 .0)
 
 same-length : tie.Need-same-length
@@ -30,9 +30,9 @@ same-length-2 c = search needs
 
 returns : tie.Need-returns
 returns c =
-    let s = c .before .before .before .before .before .before .before .before .before .before .before .before .before .before .before .before .before .before .before in
+    let s = c .before .before .before .before .before .before .before .before .before .before .before .before .before .before .before .before .before in
     let a = s .args in
-    let t = c .before .before .before .before .before .before .before .before .before .before .scan in
+    let t = c .before .before .before .before .before .before .before .before .scan in
     let d = flush-end (a .s) (a .samples .now) (a .events .now) (a .scratch .now) (s .pre) (t .result) _ (t .ensures) in
     record {
       ended = c .before .before .finish .ensures flush (scans (a .s .rate) (demodOf (a .s .rate)) (ledgerOf (a .s) (a .samples .now)) flush) (a .events .now) ends-flush (d .under);
