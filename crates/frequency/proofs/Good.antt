@@ -1,15 +1,14 @@
 -- What a tracker grown from `new` always has, on the record with its lists: each call keeps it. Assumes nothing.
-use mathlib.Core.Path.{_≡_, refl, sym, ap, _∙_, subst}
+use mathlib.Core.Path.{_≡_, refl, sym, subst}
 use mathlib.Core.Bool.{Bool, true, false, not, cond, _&&_}
 use mathlib.Core.List.{List, [], _∷_, _++_, map}
-use Prim.Native.Nat.{ℕ, suc, _+_, _*_, _^_, _≤_, _<_}
+use Prim.Native.Nat.{ℕ, _+_, _*_, _^_, _≤_, _<_}
 use native.Mathlib.Omega.{arith}
 use borrow.Author.Tests.{leb-true, le-leb}
 use lib.Dec.{T, leb, ltb}
 use lib.ListN.{length}
 use lib.Ieee.{Float, nan, inf, fin, lt, le, eq, isNan, round, ofInt}
 use lib.Ieee.Scale.{finite}
-use Rattle.floats.specs.Number.{num}
 use Rattle.limits.specs.Limits.{mostReadings, longestStream}
 use Rattle.limits.specs.Samples.{rateOk, allDbm}
 use Rattle.limits.proofs.Samples.{and-left, and-right}
@@ -25,9 +24,9 @@ use Rattle.lists.specs.Lists.{Reading, Tuning, cfoEvery, every, upTo, noNan, la
 use Rattle.lists.specs.Marks.{retained}
 use Rattle.lists.proofs.Gather.{map-retained, every-retained}
 use Rattle.retain.specs.Retain.{stays}
-use Rattle.tuning.specs.Ranges.{highestStep, stepOk}
+use Rattle.tuning.specs.Ranges.{stepOk}
 use Rattle.frequency.specs.Order.{ahead}
-use Rattle.frequency.specs.Tracker.{Tracker, freqOf, due, tuned, samples, cfo, nextTuning, stepOf, afterTuning}
+use Rattle.frequency.specs.Tracker.{Tracker, freqOf, due, tuned, samples, cfo, afterTuning}
 use Rattle.frequency.proofs.Held.{map-append}
 use Rattle.frequency.proofs.Ordered.{Signals, rate-of}
 

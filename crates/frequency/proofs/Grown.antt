@@ -1,11 +1,11 @@
 -- A tracker grown from `new` is always in order: its rate, counts, indices, step and readings never give a cause. Assumes nothing.
 use mathlib.Core.Path.{_≡_, refl, sym, ap, _∙_, subst}
-use mathlib.Core.Bool.{Bool, true, false, not, cond, _&&_}
+use mathlib.Core.Bool.{Bool, true, false, not, cond}
 use mathlib.Core.List.{List, [], _∷_, _++_, map}
-use Prim.Native.Nat.{ℕ, zero, suc, _+_, _^_, _≤_, _<_}
+use Prim.Native.Nat.{ℕ, _+_, _^_, _≤_, _<_}
 use native.Mathlib.Omega.{arith}
 use borrow.Author.Tests.{le-leb, not-false}
-use lib.Dec.{leb, ltb}
+use lib.Dec.{ltb}
 use lib.ListN.{length, take, drop, length-map, length-append, length-drop}
 use lib.Seq.{take-at}
 use lib.Ieee.{Float}
@@ -18,15 +18,15 @@ use Rattle.signal.specs.Order.{Index, indexOk, signalOk}
 use Rattle.signal.specs.Heard.{heard}
 use Rattle.signal.specs.Seconds.{kept}
 use Rattle.retain.specs.Retain.{stays}
-use Rattle.lists.specs.Lists.{Reading, Tuning, mostPlaces, every, upTo, noNan, lastOr, readingsFrom, fitsReadings, fitsTunings}
+use Rattle.lists.specs.Lists.{Reading, Tuning, mostPlaces, every, upTo, noNan, lastOr, readingsFrom}
 use Rattle.lists.specs.Marks.{retained}
 use Rattle.measure.specs.Measured.{readingsOf}
 use Rattle.tuning.specs.Ranges.{stepOk}
 use Rattle.frequency.specs.declared.FrequencyTracker.{FrequencyTracker}
-use Rattle.frequency.specs.Calls.{Beside, fresh}
+use Rattle.frequency.specs.Calls.{fresh}
 use Rattle.frequency.specs.Grown.{Grown, new, tuned, samples, cfo, next}
 use Rattle.frequency.specs.Lent.{Lists, lists, tuningsOf, tracker, packed, over, stored}
-use Rattle.frequency.specs.Order.{ahead, tuningsInOrder, readingsInOrder, inOrder, numbersOk, dueOf, causeNew}
+use Rattle.frequency.specs.Order.{ahead, tuningsInOrder, readingsInOrder, inOrder, numbersOk, causeNew}
 use Rattle.frequency.specs.Tracker as T
 use Rattle.frequency.proofs.Choices.{not-refused}
 use Rattle.frequency.proofs.Good.{Good, good-tuned, good-samples, good-cfo, good-next}

@@ -10,7 +10,7 @@ use lib.ListN.{length, take, getD}
 use lib.Seq.{getD-take, length-take-le}
 use lib.Ieee.{Float}
 use Rattle.lists.specs.Marks.{marked, gathered}
-use Rattle.lists.specs.Lists.{upTo, Reaches}
+use Rattle.lists.specs.Lists.{Reaches}
 use Rattle.lists.proofs.Reach.{up-to-all}
 use Rattle.signal.specs.Seconds.{kept}
 use Rattle.retain.specs.Retain.{moved, Held, Leads, Looked, Moved, Compacted}

@@ -1,16 +1,15 @@
 -- Places moved to the front together, and the marks of a list whose leading elements alone go. Assumes nothing.
 use mathlib.Core.Path.{_≡_, refl, sym, ap, _∙_, subst}
-use mathlib.Core.Bool.{Bool, true, false, cond}
+use mathlib.Core.Bool.{Bool, true, false}
 use mathlib.Core.List.{List, [], _∷_, _++_, map}
-use Prim.Native.Nat.{ℕ, zero, suc, _+_, _-_, _/_, _%_, _≤_, _<_, _^_}
+use Prim.Native.Nat.{ℕ, zero, suc, _+_, _-_, _≤_, _<_}
 use native.Mathlib.Omega.{arith}
 use lib.Dec.{T, leb}
-use borrow.Author.Tests.{leb-true, leb-false}
 use lib.ListN.{length, take, drop, getD, set, length-drop, length-append, length-map, take-append-drop}
-use lib.Seq.{drop-cons, take-at, drop-append-add, take-add, drop-drop, sets, sets-eq, length-take-le, take-nil, take-all, getD-take}
+use lib.Seq.{drop-cons, take-at, drop-append-add, take-add, drop-drop, sets, sets-eq, length-take-le, take-nil, getD-take}
 use lib.Ieee.{Float}
 use Rattle.lists.specs.Marks.{marked, retained, gathered}
-use Rattle.lists.proofs.Gather.{marked-le, marked-turn, mark-at}
+use Rattle.lists.proofs.Gather.{marked-le, mark-at}
 use Rattle.retain.specs.Retain.{moved, Moved}
 
 module _ {A : Type 0} (a : List A) (k count : ℕ) (h : count ≤ length a) where

@@ -1,16 +1,16 @@
 -- READING C11: a floor that follows a sample stays between -200 and 100 dBm. The step towards the sample, rounded twice, is no longer than the way to it, and rounding keeps the
 -- order of the sum and the ends of the range, which are floats. Assumes nothing.
 use mathlib.Core.Path.{_≡_, refl, sym, ap, _∙_, subst}
-use mathlib.Core.Bool.{Bool, true, false, not, cond, _&&_, _||_, Bool·beq, true≢false}
+use mathlib.Core.Bool.{Bool, true, false, not, cond, _&&_, _||_, true≢false}
 use mathlib.Core.List.{List, [], _∷_}
 use Prim.Native.Nat.{ℕ, zero, suc, _+_, _-_, _*_, _^_, _≤_, _<_}
-use native.Mathlib.Nat.{le-trans, le-of-eq, lt-of-lt-of-le, lt-of-le-of-lt, mul-assoc, mul-comm, mul-left-comm, mul-right-comm, mul-one, one-mul, add-mul, mul-pos, zero-lt-suc, mul-le-mul-left, mul-le-mul-right, mul-lt-mul-of-pos-right, le-of-mul-le-mul-right}
+use native.Mathlib.Nat.{le-trans, le-of-eq, lt-of-lt-of-le, lt-of-le-of-lt, mul-assoc, mul-comm, mul-left-comm, mul-right-comm, mul-one, add-mul, mul-pos, zero-lt-suc, mul-le-mul-left, mul-le-mul-right, mul-lt-mul-of-pos-right, le-of-mul-le-mul-right}
 use native.Mathlib.Omega.{arith}
-use borrow.Author.Tests.{ltb-true, ltb-false, leb-true, lt-ltb, le-ltb, eq-eqb, eqb-true}
-use lib.Dec.{T, ltb, leb, eqb, lit≤, eqb·suc-zero}
+use borrow.Author.Tests.{ltb-true, ltb-false, leb-true, lt-ltb, eq-eqb, eqb-true}
+use lib.Dec.{T, ltb, eqb, lit≤, eqb·suc-zero}
 use lib.Pow.{pow-pos}
 use lib.IntN.{ℤ, pos}
-use lib.Ieee.{Float, nan, inf, fin, Format, binary64, unlike, up, down, round, sum, add, sub, div, neg, lt, le, eq, ofInt}
+use lib.Ieee.{Float, nan, inf, fin, binary64, unlike, up, down, round, sum, add, sub, div, neg, lt, le, eq, ofInt}
 use lib.Ieee.Exact.{HasValue, units-val}
 use lib.Ieee.Fits.{round-is, down-pos, up-pos}
 use lib.Ieee.Back.{round-whole}

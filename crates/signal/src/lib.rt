@@ -2,8 +2,7 @@
 // indices with seconds.
 ghost use mathlib.Core.Path.{_≡_};
 ghost use mathlib.Core.Bool.{cond, _&&_};
-ghost use Prim.Native.Nat.{ℕ, _+_, _≤_, _<_, _^_};
-ghost use lib.Dec.{leb};
+ghost use Prim.Native.Nat.{_+_, _≤_, _<_, _^_};
 ghost use lib.ListN.{length};
 ghost use Rattle.limits.specs.Limits.{longestStream};
 ghost use Rattle.limits.specs.Samples.{isDbm};

@@ -1,6 +1,5 @@
 -- `frequency::in_order_looked` meets its contract. Assumes nothing.
 use Rattle.frequency.proofs.Ordered.{both-ordered}
-use mathlib.Core.Path.{_∙_}
 use borrow.Author.Needs.{needs}
 use Rattle.frequency.proofs.in_order_looked.Statement.{statement}
 use Rattle.frequency.proofs.in_order_looked.Tie as tie
