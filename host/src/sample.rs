@@ -19,26 +19,34 @@ const RANDOM: usize = 100;
 pub fn write(names: &[&str]) -> Result<ExitCode, String> {
     for name in names {
         let format = generate::format(name).ok_or(format!("there is no format {name}"))?;
-        let input = input(format);
-        let answers = oracle::lines(name, &input).expect("every generated format has an oracle");
-        let folder = root().join("crates").join(program_name(name));
-        for (file, bytes) in [("stdin", &input[..]), ("stdout", answers.as_bytes())] {
-            let path = folder.join(file);
-            fs::write(&path, bytes).map_err(|e| format!("{}: {e}", path.display()))?;
+        match format.runs {
+            None => write_run(name, &program_name(name), &chosen_cases(format))?,
+            Some(runs) => {
+                for (program, run) in runs() {
+                    write_run(name, program, &run.bytes)?;
+                }
+            }
         }
-        println!(
-            "{name}: {} bytes in, {} lines out",
-            input.len(),
-            answers.lines().count()
-        );
     }
     Ok(ExitCode::SUCCESS)
 }
 
-fn input(format: &Format) -> Vec<u8> {
-    if let Some(sample) = format.sample {
-        return sample().bytes;
+fn write_run(name: &str, program: &str, input: &[u8]) -> Result<(), String> {
+    let answers = oracle::lines(name, input).expect("every generated format has an oracle");
+    let folder = root().join("crates").join(program);
+    for (file, bytes) in [("stdin", input), ("stdout", answers.as_bytes())] {
+        let path = folder.join(file);
+        fs::write(&path, bytes).map_err(|e| format!("{}: {e}", path.display()))?;
     }
+    println!(
+        "{program}: {} bytes in, {} lines out",
+        input.len(),
+        answers.lines().count()
+    );
+    Ok(())
+}
+
+fn chosen_cases(format: &Format) -> Vec<u8> {
     let cases = format.cases(SEED, RANDOM);
     let (short, whole): (Vec<&Case>, Vec<&Case>) = cases.iter().partition(|c| c.short);
     let size = |case: &Case| {

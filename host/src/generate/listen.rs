@@ -12,19 +12,33 @@ fn record(put: Put, raw: &[u8], cfo: u16, hz: u32) -> Put {
     put.raw(raw).u16(cfo).u32(hz).u16(0xabcd)
 }
 
+fn quiet(put: Put, hz: u32) -> Put {
+    record(put, &[200; 8], 0, hz)
+}
+
+fn no_records() -> Case {
+    case("no records", Put::new())
+}
+
+fn one_record() -> Case {
+    case("01's example", quiet(Put::new(), BASE))
+}
+
+/// Each record reports another frequency, and the last one's again.
+fn tunings(count: u32) -> Case {
+    let put = (0..count).fold(Put::new(), |put, i| quiet(put, BASE + i));
+    case(format!("{count} tunings"), quiet(put, BASE + count - 1))
+}
+
 pub fn directed() -> Vec<Case> {
-    let quiet = |put: Put, hz: u32| record(put, &[200; 8], 0, hz);
     let mut cases = vec![
-        case("no records", Put::new()),
-        case("01's example", quiet(Put::new(), BASE)),
+        no_records(),
+        one_record(),
         case("leftover bytes alone", Put::new().raw(&[1; 15])),
         case("leftover bytes", quiet(quiet(Put::new(), BASE), BASE).raw(&[1; 7])),
         case("frequency 0", quiet(quiet(Put::new(), 0), 0)),
     ];
-    for tunings in [64, 65] {
-        let put = (0..tunings).fold(Put::new(), |put, i| quiet(put, BASE + i));
-        cases.push(case(format!("{tunings} tunings"), quiet(put, BASE + tunings - 1)));
-    }
+    cases.extend([64, 65].map(tunings));
     cases.push(stream(&mut Rng::new(3), 75, 0.0));
     cases
 }
@@ -53,7 +67,12 @@ pub fn stream(rng: &mut Rng, seconds: usize, stubborn: f64) -> Case {
     case("a stream", put.raw(&vec![9; leftover]))
 }
 
-/// The run that the gate replays.
-pub fn sample() -> Case {
-    stream(&mut Rng::new(3), 75, 0.0)
+/// The runs that the gate replays. The stream's messages are whole and with ranks missing, with and without a payload and a frequency; it ends inside a record.
+pub fn runs() -> Vec<(&'static str, Case)> {
+    vec![
+        ("listen", stream(&mut Rng::new(6), 75, 0.0)),
+        ("listen_one", one_record()),
+        ("listen_nothing", no_records()),
+        ("listen_full", tunings(65)),
+    ]
 }

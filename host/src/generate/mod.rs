@@ -36,8 +36,8 @@ pub struct Format {
     pub rows: u8,
     pub directed: fn() -> Vec<Case>,
     pub random: fn(&mut Rng) -> Case,
-    /// The run that the gate replays, where it isn't a choice of the cases
-    pub sample: Option<fn() -> Case>,
+    /// The programs and the runs that the gate replays, where these aren't a choice of the cases
+    pub runs: Option<fn() -> Vec<(&'static str, Case)>>,
 }
 
 pub const FORMATS: &[Format] = &[
@@ -47,7 +47,7 @@ pub const FORMATS: &[Format] = &[
         rows: 0,
         directed: bits::directed,
         random: bits::random,
-        sample: None,
+        runs: None,
     },
     Format {
         name: "events",
@@ -55,7 +55,7 @@ pub const FORMATS: &[Format] = &[
         rows: 0,
         directed: events::directed,
         random: events::random,
-        sample: Some(events::sample),
+        runs: Some(|| vec![("replay_events", events::sample())]),
     },
     Format {
         name: "bursts",
@@ -63,7 +63,7 @@ pub const FORMATS: &[Format] = &[
         rows: 0,
         directed: bursts::directed,
         random: bursts::random,
-        sample: None,
+        runs: None,
     },
     Format {
         name: "dips",
@@ -71,7 +71,7 @@ pub const FORMATS: &[Format] = &[
         rows: 0,
         directed: dips::directed,
         random: dips::random,
-        sample: None,
+        runs: None,
     },
     Format {
         name: "burstbits",
@@ -79,7 +79,7 @@ pub const FORMATS: &[Format] = &[
         rows: 0,
         directed: burstbits::directed,
         random: burstbits::random,
-        sample: None,
+        runs: None,
     },
     Format {
         name: "burst",
@@ -87,7 +87,7 @@ pub const FORMATS: &[Format] = &[
         rows: 0,
         directed: burst::directed,
         random: burst::random,
-        sample: None,
+        runs: None,
     },
     Format {
         name: "capture",
@@ -95,7 +95,7 @@ pub const FORMATS: &[Format] = &[
         rows: 0,
         directed: capture::directed,
         random: capture::random,
-        sample: None,
+        runs: None,
     },
     Format {
         name: "tracker",
@@ -103,7 +103,7 @@ pub const FORMATS: &[Format] = &[
         rows: 0,
         directed: tracker::directed,
         random: tracker::random,
-        sample: Some(tracker::sample),
+        runs: Some(|| vec![("replay_tracker", tracker::sample())]),
     },
     Format {
         name: "listen",
@@ -111,7 +111,7 @@ pub const FORMATS: &[Format] = &[
         rows: 0,
         directed: listen::directed,
         random: listen::random,
-        sample: Some(listen::sample),
+        runs: Some(listen::runs),
     },
     Format {
         name: "misc",
@@ -119,7 +119,7 @@ pub const FORMATS: &[Format] = &[
         rows: misc::ROWS,
         directed: misc::directed,
         random: misc::random,
-        sample: None,
+        runs: None,
     },
 ];
 

@@ -43,7 +43,10 @@ impl Waiting {
         let auth = rng.below(6);
         let known = rng.chance(0.5);
         let flags = rng.below(4) as u8 + 4 + 8 * rng.below(4) as u8;
-        w.put(0, &[2, ranks.iter().map(|r| 1 << r).sum(), flags & 31 | 32 * u8::from(known)]);
+        w.put(
+            0,
+            &[2, ranks.iter().map(|r| 1 << r).sum(), flags & 31 | 32 * u8::from(known)],
+        );
         w.put(3, &[payload as u8, auth as u8]);
         w.put(8, &device.to_le_bytes());
         w.put(12, &counter.to_le_bytes());
@@ -126,11 +129,14 @@ fn in_order(rng: &mut Rng, rate: u32, dbm: &[f32], held: usize) -> State {
     }
 }
 
+/// Ways to spoil a state.
+const RULES: usize = 14;
+
 /// The state with one rule of 01's order broken, or with a NaN.
-fn spoiled(rng: &mut Rng, rate: u32, s: &State) -> State {
+fn spoiled(rng: &mut Rng, rate: u32, s: &State, rule: usize) -> State {
     let r = u64::from(rate);
     let mut t = s.clone();
-    match rng.below(12) {
+    match rule {
         0 => t.unscanned = rate.div_ceil(2),
         1 => t.base = (1 << 40) - t.held.len() as u64 + 1,
         2 => t.starts.push(t.base + t.held.len() as u64),
@@ -146,7 +152,12 @@ fn spoiled(rng: &mut Rng, rate: u32, s: &State) -> State {
             w.put(3, &[13]);
             t.waiting = vec![w];
         }
-        _ => t.waiting = (0..129).map(|i| Waiting::new(rng, i, 0, &[0], 1.0)).collect(),
+        11 => t.held = vec![-110.0; 12 * rate as usize + 1],
+        12 => t.starts = (0..97).map(|i| t.base + i).collect(),
+        _ => {
+            let count = rng.pick(&[129, 169, 255]);
+            t.waiting = (0..count).map(|i| Waiting::new(rng, i, 0, &[0], 1.0)).collect();
+        }
     }
     t
 }
@@ -159,7 +170,8 @@ pub fn random(rng: &mut Rng, rate: u32, air: &Air) -> Case {
     let state = in_order(rng, rate, &dbm, held);
     let mut calls = Calls::new(rate);
     if rng.chance(0.3) {
-        let bad = spoiled(rng, rate, &state);
+        let rule = rng.below(RULES);
+        let bad = spoiled(rng, rate, &state, rule);
         calls = calls.given(&bad).push(&dbm[..1]).flush();
     }
     calls = calls.given(&state);
@@ -208,9 +220,31 @@ pub fn directed(cases: &mut Vec<Case>) {
         let calls = Calls::new(rate).given(&state).push(&dbm[..500]).flush();
         cases.push(calls.case(format!("given, {waiting} waiting")));
     }
-    for _ in 0..60 {
+    for i in 0..5 * RULES {
         let state = in_order(rng, rate, &dbm, 3000);
-        let bad = spoiled(rng, rate, &state);
-        cases.push(Calls::new(rate).given(&bad).push(&dbm[..600]).flush().case("given, one rule broken"));
+        let bad = spoiled(rng, rate, &state, i % RULES);
+        cases.push(
+            Calls::new(rate)
+                .given(&bad)
+                .push(&dbm[..600])
+                .flush()
+                .case("given, one rule broken"),
+        );
     }
+}
+
+/// States in order and every way to spoil one, each with a push and a flush; then a state that is cut short.
+pub fn sample(rate: u32, dbm: &[f32], calls: Calls) -> Calls {
+    let rng = &mut Rng::new(6);
+    let r = rate as usize;
+    let mut calls = calls;
+    for i in 0..RULES {
+        let state = in_order(rng, rate, &dbm[..2 * r], r);
+        let bad = spoiled(rng, rate, &state, i);
+        calls = calls.given(&bad).push(&dbm[r..r + 8]).flush();
+        if i % 3 == 0 {
+            calls = calls.given(&state).push(&dbm[r..2 * r]).flush();
+        }
+    }
+    Calls(calls.0.u8(3).u64(1).u32(2))
 }

@@ -162,7 +162,7 @@ fn busy(rng: &mut Rng, rate: u32, samples: usize) -> Air {
     air
 }
 
-/// A run at 250/s: three repetitions, a rank twice, a floor that sinks, drops, flushes and refused calls.
+/// A run at 250/s: three repetitions, a rank twice, a floor that sinks, drops, flushes and refused calls, then states that are handed in.
 pub fn sample() -> Case {
     let rate = 250;
     let mut rng = Rng::new(250);
@@ -208,5 +208,6 @@ pub fn sample() -> Case {
         }
         at = end;
     }
-    calls.push_raw(&[200; 3001]).flush().case("sample")
+    let calls = calls.push_raw(&[200; 3001]).flush();
+    given::sample(rate, &dbm, calls).case("sample")
 }
