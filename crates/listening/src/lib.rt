@@ -5,9 +5,7 @@ mod lines; // what is printed
 mod messages; // what a call of the receiver brings
 mod writing; // a line, put together and written at once
 
-ghost use mathlib.Core.Path.{_≡_};
-ghost use Prim.Native.Nat.{_+_, _≤_, _<_};
-ghost use lib.ListN.{length};
+ghost use Prim.Native.Nat.{_≤_, _<_};
 use crate::input::BUFFER;
 use crate::input::RECORD;
 use crate::input::Record;
@@ -45,51 +43,29 @@ fn fresh() -> Listening
     }
 }
 
+// `push_raw` of a record; nothing after a refusal.
 fn push(
     receiver: SigfoxReceiver,
+    l: Listener,
     record: Record,
     samples: &mut [f32; 12000],
     events: &mut [u8; 30720],
     scratch32: &mut [f32; 12000],
     scratch64: &mut [f64; 8000],
 ) -> Received {
+    if !l.going {
+        return Received {
+            refused: 0,
+            count: 0,
+            receiver,
+        };
+    }
     let raw = record.raw;
     receiver.push_raw(&raw, samples, events, scratch32, scratch64)
 }
 
-// One whole record: the tracker's calls, then `push_raw`.
+// The whole records of the buffer, from one place on to another. The receiver goes from call to call by itself: it is large.
 fn hear(
-    l: Listening,
-    record: Record,
-    at: &mut [u64; 8000],
-    lo: &mut [u32; 8000],
-    hz: &mut [f64; 8000],
-    tuned: &mut [u64; 64],
-    freq: &mut [u32; 64],
-    samples: &mut [f32; 12000],
-    events: &mut [u8; 30720],
-    scratch32: &mut [f32; 12000],
-    scratch64: &mut [f64; 8000],
-) -> Listening {
-    let before = l.listener;
-    let heard = track(before, record, at, lo, hz, tuned, freq, scratch64);
-    let mut m = l;
-    m.listener = heard;
-    if !heard.going {
-        return m;
-    }
-    let receiver = l.receiver;
-    let r = push(receiver, record, samples, events, scratch32, scratch64);
-    let next = r.receiver;
-    m.receiver = next;
-    let mut after = emit_all(heard, r.refused, r.count, events, at, lo, hz, scratch64);
-    after.samples = std::num::wrapping_add_u64(after.samples, 8);
-    m.listener = after;
-    m
-}
-
-// The records of the buffer from one place on that are whole; nothing after a refusal.
-fn hear_all(
     l: Listening,
     input: &[u8; 4096],
     from: usize,
@@ -106,28 +82,30 @@ fn hear_all(
 ) -> Listening
     requires { ⌜ end ≤ 4096 ⌝ }
 {
-    let mut m = l;
+    let mut listener = l.listener;
+    let mut receiver = l.receiver;
     let last = end / RECORD;
     let mut i = from / RECORD;
     while i < last {
-        if !m.listener.going {
-            return m;
-        }
-        m = hear(
-            m,
-            record_at(input, RECORD * i),
-            at,
-            lo,
-            hz,
-            tuned,
-            freq,
+        let record = record_at(input, RECORD * i);
+        i += 1;
+        let heard = track(listener, record, at, lo, hz, tuned, freq, scratch64);
+        let r = push(
+            receiver,
+            heard,
+            record,
             samples,
             events,
             scratch32,
             scratch64,
         );
-        i += 1;
+        let next = r.receiver;
+        receiver = next;
+        listener = emit_all(heard, r.refused, r.count, events, at, lo, hz, scratch64);
     }
+    let mut m = l;
+    m.listener = listener;
+    m.receiver = receiver;
     m
 }
 
@@ -151,7 +129,7 @@ fn turn(
     let from = l.filled;
     let n = fetch(input, from);
     let end = from + n;
-    let mut m = hear_all(
+    let mut m = hear(
         l,
         input,
         from,
@@ -194,7 +172,9 @@ fn finish(
 // The last line; none where one before it could not be written.
 fn conclude(l: Listener, leftover: usize) {
     if l.going {
-        print_end(l.samples, l.frames, l.messages, leftover);
+        let tracker = l.tracker;
+        let signal = tracker.signal;
+        print_end(signal.n, l.frames, l.messages, leftover);
         return;
     }
     if l.refused != 0 {

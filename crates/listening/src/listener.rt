@@ -9,12 +9,11 @@ pub const RATE: u32 = 1000;
 // Hz of one step of the frequency offset register.
 const STEP_HZ: f64 = 122.0703125;
 
-// Whether no call was refused and every line went out, the refusal or 0, whether there was a record, and what was counted.
+// Whether no call was refused and every line went out, the refusal or 0, whether there was a record, what was counted, and the tracker, which counts the samples.
 pub struct Listener {
     pub going: bool,
     pub refused: u8,
     pub started: bool,
-    pub samples: u64,
     pub frames: u64,
     pub messages: u64,
     pub tracker: FrequencyTracker,
@@ -27,7 +26,6 @@ pub fn fresh() -> Listener {
         going: true,
         refused: 0,
         started: false,
-        samples: 0,
         frames: 0,
         messages: 0,
         tracker,
@@ -85,7 +83,7 @@ fn levels(record: Record) -> [f32; 8] {
     dbm
 }
 
-// The tracker's calls for one record: `tuned`, `samples`, `cfo`, `next_tuning`.
+// The tracker's calls for one record: `tuned`, `samples`, `cfo`, `next_tuning`; nothing after a refusal.
 pub fn track(
     l: Listener,
     record: Record,
@@ -96,6 +94,9 @@ pub fn track(
     freq: &mut [u32; 64],
     scratch64: &mut [f64; 8000],
 ) -> Listener {
+    if !l.going {
+        return l;
+    }
     let s = start(l, record.hz);
     let first = s.tracker;
     let a = first.tuned(record.hz, tuned, freq);
