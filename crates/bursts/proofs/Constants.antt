@@ -1,20 +1,8 @@
 -- The constants of the code, as the check has them, by bit patterns, are those of specs. Assumes nothing.
 use mathlib.Core.Path.{_≡_, refl}
 use lib.Ieee.{binary32, binary64, round, neg, ofInt, ofBits}
-use Rattle.rates.specs.Numbers.{minMs, gapMs, msPerS}
-use Rattle.bursts.specs.Numbers.{aboveDb, mostDb, mostMs, silence, lowestPeak}
-
-pub above-is : ofBits binary64 0x402e_0000_0000_0000 ≡ aboveDb
-unfolding ofBits ofInt round
-above-is = refl
-
-pub min-is : ofBits binary64 0x4072_c000_0000_0000 ≡ minMs
-unfolding ofBits ofInt round
-min-is = refl
-
-pub gap-is : ofBits binary64 0x4044_0000_0000_0000 ≡ gapMs
-unfolding ofBits ofInt round
-gap-is = refl
+use Rattle.rates.specs.Numbers.{msPerS}
+use Rattle.bursts.specs.Numbers.{mostDb, mostMs, silence, lowestPeak}
 
 pub ms-per-s-is : ofBits binary64 0x408f_4000_0000_0000 ≡ msPerS
 unfolding ofBits ofInt round

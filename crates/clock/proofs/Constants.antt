@@ -1,11 +1,7 @@
 -- The constants of the code, as the check has them, by bit patterns, are those of specs. Assumes nothing.
 use mathlib.Core.Path.{_≡_, refl}
 use lib.Ieee.{binary64, round, ofInt, ofBits}
-use Rattle.clock.specs.Numbers.{offGrid, endDb, million}
-
-pub off-grid-is : ofBits binary64 0x3fd6_6666_6666_6666 ≡ offGrid
-unfolding ofBits round
-off-grid-is = refl
+use Rattle.clock.specs.Numbers.{endDb, million}
 
 pub end-is : ofBits binary64 0x402e_0000_0000_0000 ≡ endDb
 unfolding ofBits ofInt round
