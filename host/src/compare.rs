@@ -16,9 +16,9 @@ pub fn root() -> PathBuf {
 }
 
 /// Where rt puts a program; another folder for trying the comparison itself.
-pub fn program(name: &str) -> PathBuf {
+pub fn bin(program: &str) -> PathBuf {
     let folder = std::env::var("BARSHUNET_BIN").map_or_else(|_| root().join("target/bin"), PathBuf::from);
-    folder.join(program_name(name))
+    folder.join(program)
 }
 
 pub fn program_name(name: &str) -> String {
@@ -59,7 +59,7 @@ struct Difference {
 
 impl Run {
     fn new(format: &'static Format, seed: u64) -> Result<Self, String> {
-        let program = program(format.name);
+        let program = bin(&program_name(format.name));
         if !program.is_file() {
             let name = program_name(format.name);
             return Err(format!("{} is not there; rt check {name} makes it", program.display()));

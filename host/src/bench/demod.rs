@@ -1,6 +1,6 @@
 //! The calls of demod.rs, by the functions of the crate `bench`, beside the Rust's own.
 
-use super::Row;
+use super::{Row, grouped};
 use crate::generate::load;
 use crate::rust::demod::{BIT_RATE, BurstOptions, burst_bits, decode_capture, find_bursts, find_dips, noise_floor};
 
@@ -109,12 +109,16 @@ pub fn rows() -> Vec<Row> {
 
 const TIMES: usize = 100;
 
+fn at(rate: u32) -> String {
+    format!("at {}/s", grouped(rate as usize))
+}
+
 fn bursts_row(rate: u32) -> Row {
     let dbm = load::samples(rate);
     let rust = move |dbm: &Vec<f32>| find_bursts(dbm, rate, &BurstOptions::default(), noise_floor(dbm)).len();
     assert_eq!(bursts(&dbm, rate), rust(&dbm));
-    let label = format!("noise_floor, {} bursts in 12 s, {rate}/s", rust(&dbm));
-    Row::new(TIMES, label, dbm, rust, move |dbm| bursts(dbm, rate))
+    let label = format!("`noise_floor` and {} bursts, 12 s {}", rust(&dbm), at(rate));
+    Row::new("demod.rs", TIMES, label, dbm, rust, move |dbm| bursts(dbm, rate))
 }
 
 fn dips_row(rate: u32) -> Row {
@@ -124,7 +128,14 @@ fn dips_row(rate: u32) -> Row {
     let rust = move |seg: &Vec<f32>| find_dips(seg, nominal, level).len();
     let port = move |seg: &Vec<f32>| dips(seg, rate, level, &mut [0.0; DIPS]);
     assert_eq!(port(&seg), rust(&seg));
-    Row::new(TIMES, format!("find_dips, 12-byte frame, {rate}/s"), seg, rust, port)
+    Row::new(
+        "demod.rs",
+        TIMES,
+        format!("`find_dips`, 12-byte frame {}", at(rate)),
+        seg,
+        rust,
+        port,
+    )
 }
 
 fn bits_row(rate: u32) -> Row {
@@ -135,7 +146,14 @@ fn bits_row(rate: u32) -> Row {
         bits(seg, rate, &mut [0; BITS], &mut scratch32, &mut [0.0; DIPS])
     };
     assert_eq!(port(&seg), rust(&seg));
-    Row::new(TIMES, format!("burst_bits, 12-byte frame, {rate}/s"), seg, rust, port)
+    Row::new(
+        "demod.rs",
+        TIMES,
+        format!("`burst_bits`, 12-byte frame {}", at(rate)),
+        seg,
+        rust,
+        port,
+    )
 }
 
 fn capture_row(rate: u32) -> Row {
@@ -146,5 +164,12 @@ fn capture_row(rate: u32) -> Row {
         capture(dbm, rate, &mut [0; EVENTS], &mut scratch32, &mut [0.0; DIPS])
     };
     assert_eq!(port(&dbm), rust(&dbm));
-    Row::new(TIMES, format!("decode_capture, 12 s, {rate}/s"), dbm, rust, port)
+    Row::new(
+        "demod.rs",
+        TIMES,
+        format!("`decode_capture`, 12 s {}", at(rate)),
+        dbm,
+        rust,
+        port,
+    )
 }

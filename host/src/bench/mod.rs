@@ -1,64 +1,99 @@
-//! The benchmark: one table, both sides in one run, on the same bytes.
+//! The benchmark: one table in markdown, both sides in one run, on the same bytes.
 
+mod clock;
 #[cfg(has_bench)]
 mod demod;
 #[cfg(has_record)]
 mod frame;
+mod listen;
 #[cfg(has_bench)]
 mod order;
 mod programs;
 mod receiver;
 mod tracker;
 
-use std::hint::black_box;
 use std::process::ExitCode;
-use std::time::Instant;
+
+use clock::seconds;
 
 const ROUNDS: usize = 5;
 
 /// What is timed on each side; no port where it isn't built.
 pub struct Row {
-    label: String,
+    /// The Rust's module, or what else the row belongs to
+    of: &'static str,
+    what: String,
+    unit: Unit,
     rust: Box<dyn Fn()>,
     port: Option<Box<dyn Fn()>>,
 }
 
-/// The rows whose labels hold one of the words, or all.
+enum Unit {
+    /// Microseconds for a call, of so many that are timed together
+    #[cfg_attr(not(any(has_record, has_bench)), expect(dead_code))]
+    Call(usize),
+    /// Milliseconds for a run
+    Run,
+}
+
+/// The rows whose first two columns hold one of the words, or all.
 pub fn run(words: &[&str]) -> Result<ExitCode, String> {
-    println!(
-        "{:48} {:>10} {:>10} {:>8}",
-        "best of five", "Rust ms", "port ms", "ratio"
-    );
+    println!("{}; processor time, best of {ROUNDS}\n", machine());
+    println!("| of | what | unit | Rust | port | port/Rust |\n|---|---|---|---|---|---|");
     for row in programs::rows()?.iter().chain(&libraries()) {
-        if words.is_empty() || words.iter().any(|word| row.label.contains(word)) {
-            row.print();
+        let name = row.name();
+        if words.is_empty() || words.iter().any(|word| name.contains(word)) {
+            println!("{}", row.line());
         }
     }
     Ok(ExitCode::SUCCESS)
 }
 
-/// Rows that call the port's functions through static libraries (`rt staticlib record`, `rt staticlib bench`).
+/// The processor and how many there are, as Linux says.
+fn machine() -> String {
+    let text = std::fs::read_to_string("/proc/cpuinfo").unwrap_or_default();
+    let names = text.lines().filter(|line| line.starts_with("model name"));
+    let names: Vec<&str> = names.filter_map(|line| line.split(": ").nth(1)).collect();
+    let name = names.first().unwrap_or(&"unknown processor");
+    format!("{} x {name}", names.len())
+}
+
+/// Rows that call the port's functions through static libraries.
 fn libraries() -> Vec<Row> {
-    let mut rows = vec![];
-    #[cfg(has_record)]
-    rows.extend(frame::rows());
     #[cfg(has_bench)]
-    rows.extend(order::rows().into_iter().chain(demod::rows()));
-    rows
+    let (order, demod) = (order::rows(), demod::rows());
+    #[cfg(not(has_bench))]
+    let (order, demod) = (missing("bench", "order"), missing("bench", "demod.rs"));
+    #[cfg(has_record)]
+    let frame = frame::rows();
+    #[cfg(not(has_record))]
+    let frame = missing("record", "frame.rs");
+    order.into_iter().chain(frame).chain(demod).collect()
+}
+
+#[cfg(not(all(has_record, has_bench)))]
+fn missing(library: &str, of: &str) -> Vec<Row> {
+    eprintln!("no rows of {of}: rt staticlib {library} makes their library");
+    vec![]
 }
 
 impl Row {
     /// Both sides on one input, so many times.
+    #[cfg(any(has_record, has_bench))]
     pub fn new<T: Clone + 'static, A: 'static, B: 'static>(
+        of: &'static str,
         times: usize,
-        label: String,
+        what: String,
         input: T,
         rust: impl Fn(&T) -> A + 'static,
         port: impl Fn(&T) -> B + 'static,
     ) -> Self {
+        use std::hint::black_box;
         let same = input.clone();
         Self {
-            label: format!("{times} times {label}"),
+            of,
+            what,
+            unit: Unit::Call(times),
             rust: Box::new(move || (0..times).for_each(|_| drop(black_box(rust(black_box(&input)))))),
             port: Some(Box::new(move || {
                 (0..times).for_each(|_| drop(black_box(port(black_box(&same)))))
@@ -66,25 +101,58 @@ impl Row {
         }
     }
 
+    fn name(&self) -> String {
+        format!("| {} | {} |", self.of, self.what)
+    }
+
     /// The sides take turns, so that whatever slows the machine slows both.
-    fn print(&self) {
+    fn line(&self) -> String {
         let (mut rust, mut port) = (f64::INFINITY, f64::INFINITY);
         for _ in 0..ROUNDS {
-            rust = rust.min(milliseconds(&*self.rust));
+            rust = rust.min(seconds(&*self.rust));
             if let Some(run) = &self.port {
-                port = port.min(milliseconds(&**run));
+                port = port.min(seconds(&**run));
             }
         }
+        let (unit, scale) = match self.unit {
+            Unit::Call(times) => ("µs a call", 1e6 / times as f64),
+            Unit::Run => ("ms a run", 1e3),
+        };
         let (port, ratio) = match self.port {
-            Some(_) => (format!("{port:.3}"), format!("{:.2}", port / rust)),
+            Some(_) => (figure(scale * port), figure(port / rust)),
             None => ("-".to_string(), "-".to_string()),
         };
-        println!("{:48} {rust:>10.3} {port:>10} {ratio:>8}", self.label);
+        format!("{} {unit} | {} | {port} | {ratio} |", self.name(), figure(scale * rust))
     }
 }
 
-fn milliseconds(run: &dyn Fn()) -> f64 {
-    let start = Instant::now();
-    run();
-    1000.0 * start.elapsed().as_secs_f64()
+/// Three digits or all before the point, those in groups of three.
+fn figure(x: f64) -> String {
+    match x {
+        0.0..0.095 => format!("{x:.3}"),
+        0.095..9.95 => format!("{x:.2}"),
+        9.95..99.5 => format!("{x:.1}"),
+        _ => grouped(x.round() as usize),
+    }
+}
+
+fn grouped(n: usize) -> String {
+    match n {
+        0..1000 => n.to_string(),
+        _ => format!("{},{:03}", grouped(n / 1000), n % 1000),
+    }
+}
+
+#[test]
+fn figures() {
+    let pairs = [
+        (0.004, "0.004"),
+        (0.2, "0.20"),
+        (56.04, "56.0"),
+        (999.4, "999"),
+        (11_424.2, "11,424"),
+    ];
+    for (x, text) in pairs {
+        assert_eq!(figure(x), text);
+    }
 }

@@ -1,6 +1,6 @@
 //! Order statistics: the crate `bench`'s functions beside the Rust's own.
 
-use super::Row;
+use super::{Row, grouped};
 use crate::generate::load;
 use crate::rust::demod::noise_floor;
 use crate::rust::frequency::median;
@@ -40,13 +40,20 @@ pub fn rows() -> Vec<Row> {
 fn floor_row(kind: &str, dbm: Vec<f32>) -> Row {
     let k = dbm.len() / 5;
     assert_eq!(select32(&dbm, k), noise_floor(&dbm));
-    let label = format!("noise_floor of {}, {kind}", dbm.len());
-    Row::new(TIMES, label, dbm, |dbm| noise_floor(dbm), move |dbm| select32(dbm, k))
+    let label = format!("`noise_floor` of {} f32, {kind}", grouped(dbm.len()));
+    Row::new(
+        "order",
+        TIMES,
+        label,
+        dbm,
+        |dbm| noise_floor(dbm),
+        move |dbm| select32(dbm, k),
+    )
 }
 
 fn median_row(kind: &str, hz: Vec<f64>) -> Row {
     let k = hz.len() / 2;
     assert_eq!(select64(&hz, k), median(&hz));
-    let label = format!("median of {}, {kind}", hz.len());
-    Row::new(TIMES, label, hz, |hz| median(hz), move |hz| select64(hz, k))
+    let label = format!("`median` of {} f64, {kind}", grouped(hz.len()));
+    Row::new("order", TIMES, label, hz, |hz| median(hz), move |hz| select64(hz, k))
 }

@@ -1,44 +1,29 @@
 //! Rows of the receiver over raw samples in pushes of one size: the Rust here, the port as the program `bench_receiver`.
 
-use std::fs;
-use std::hint::black_box;
-use std::path::Path;
-
-use super::{Row, tracker};
-use crate::compare::root;
+use super::{Row, programs};
 use crate::generate::load::air;
 use crate::rust::receiver::SigfoxReceiver;
 
 const SECONDS: usize = 600;
 
-/// Rate and samples a push.
-const LOADS: [(u32, usize); 3] = [(1000, 8), (1000, 1000), (4000, 4000)];
+/// Rate, samples a push, and how the row names them.
+const LOADS: [(u32, usize, &str); 3] = [
+    (1000, 8, "1,000/s, pushes of 8 samples"),
+    (1000, 1000, "1,000/s, pushes of 1 s"),
+    (4000, 4000, "4,000/s, pushes of 1 s"),
+];
 
-pub fn rows(folder: &Path) -> Result<Vec<Row>, String> {
-    LOADS.iter().map(|&(rate, step)| row(folder, rate, step)).collect()
+pub fn rows() -> Result<Vec<Row>, String> {
+    LOADS.iter().map(row).collect()
 }
 
-fn row(folder: &Path, rate: u32, step: usize) -> Result<Row, String> {
-    let label = format!("receiver, {SECONDS} s at {rate}/s in pushes of {step}");
+fn row(&(rate, step, how): &(u32, usize, &str)) -> Result<Row, String> {
     let raw = air(rate, SECONDS);
-    let input = folder.join(format!("receiver-{rate}-{step}.bin"));
     let head = [rate.to_le_bytes(), (step as u32).to_le_bytes()].concat();
-    fs::write(&input, [head, raw.clone()].concat()).map_err(|e| format!("{}: {e}", input.display()))?;
-    let program = root().join("target/bin/bench_receiver");
-    let there = program.is_file();
-    if there && tracker::run(&program, &input) != line(rate, step, &raw) {
-        return Err(format!("{label}: the port's count is not the Rust's"));
-    }
-    Ok(Row {
-        label,
-        rust: Box::new(move || {
-            black_box(line(rate, step, &raw));
-        }),
-        port: there.then(|| -> Box<dyn Fn()> {
-            Box::new(move || {
-                black_box(tracker::run(&program, &input));
-            })
-        }),
+    let input = [head, raw.clone()].concat();
+    let what = format!("events, {SECONDS} s at {how}");
+    programs::row("receiver.rs", what, "bench_receiver", &input, move || {
+        line(rate, step, &raw)
     })
 }
 

@@ -1,7 +1,6 @@
 //! Inputs for the benchmark: minutes of air with devices, and bits that can't be repaired.
 
 pub use super::band::STEP_HZ;
-use super::events::Calls;
 use super::listen;
 pub use super::listen::RATE;
 use super::put::Put;
@@ -9,34 +8,6 @@ use super::rng::Rng;
 use super::signal::{self, Air, Shape};
 use super::uplink::{Uplink, damage};
 use crate::rust::frame::decode_uplink_bits;
-
-/// A run of one program.
-pub struct Load {
-    pub label: &'static str,
-    pub name: &'static str,
-    pub bytes: Vec<u8>,
-}
-
-pub fn loads() -> Vec<Load> {
-    vec![
-        Load {
-            label: "listen, 600 s",
-            name: "listen",
-            bytes: records(600),
-        },
-        events("events, 120 s at 1,000/s in 8s", 1000, 120, 8),
-        events("events, 300 s at 1,000/s in seconds", 1000, 300, 1000),
-        events("events, 120 s at 4,000/s in seconds", 4000, 120, 4000),
-        Load {
-            label: "bits, 500 beyond repair",
-            name: "bits",
-            bytes: beyond_repair(500)
-                .iter()
-                .fold(Put::new(), |put, bits| put.u16(bits.len() as u16).bits(bits))
-                .0,
-        },
-    ]
-}
 
 /// Records of `listen`.
 pub fn records(seconds: usize) -> Vec<u8> {
@@ -48,17 +19,6 @@ pub fn air(rate: u32, seconds: usize) -> Vec<u8> {
     let mut rng = Rng::new(u64::from(rate));
     let scenes = (0..seconds / 30).map(|_| signal::scene(&mut rng, rate, 30 * rate as usize));
     scenes.flat_map(|air: Air| air.raw()).collect()
-}
-
-/// Raw pushes of n samples.
-fn events(label: &'static str, rate: u32, seconds: usize, n: usize) -> Load {
-    let raw = air(rate, seconds);
-    let calls = raw.chunks(n).fold(Calls::new(rate), Calls::push_raw);
-    Load {
-        label,
-        name: "events",
-        bytes: calls.flush().case(label).bytes,
-    }
 }
 
 /// An uplink of 12 bytes.
@@ -103,8 +63,8 @@ pub fn frame_samples(rate: u32) -> Vec<f32> {
     air.samples()
 }
 
-/// Frames of the longest class with six damages: every repair is tried in vain, or nearly always.
-fn beyond_repair(count: usize) -> Vec<Vec<bool>> {
+/// Cases of `bits`: frames of the longest class with six damages: every repair is tried in vain, or nearly always.
+pub fn beyond_repair(count: usize) -> Vec<u8> {
     let mut rng = Rng::new(4);
     let mut frame = || {
         let uplink = twelve_bytes(&mut rng);
@@ -114,7 +74,8 @@ fn beyond_repair(count: usize) -> Vec<Vec<bool>> {
         }
         bits
     };
-    (0..count).map(|_| frame()).collect()
+    let put = |put: Put, bits: Vec<bool>| put.u16(bits.len() as u16).bits(&bits);
+    (0..count).map(|_| frame()).fold(Put::new(), put).0
 }
 
 /// 12 s of samples, half dB apart as raw ones are.

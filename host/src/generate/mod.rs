@@ -28,6 +28,9 @@ pub struct Case {
     pub short: bool,
 }
 
+/// Programs, each with its run
+type Runs = fn() -> Vec<(&'static str, Case)>;
+
 pub struct Format {
     pub name: &'static str,
     /// A case is a whole run, since it starts with a header
@@ -37,7 +40,7 @@ pub struct Format {
     pub directed: fn() -> Vec<Case>,
     pub random: fn(&mut Rng) -> Case,
     /// The programs and the runs that the gate replays, where these aren't a choice of the cases
-    pub runs: Option<fn() -> Vec<(&'static str, Case)>>,
+    pub runs: Option<Runs>,
 }
 
 pub const FORMATS: &[Format] = &[

@@ -2,6 +2,7 @@
 
 use super::events::Receiver;
 use super::tracker::Tracker;
+use crate::rust::frequency::FrequencyTracker;
 use crate::rust::receiver::{ReceiverEvent, SigfoxMessage};
 use crate::text::{hex_bytes, or_dash};
 
@@ -71,26 +72,24 @@ impl Listener {
                 ReceiverEvent::Frame(_) => self.frames += 1,
                 ReceiverEvent::Message(m) => {
                     self.messages += 1;
-                    let line = self.message(m);
-                    self.out += &line;
+                    let tracker = self.tracker.as_ref().map(|t| &t.inner);
+                    self.out += &message(tracker, m);
                 }
             }
         }
     }
+}
 
-    fn message(&self, m: &SigfoxMessage) -> String {
-        let mask: u32 = m.ranks.iter().map(|&rank| 1 << rank).sum();
-        let payload = Some(hex_bytes(&m.payload)).filter(|p| !p.is_empty());
-        let hz = self
-            .tracker
-            .as_ref()
-            .and_then(|t| t.inner.frame1(&m.frames, m.downlink));
-        format!(
-            "M {:08x} {} {mask} {} {}\n",
-            m.device_id.0,
-            m.counter,
-            or_dash(payload),
-            or_dash(hz)
-        )
-    }
+/// A message's line.
+pub fn message(tracker: Option<&FrequencyTracker>, m: &SigfoxMessage) -> String {
+    let mask: u32 = m.ranks.iter().map(|&rank| 1 << rank).sum();
+    let payload = Some(hex_bytes(&m.payload)).filter(|p| !p.is_empty());
+    let hz = tracker.and_then(|t| t.frame1(&m.frames, m.downlink));
+    format!(
+        "M {:08x} {} {mask} {} {}\n",
+        m.device_id.0,
+        m.counter,
+        or_dash(payload),
+        or_dash(hz)
+    )
 }

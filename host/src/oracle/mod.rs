@@ -7,7 +7,7 @@ mod bursts;
 mod capture;
 mod dips;
 mod events;
-mod listen;
+pub mod listen;
 mod misc;
 pub mod record;
 pub mod tracker;

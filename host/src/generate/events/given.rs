@@ -45,7 +45,11 @@ impl Waiting {
         let flags = rng.below(4) as u8 + 4 + 8 * rng.below(4) as u8;
         w.put(
             0,
-            &[2, ranks.iter().map(|r| 1 << r).sum(), flags & 31 | 32 * u8::from(known)],
+            &[
+                2,
+                ranks.iter().map(|r| 1 << r).sum(),
+                (flags & 31) | (32 * u8::from(known)),
+            ],
         );
         w.put(3, &[payload as u8, auth as u8]);
         w.put(8, &device.to_le_bytes());

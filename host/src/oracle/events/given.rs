@@ -59,7 +59,11 @@ pub fn take_over(input: &mut Input, receiver: &mut Receiver) -> Option<()> {
     let base = input.u64()? as usize;
     let since_scan = input.u32()? as usize;
     let held = input.f32s()?;
-    let mut inner = SigfoxReceiver::new(if limits::rate(receiver.rate).is_ok() { receiver.rate } else { 0 });
+    let mut inner = SigfoxReceiver::new(if limits::rate(receiver.rate).is_ok() {
+        receiver.rate
+    } else {
+        0
+    });
     inner.base = base;
     inner.since_scan = since_scan;
     inner.seen = (0..input.u8()?)
