@@ -14,6 +14,8 @@ pub mod generate;
 #[cfg(has_rust)]
 pub mod limits;
 #[cfg(has_rust)]
+pub mod listener;
+#[cfg(has_rust)]
 pub mod oracle;
 #[cfg(has_rust)]
 pub mod rust;

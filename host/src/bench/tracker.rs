@@ -1,8 +1,8 @@
 //! Rows of the tracker over `listen`'s records: the Rust here, the port as the program `bench_tracker`.
 
-use super::listen::levels;
 use super::{Row, programs};
-use crate::generate::load::{RATE, STEP_HZ, records};
+use crate::generate::load::records;
+use crate::listener::{RATE, RECORD, STEP_HZ, cfo, freq, levels};
 use crate::rust::frequency::FrequencyTracker;
 
 const SECONDS: usize = 600;
@@ -28,8 +28,7 @@ fn row(all: bool, calls: &str, stream: Vec<u8>) -> Result<Row, String> {
 
 /// What the tracker asks for, and how much it holds at the end.
 fn lines(stream: &[u8], all: bool) -> String {
-    let (records, _) = stream.as_chunks::<16>();
-    let freq = |r: &[u8; 16]| u32::from_le_bytes([r[10], r[11], r[12], r[13]]);
+    let (records, _) = stream.as_chunks::<RECORD>();
     let mut tracker = FrequencyTracker::new(RATE, freq(&records[0]), STEP_HZ);
     let mut out = String::new();
     for r in records {
@@ -37,7 +36,7 @@ fn lines(stream: &[u8], all: bool) -> String {
             tracker.tuned(freq(r));
         }
         tracker.samples(&levels(r));
-        tracker.cfo(&[u16::from_le_bytes([r[8], r[9]])]);
+        tracker.cfo(&[cfo(r)]);
         if all && let Some(hz) = tracker.next_tuning() {
             out += &format!("T {hz}\n");
         }

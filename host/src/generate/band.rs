@@ -4,9 +4,9 @@
 use super::rng::Rng;
 use super::signal::{Air, Shape};
 use super::uplink::Uplink;
+pub use crate::listener::STEP_HZ;
 use crate::oracle::tracker::Tracker;
 
-pub const STEP_HZ: f64 = 122.070_312_5;
 const CFO_SCALE: f64 = 0.93;
 const DELTA_HZ: f64 = 6000.0;
 const FRAME_GAP_S: f64 = 2.43;

@@ -1,11 +1,11 @@
 //! Inputs of `listen`: records of eight raw samples, a register reading and the frequency.
 
-use super::band::{Band, Receiver, STEP_HZ};
+use super::band::{Band, Receiver};
 use super::put::Put;
 use super::rng::Rng;
 use super::{Case, case, signal};
+use crate::listener::{RATE, STEP_HZ};
 
-pub const RATE: u32 = 1000;
 const BASE: u32 = 868_130_000;
 
 fn record(put: Put, raw: &[u8], cfo: u16, hz: u32) -> Put {

@@ -1,8 +1,6 @@
 //! Inputs for the benchmark: minutes of air with devices, and bits that can't be repaired.
 
-pub use super::band::STEP_HZ;
 use super::listen;
-pub use super::listen::RATE;
 use super::put::Put;
 use super::rng::Rng;
 use super::signal::{self, Air, Shape};

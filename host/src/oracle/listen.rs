@@ -2,13 +2,10 @@
 
 use super::events::Receiver;
 use super::tracker::Tracker;
+use crate::listener::{RATE, RECORD, STEP_HZ, cfo, freq, levels};
 use crate::rust::frequency::FrequencyTracker;
 use crate::rust::receiver::{ReceiverEvent, SigfoxMessage};
 use crate::text::{hex_bytes, or_dash};
-
-const RATE: u32 = 1000;
-const STEP_HZ: f64 = 122.070_312_5;
-const RECORD: usize = 16;
 
 struct Listener {
     receiver: Receiver,
@@ -39,29 +36,26 @@ pub fn lines(input: &[u8]) -> String {
 impl Listener {
     fn run(&mut self, records: &[[u8; RECORD]]) -> Result<(), u8> {
         for r in records {
-            let cfo = u16::from_le_bytes([r[8], r[9]]);
-            let freq = u32::from_le_bytes([r[10], r[11], r[12], r[13]]);
-            self.record(&r[..8], cfo, freq)?;
+            self.record(r)?;
         }
         let events = self.receiver.flush()?;
         self.emit(&events);
         Ok(())
     }
 
-    fn record(&mut self, raw: &[u8], cfo: u16, freq: u32) -> Result<(), u8> {
+    fn record(&mut self, r: &[u8; RECORD]) -> Result<(), u8> {
         let tracker = match &mut self.tracker {
             Some(tracker) => tracker,
-            none => none.insert(Tracker::new(RATE, freq, STEP_HZ)?),
+            none => none.insert(Tracker::new(RATE, freq(r), STEP_HZ)?),
         };
-        let dbm: Vec<f32> = raw.iter().map(|&r| -f32::from(r) / 2.0).collect();
-        tracker.tuned(freq)?;
-        tracker.samples(&dbm)?;
-        tracker.cfo(&[cfo])?;
+        tracker.tuned(freq(r))?;
+        tracker.samples(&levels(r))?;
+        tracker.cfo(&[cfo(r)])?;
         if let Some(hz) = tracker.inner.next_tuning() {
             self.out += &format!("T {hz}\n");
         }
-        let events = self.receiver.push_raw(raw)?;
-        self.samples += raw.len();
+        let events = self.receiver.push_raw(&r[..8])?;
+        self.samples += 8;
         self.emit(&events);
         Ok(())
     }
