@@ -1,4 +1,4 @@
-//! Reading the inputs of FORMATS.md and writing its lines.
+//! Reading the inputs of docs/REPLAY.md and writing its lines.
 
 use std::fmt::Write;
 

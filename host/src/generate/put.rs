@@ -1,4 +1,4 @@
-//! Writing the inputs of FORMATS.md.
+//! Writing the inputs of docs/REPLAY.md.
 
 #[derive(Clone, Default)]
 pub struct Put(pub Vec<u8>);

@@ -1,4 +1,4 @@
-//! The Rust's answers in FORMATS.md's lines. Refusals are 01's, added around the Rust's calls.
+//! The Rust's answers in docs/REPLAY.md's lines. Refusals are 01's, added around the Rust's calls.
 
 pub mod bits;
 mod burst;
