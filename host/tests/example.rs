@@ -1,6 +1,7 @@
 //! The C example of README.md: compiled with the header and the static library, and run. Needs librecord.a (`rt staticlib record`) and `cc`.
 #![cfg(has_record)]
 
+use std::io::Write;
 use std::path::Path;
 use std::process::Command;
 
@@ -27,7 +28,7 @@ fn decodes() {
         .arg(host.join("example.c"))
         .arg(target.join("staticlib/librecord.a"));
     let Ok(status) = compiler.arg("-o").arg(&program).status() else {
-        eprintln!("SKIPPED: there is no cc");
+        writeln!(std::io::stderr(), "SKIPPED: there is no cc").expect("it can be written");
         return;
     };
     assert!(status.success(), "{status}");
