@@ -8,7 +8,7 @@ use lib.ListN.{length}
 use lib.Ieee.{Float, isNan}
 use borrow.Author.Tests.{leb-true, lt-ltb, le-ltb, ltb-false}
 use Rattle.limits.specs.Limits.{badRate, short, long, badSample, badNumber, bufferS, scratch64, longestStream}
-use Rattle.limits.specs.Samples.{rateOk, isDbm, allDbm}
+use Rattle.limits.specs.Samples.{rateOk, isDbm, allDbm, timeOk}
 use Rattle.limits.proofs.Samples.{and-left, and-right}
 use Rattle.rates.specs.Rates.{nominalOf}
 use Rattle.coding.specs.Bits.{odd}
@@ -18,7 +18,7 @@ use Rattle.frame.specs.declared.Outcome.the-variants.{Refused, Nothing, Frame}
 use Rattle.bursts.specs.declared.Burst.{Burst}
 use Rattle.dips.proofs.DipLaws.{or-right}
 use Rattle.clock.specs.Bits as bits
-use Rattle.demod.specs.Decode.{without, timeAt, segmentOf, heardAs, withBurst, heardIn, decodeBurst, timeOk, burstOk, decodeAnswer, Free}
+use Rattle.demod.specs.Decode.{without, timeAt, segmentOf, heardAs, withBurst, heardIn, decodeBurst, burstOk, decodeAnswer, Free}
 use Rattle.demod.specs.declared.DecodedFrame.{DecodedFrame}
 use Rattle.demod.specs.declared.BurstFrame.{BurstFrame}
 

@@ -8,9 +8,8 @@ use lib.ListN.{length, drop}
 use lib.Ieee.{Float}
 use borrow.Author.Tests.{lt-ltb, le-ltb, ltb-false}
 use Rattle.limits.specs.Limits.{badRate, short, long, badSample, badNumber, bufferS, scratch64, eventsSize, recordSize}
-use Rattle.limits.specs.Samples.{rateOk, allDbm}
+use Rattle.limits.specs.Samples.{rateOk, allDbm, timeOk}
 use Rattle.dips.proofs.DipLaws.{or-left, or-right}
-use Rattle.demod.specs.Decode.{timeOk}
 use Rattle.demod.specs.Capture.{floorOf, floorOk, captured, joined, captureAnswer, captureLeft, Free}
 use Rattle.demod.specs.declared.Floor.{Floor}
 use Rattle.demod.specs.declared.Captured.{Captured}

@@ -13,14 +13,14 @@ use lib.Ieee.Fits.{cond-fits}
 use Rattle.floats.specs.Number.{num}
 use Rattle.floats.specs.Fold.{maxOf, maxFrom}
 use Rattle.limits.specs.Limits.{lowestRate, highestRate, longestStream, farthestS}
-use Rattle.limits.specs.Samples.{isDbm, allDbm}
+use Rattle.limits.specs.Samples.{isDbm, allDbm, timeOk}
 use Rattle.limits.proofs.Samples.{and-left, and-right, number, all-take, all-drop}
 use Rattle.rates.proofs.Near.{div-at, int-value}
 use Rattle.bursts.specs.Numbers.{lowestPeak}
 use Rattle.bursts.specs.Bursts.{Cluster, longEnough, threshold, gapSamples, none, clusters, between, burstOf, burstsIn, burstsOf}
 use Rattle.bursts.specs.declared.BurstOptions.{BurstOptions}
 use Rattle.bursts.specs.declared.Burst.{Burst}
-use Rattle.demod.specs.Decode.{timeAt, timeOk}
+use Rattle.demod.specs.Decode.{timeAt}
 
 abbrev pub Number : Float → Type 0
 Number x = T (not (isNan x))

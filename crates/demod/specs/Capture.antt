@@ -7,7 +7,7 @@ use lib.Dec.{T, ltb}
 use lib.ListN.{length, drop}
 use lib.Ieee.{Float}
 use Rattle.limits.specs.Limits.{badRate, short, long, badSample, badNumber, bufferS, scratch64, eventsSize, recordSize}
-use Rattle.limits.specs.Samples.{rateOk, isDbm, allDbm}
+use Rattle.limits.specs.Samples.{rateOk, isDbm, allDbm, timeOk}
 use Rattle.frame.specs.declared.Outcome.{Outcome}
 use Rattle.frame.specs.declared.Outcome.the-variants as outcome
 use Rattle.record.specs.Record.{frameRecord}
@@ -15,7 +15,7 @@ use Rattle.record.specs.declared.Reception.{Reception}
 use Rattle.bursts.specs.Levels.{noiseFloor}
 use Rattle.bursts.specs.Bursts.{defaultOptions, burstsOf}
 use Rattle.bursts.specs.declared.Burst.{Burst}
-use Rattle.demod.specs.Decode.{timeOk, decodeBurst}
+use Rattle.demod.specs.Decode.{decodeBurst}
 use Rattle.demod.specs.declared.DecodedFrame.{DecodedFrame}
 use Rattle.demod.specs.declared.Floor.{Floor}
 use Rattle.demod.specs.declared.Floor.the-variants.{Measured, Given}

@@ -6,10 +6,10 @@ use mathlib.Core.List.{List, map}
 use lib.IntN.{ℤ, pos}
 use lib.Dec.{T, leb, ltb}
 use lib.ListN.{length, take, drop}
-use lib.Ieee.{Float, binary64, add, div, neg, le, isNan}
+use lib.Ieee.{Float, binary64, add, div, isNan}
 use Rattle.floats.specs.Number.{num}
-use Rattle.limits.specs.Limits.{badRate, short, long, badSample, badNumber, bufferS, scratch64, longestStream, farthestS}
-use Rattle.limits.specs.Samples.{rateOk, isDbm, allDbm}
+use Rattle.limits.specs.Limits.{badRate, short, long, badSample, badNumber, bufferS, scratch64, longestStream}
+use Rattle.limits.specs.Samples.{rateOk, isDbm, timeOk, allDbm}
 use Rattle.rates.specs.Rates.{nominalOf, padOf}
 use Rattle.coding.specs.Bits.{odd}
 use Rattle.frame.specs.Decode.{blankFrame, decodeUplink}
@@ -69,11 +69,7 @@ unfolding segmentOf heardIn
 decodeBurst dbm rate b t0 =
     heardIn rate (timeAt t0 rate (b .start)) (timeAt t0 rate (b .end)) (b .«peak_dbm») (bits.outcome (segmentOf dbm rate b) rate)
 
--- 01, cause 9 does not apply to a time that is handed in: within ±10^9
-abbrev pub timeOk : Float → Bool
-timeOk t = le (neg farthestS) t && le t farthestS
-
--- nor to a burst: indexes to 2^40, floor -200 to 100, no NaN
+-- 01, cause 9 does not apply to a burst and a time that are handed in: indexes to 2^40, floor -200 to 100, no NaN
 unfoldable pub burstOk : Burst → Float → Bool
 burstOk b t0 = leb (b .start) longestStream && (leb (b .end) longestStream && (timeOk t0 && (isDbm (b .«floor_dbm») && not (isNan (b .«peak_dbm»)))))
 

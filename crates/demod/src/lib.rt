@@ -11,7 +11,7 @@ ghost use Rattle.rates.specs.Rates.{padOf};
 ghost use Rattle.record.specs.Record.{frameRecord};
 ghost use Rattle.bursts.specs.Levels.{noiseFloor};
 ghost use Rattle.clock.specs.Bits.{outcome};
-ghost use Rattle.demod.specs.Decode.{widestPad, without, timeAt, withBurst, heardIn, decodeBurst, timeOk, burstOk, decodeAnswer};
+ghost use Rattle.demod.specs.Decode.{widestPad, without, timeAt, withBurst, heardIn, decodeBurst, burstOk, decodeAnswer};
 ghost use Rattle.demod.specs.Decode as decode;
 ghost use Rattle.demod.specs.Capture.{floorOf, floorOk, receptionOf, recordOf, captured, joined, captureAnswer, captureLeft};
 ghost use Rattle.demod.specs.Capture as capture;
@@ -150,21 +150,13 @@ pub fn decode_within(
     decode_segment(&dbm[from..to], rate, scratch, time, end, burst.peak_dbm)
 }
 
-fn time_ok(t: f64) -> bool
-    ensures { λ r. ⌜ r ≡ timeOk t ⌝ }
-{
-    let early = t >= -limits::FARTHEST_S;
-    let late = t <= limits::FARTHEST_S;
-    early & late
-}
-
 // Whether cause 9 does not apply.
 fn burst_ok(burst: bursts::Burst, t0: f64) -> bool
     ensures { λ r. ⌜ r ≡ burstOk burst t0 ⌝ }
 {
     let start = (burst.start as u64) <= limits::LONGEST_STREAM;
     let end = (burst.end as u64) <= limits::LONGEST_STREAM;
-    let time = time_ok(t0);
+    let time = limits::time_ok(t0);
     let floor = limits::is_dbm(burst.floor_dbm);
     let peak = burst.peak_dbm != burst.peak_dbm;
     start & (end & (time & (floor & !peak)))
@@ -331,7 +323,7 @@ pub fn decode_capture(
     if !limits::all_dbm(dbm) {
         return Captured::Refused(limits::BAD_SAMPLE);
     }
-    let time = time_ok(t0);
+    let time = limits::time_ok(t0);
     let level = floor_ok(floor);
     if !(time & level) {
         return Captured::Refused(limits::BAD_NUMBER);

@@ -16,7 +16,7 @@ use Rattle.measure.specs.declared.Frequency.{Frequency}
 use Rattle.measure.specs.declared.Measured.{Measured}
 use Rattle.measure.specs.Gathered.{Free}
 use Rattle.measure.specs.Measured.{frameFrequency, frame1, ofRank, direct, middle}
-use Rattle.tuning.specs.Ranges.{spanOk, spansOk}
+use Rattle.record.specs.Spans.{spanOk, spansOk}
 use Rattle.frequency.specs.declared.FrequencyTracker.{FrequencyTracker}
 use Rattle.frequency.specs.declared.Freq.the-variants as freq
 use Rattle.frequency.specs.declared.FrameFrequency.the-variants as frame

@@ -15,7 +15,7 @@ use Rattle.measure.specs.declared.Measured.{Measured}
 use Rattle.measure.specs.declared.Measured.the-variants.{Unmeasured, Found}
 use Rattle.record.specs.declared.FrameSpan.{FrameSpan}
 use Rattle.measure.specs.Measured.{readingsOf, frameFrequency, frame1}
-use Rattle.tuning.specs.Ranges.{spanOk, spansOk}
+use Rattle.record.specs.Spans.{spanOk, spansOk}
 use Rattle.frequency.specs.declared.FrequencyTracker.{FrequencyTracker}
 use Rattle.frequency.specs.declared.Freq.{Freq}
 use Rattle.frequency.specs.declared.Freq.the-variants as freq

@@ -585,7 +585,7 @@ impl FrequencyTracker {
     ) -> FrameFrequency
         ensures { λ r. ⌜ FrameEnd self f (now (at .entry)) (now (lo .entry)) (now (hz .entry)) (now (out .entry)) r (now (out .exit)) ⌝ }
     {
-        let cause = cause_frame(self, at, lo, hz, out.len(), tuning::span_ok(f));
+        let cause = cause_frame(self, at, lo, hz, out.len(), record::spans::span_ok(f));
         if cause != 0 {
             return FrameFrequency::Refused(cause);
         }
@@ -609,7 +609,14 @@ impl FrequencyTracker {
         let a = spans[0];
         let b = spans[1];
         let c = spans[2];
-        let cause = cause_frame(self, at, lo, hz, out.len(), tuning::spans_ok(a, b, c));
+        let cause = cause_frame(
+            self,
+            at,
+            lo,
+            hz,
+            out.len(),
+            record::spans::spans_ok(a, b, c),
+        );
         if cause != 0 {
             return Frame1::Refused(cause);
         }

@@ -7,6 +7,7 @@ use lib.Dec.{leb, ltb, eqb}
 use lib.Ieee.{Float, binary64, lt, sub, add, mul}
 use Rattle.floats.specs.Number.{num}
 use Rattle.floats.specs.Number as number
+use Rattle.record.specs.Record.{noRank}
 use Rattle.ledger.specs.Types.{FrameSpan, FirstFrameEnd, Known, Unknown, SigfoxMessage, Pending}
 use Rattle.ledger.specs.Frames.{Key, Frame, rankOf, rssiOf, timeOf}
 
@@ -20,7 +21,7 @@ frameGapS = number.near 243 100
 
 -- the rank of a place that holds no span, as in the record's bytes 44 to 46
 abbrev pub noSpan : ℕ
-noSpan = 255
+noSpan = noRank
 
 unfoldable pub entryKey : Pending → Key
 entryKey e = record { device = e .message .«device_id»; counter = e .message .counter }

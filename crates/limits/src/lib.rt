@@ -1,6 +1,6 @@
-// The numbers of 01's table of causes: refusals, ranges and sizes, each under one name, and the tests of rates and samples that the modules share.
+// The numbers of 01's table of causes: refusals, ranges and sizes, each under one name, and the tests of rates, samples and times that the modules share.
 ghost use mathlib.Core.Path.{_≡_};
-ghost use Rattle.limits.specs.Samples.{rateOk, isDbm, allDbm};
+ghost use Rattle.limits.specs.Samples.{rateOk, isDbm, timeOk, allDbm};
 
 // Refusals, by 01's numbers.
 pub const BAD_RATE: u8 = 1;
@@ -76,6 +76,15 @@ pub fn is_dbm(x: f32) -> bool
     let low = x >= LOWEST_DBM;
     let high = x <= HIGHEST_DBM;
     low & high
+}
+
+// Whether a time handed in lies within 01's range; a NaN doesn't.
+pub fn time_ok(x: f64) -> bool
+    ensures { λ r. ⌜ r ≡ timeOk x ⌝ }
+{
+    let early = x >= -FARTHEST_S;
+    let late = x <= FARTHEST_S;
+    early & late
 }
 
 // Whether cause 4 does not apply. No early exit, so that it runs several samples at a time.

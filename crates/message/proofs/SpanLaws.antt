@@ -16,7 +16,8 @@ use Rattle.ledger.specs.Causes.{endNan, spanNan, spansFit}
 use Rattle.ledger.specs.Demand3.{message}
 use Rattle.ledger.specs.Frames.{Frame, rankOf, rssiOf, timeOf}
 use Rattle.ledger.specs.Merge.{endAfter, estimate, finished, frameGapS, has, knownOf, later, louder, lower, lowestLater, meet, merge, noSpan, openEntry, orElse, place, spanOf, threeRanks}
-use Rattle.message.specs.Messages.{frameOf, spanGiven, spansGiven}
+use Rattle.record.specs.Spans.{spansOk}
+use Rattle.message.specs.Messages.{frameOf}
 use Rattle.record.specs.declared.FrameSpan.{FrameSpan}
 use Rattle.record.specs.declared.SigfoxMessage.{SigfoxMessage}
 use Rattle.ledger.specs.declared.Pending.{Pending}
@@ -280,13 +281,9 @@ pub spans-nan-is : (l : List FrameSpan) (x y z : Bool) → length l ≡ 3 → x 
     → x || (y || z) ≡ spanNan l
 spans-nan-is l x y z e hx hy hz = rw (hx, hy, hz) (nan-of (getD l 0 outside) (getD l 1 outside) (getD l 2 outside) ∙ ap spanNan (sym (three l outside e)))
 
-given-of : (a b c : FrameSpan) → spanGiven a && (spanGiven b && spanGiven c) ≡ spansGiven (a ∷ b ∷ c ∷ [])
-unfolding spansGiven
-given-of a b c = rw (and-true (spanGiven c)) refl
-
-pub given-is : (l : List FrameSpan) (x y z : Bool) → length l ≡ 3 → x ≡ spanGiven (getD l 0 outside) → y ≡ spanGiven (getD l 1 outside) → z ≡ spanGiven (getD l 2 outside)
-    → x && (y && z) ≡ spansGiven l
-given-is l x y z e hx hy hz = rw (hx, hy, hz) (given-of (getD l 0 outside) (getD l 1 outside) (getD l 2 outside) ∙ ap spansGiven (sym (three l outside e)))
+-- the answer of `spans_ok`, by the array
+pub ok-is : (l : List FrameSpan) (b : Bool) → length l ≡ 3 → b ≡ spansOk (getD l 0 outside ∷ getD l 1 outside ∷ getD l 2 outside ∷ []) → b ≡ spansOk l
+ok-is l b e h = h ∙ ap spansOk (sym (three l outside e))
 
 pub end-known : (o : FirstFrameEnd) (t : Float) (b : Bool) → o ≡ Known t → b ≡ isNan t → b ≡ endNan o
 unfolding endNan

@@ -7,25 +7,20 @@ ghost use lib.Ieee.{isNan};
 ghost use Rattle.ledger.specs.Frames.{Frame};
 ghost use Rattle.ledger.specs.Merge.{noSpan, spanOf, has, place, meet, threeRanks, endAfter, louder, openEntry, merge, expires, later, lower, lowestLater, endBefore, estimate, orElse, finished};
 ghost use Rattle.ledger.specs.Causes.{spansFit, entryFits, spanNan, endNan, entryNan};
-ghost use Rattle.message.specs.Messages.{frameOf, spanIn, isTime, spanGiven, spansGiven, estimateAnswer};
+ghost use Rattle.message.specs.Messages.{frameOf, spanIn, estimateAnswer};
 use frame::UplinkFrame;
 use ledger::Pending;
 use record::FirstFrameEnd;
 use record::FrameSpan;
+use record::NO_RANK;
 use record::Reception;
 use record::SigfoxMessage;
-
-// The rank of a place that holds no span.
-pub const NO_SPAN: u8 = 255;
 
 // Repetitions start about 4 s apart and a frame is only decoded about 2 s after it starts, so wait this long after the latest repetition.
 const QUIET_S: f64 = 10.0;
 
 // From the end of one repetition to the start of the next.
 pub const FRAME_GAP_S: f64 = 2.43;
-
-// Ranks are 0, 1 and 2.
-const MOST_RANK: u8 = 2;
 
 // The longest payload and authentication code, in bytes.
 const MOST_PAYLOAD: u8 = 12;
@@ -55,15 +50,15 @@ fn place(spans: [FrameSpan; 3], span: FrameSpan) -> [FrameSpan; 3]
     ensures { λ r. ⌜ ((f : Frame) → span ≡ spanOf f → r ≡ place f spans) ⌝ }
 {
     let mut s = spans;
-    if s[0].rank == NO_SPAN {
+    if s[0].rank == NO_RANK {
         s[0] = span;
         return s;
     }
-    if s[1].rank == NO_SPAN {
+    if s[1].rank == NO_RANK {
         s[1] = span;
         return s;
     }
-    if s[2].rank == NO_SPAN {
+    if s[2].rank == NO_RANK {
         s[2] = span;
         return s;
     }
@@ -133,7 +128,7 @@ pub fn opened(f: UplinkFrame, r: Reception) -> Pending
     let auth = f.auth;
     let bit = f.bit;
     let none = FrameSpan {
-        rank: NO_SPAN,
+        rank: NO_RANK,
         time: 0.0,
         end: 0.0,
     };
@@ -224,7 +219,7 @@ fn lower(s: FrameSpan, rest: LaterSpan) -> LaterSpan
     if s.rank == 0 {
         return rest;
     }
-    if s.rank == NO_SPAN {
+    if s.rank == NO_RANK {
         return rest;
     }
     if let LaterSpan::Is(t) = rest {
@@ -301,8 +296,8 @@ pub fn finished(p: Pending) -> SigfoxMessage
 fn span_fits(rank: u8, again: bool) -> bool
     ensures { λ r. ⌜ r ≡ eqb rank noSpan || (leb rank 2 && not again) ⌝ }
 {
-    let empty = rank == NO_SPAN;
-    let small = rank <= MOST_RANK;
+    let empty = rank == NO_RANK;
+    let small = rank <= coding::HIGHEST_RANK;
     empty | (small & !again)
 }
 
@@ -346,7 +341,7 @@ fn nan32(x: f32) -> bool
 fn span_nan(s: FrameSpan) -> bool
     ensures { λ r. ⌜ r ≡ not (eqb (s .rank) noSpan) && (isNan (s .time) || isNan (s .end)) ⌝ }
 {
-    let empty = s.rank == NO_SPAN;
+    let empty = s.rank == NO_RANK;
     !empty & (nan64(s.time) | nan64(s.end))
 }
 
@@ -380,32 +375,11 @@ pub fn has_nan(p: Pending) -> bool
 
 // ---- `estimate_first_frame_end`
 
-// Whether a time lies within ±10^9 s; a NaN doesn't.
-fn is_time(x: f64) -> bool
-    ensures { λ r. ⌜ r ≡ isTime x ⌝ }
-{
-    let low = x >= -limits::FARTHEST_S;
-    let high = x <= limits::FARTHEST_S;
-    low & high
-}
-
-// Whether cause 9 does not apply to a span.
-fn span_given(s: FrameSpan) -> bool
-    ensures { λ r. ⌜ r ≡ spanGiven s ⌝ }
-{
-    let empty = s.rank == NO_SPAN;
-    let small = s.rank <= MOST_RANK;
-    empty | (small & (is_time(s.time) & is_time(s.end)))
-}
-
 // The end of frame 1 from a later repetition (receiver.rs `estimate_first_frame_end`); a place of rank 255 holds no span.
 pub fn estimate_first_frame_end(spans: [FrameSpan; 3]) -> Estimated
     ensures { λ r. ⌜ r ≡ estimateAnswer spans ⌝ }
 {
-    let first = span_given(spans[0]);
-    let second = span_given(spans[1]);
-    let third = span_given(spans[2]);
-    if first & (second & third) {
+    if record::spans::spans_ok(spans[0], spans[1], spans[2]) {
         return Estimated::End(estimate(spans));
     }
     Estimated::Refused(limits::BAD_NUMBER)

@@ -3,3 +3,4 @@ pub mod Record
 pub mod Decoding
 pub mod Readers
 pub mod Same
+pub mod Spans

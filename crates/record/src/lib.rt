@@ -10,6 +10,7 @@ ghost use Rattle.record.specs.Decoding.{decodeNumber, decodeRecord};
 mod fields; // numbers of a record's bytes
 mod parts; // runs of a record's bytes
 pub mod read; // readers
+pub mod spans; // spans that are handed in
 
 use fields::end_of;
 use fields::frame_flags;

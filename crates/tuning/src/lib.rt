@@ -1,7 +1,7 @@
-// The parts of the tracker's calls that need no lists of readings: requests and steps of `next_tuning`, new tunings, spans, and
-// ranges of numbers handed in.
+// The parts of the tracker's calls that need no lists of readings: requests and steps of `next_tuning`, new tunings, and the
+// range of a step handed in.
 ghost use mathlib.Core.Path.{_≡_};
-ghost use mathlib.Core.Bool.{cond, not, true, _&&_, _||_};
+ghost use mathlib.Core.Bool.{cond, not, true, _&&_};
 ghost use mathlib.Core.List.{_∷_, []};
 ghost use Prim.Native.Nat.{_+_, _≤_};
 ghost use lib.ListN.{length, take};
@@ -10,15 +10,10 @@ ghost use Rattle.lists.specs.Lists.{lastOr, fitsTunings};
 ghost use Rattle.measure.specs.Gathered.{Free};
 ghost use Rattle.measure.specs.Measured.{ofRank, readingsOf};
 ghost use Rattle.tuning.specs.Steps.{Steady, answered, waits, unless, target, asked, retunes};
-ghost use Rattle.tuning.specs.Ranges.{stepOk, timeOk, spanOk, noSpan, spansOk};
+ghost use Rattle.tuning.specs.Ranges.{stepOk};
 
 // The Hz of a CFO step lie between 0 and this.
 const HIGHEST_STEP: f64 = 10_000.0;
-
-const HIGHEST_RANK: u8 = 2;
-
-// The rank of a place that has no span.
-const NO_SPAN: u8 = 255;
 
 // Where `next_tuning` goes: nowhere, back to the base frequency, or to the settled frame 1 reading.
 pub enum Step {
@@ -68,37 +63,6 @@ pub fn answer(requested: measure::Frequency, hz: u32) -> measure::Frequency
             measure::Frequency::Hz(f)
         }
     }
-}
-
-pub fn time_ok(x: f64) -> bool
-    ensures { λ r. ⌜ r ≡ timeOk x ⌝ }
-{
-    let low = x >= -limits::FARTHEST_S;
-    let high = x <= limits::FARTHEST_S;
-    low & high
-}
-
-pub fn span_ok(f: record::FrameSpan) -> bool
-    ensures { λ r. ⌜ r ≡ spanOk f ⌝ }
-{
-    let rank = f.rank <= HIGHEST_RANK;
-    let time = time_ok(f.time);
-    rank & (time & time_ok(f.end))
-}
-
-pub fn place_ok(f: record::FrameSpan) -> bool
-    ensures { λ r. ⌜ r ≡ (eqb (f .rank) noSpan || spanOk f) ⌝ }
-{
-    let none = f.rank == NO_SPAN;
-    none | span_ok(f)
-}
-
-pub fn spans_ok(a: record::FrameSpan, b: record::FrameSpan, c: record::FrameSpan) -> bool
-    ensures { λ r. ⌜ r ≡ spansOk (a ∷ b ∷ c ∷ []) ⌝ }
-{
-    let x = place_ok(a);
-    let y = place_ok(b);
-    x & (y & place_ok(c))
 }
 
 // Whether a frame is heard whose frequency is not known yet.

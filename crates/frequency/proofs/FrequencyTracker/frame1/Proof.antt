@@ -2,7 +2,7 @@
 use Rattle.frequency.proofs.Framing.{free-of, free-again, blank, three, first-refused, first-told, one-is, mid-is}
 use Rattle.frequency.specs.Order.{causeFrame}
 use Rattle.frequency.specs.Calls.{asFirst, heldReadings}
-use Rattle.tuning.specs.Ranges.{spansOk}
+use Rattle.record.specs.Spans.{spansOk}
 use lib.ListN.{length, getD}
 use mathlib.Core.List.{[], _∷_}
 use mathlib.Core.Path.{_≡_, refl, sym, ap, _∙_}

@@ -1,8 +1,8 @@
--- `tuning::span_ok` meets its contract. Assumes nothing.
-use Rattle.tuning.specs.Ranges.{spanOk}
+-- `record::spans::span_ok` meets its contract. Assumes nothing.
+use Rattle.record.specs.Spans.{spanOk}
 use borrow.Author.Needs.{needs}
-use Rattle.tuning.proofs.span_ok.Statement.{statement}
-use Rattle.tuning.proofs.span_ok.Tie as tie
+use Rattle.record.proofs.spans.span_ok.Statement.{statement}
+use Rattle.record.proofs.spans.span_ok.Tie as tie
 
 time-ok-requires : tie.Need-time-ok-requires
 time-ok-requires c κs = search needs

@@ -1,10 +1,9 @@
--- `tuning::spans_ok` meets its contract. Assumes nothing.
-use Rattle.tuning.specs.Ranges.{spansOk}
-use Rattle.lists.specs.Lists.{every}
+-- `record::spans::spans_ok` meets its contract. Assumes nothing.
+use Rattle.record.specs.Spans.{spansOk}
 use Rattle.limits.proofs.Samples.{and-true}
 use borrow.Author.Needs.{needs}
-use Rattle.tuning.proofs.spans_ok.Statement.{statement}
-use Rattle.tuning.proofs.spans_ok.Tie as tie
+use Rattle.record.proofs.spans.spans_ok.Statement.{statement}
+use Rattle.record.proofs.spans.spans_ok.Tie as tie
 
 place-ok-requires : tie.Need-place-ok-requires
 place-ok-requires c κs = search needs
@@ -16,7 +15,7 @@ place-ok-requires-3 : tie.Need-place-ok-requires-3
 place-ok-requires-3 c κs = search needs
 
 returns : tie.Need-returns
-unfolding spansOk every
+unfolding spansOk
 returns c = cc (and-true (c .place-ok3 .result))
 
 pub spans-ok-spec : {M : Type 1} → statement M
