@@ -1,4 +1,4 @@
--- READING C11: a floor that follows a sample stays between -200 and 100 dBm. The step towards the sample, rounded twice, is no longer than the way to it, and rounding keeps the
+-- A floor that follows a sample stays between -200 and 100 dBm. The step towards the sample, rounded twice, is no longer than the way to it, and rounding keeps the
 -- order of the sum and the ends of the range, which are floats. Assumes nothing.
 use mathlib.Core.Path.{_≡_, refl, sym, ap, _∙_, subst}
 use mathlib.Core.Bool.{Bool, true, false, not, cond, _&&_, _||_, true≢false}
