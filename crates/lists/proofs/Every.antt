@@ -1,24 +1,42 @@
--- A test of each of the first count elements, by a loop that looks at all of them. Assumes nothing.
+-- A test of each of the first count elements, by a loop that looks at all of them, one or a part of them a turn. Assumes nothing.
 use mathlib.Core.Path.{_≡_, refl, sym, ap, _∙_, subst}
 use mathlib.Core.Bool.{Bool, true, false, not, _&&_}
-use mathlib.Core.List.{List, [], _∷_}
-use Prim.Native.Nat.{ℕ, zero, suc, _+_, _*_, _/_, _%_, _^_, _≤_, _<_}
+use mathlib.Core.List.{List, [], _∷_, _++_}
+use Prim.Native.Nat.{ℕ, zero, suc, _+_, _-_, _*_, _/_, _%_, _^_, _≤_, _<_}
 use borrow.Author.Tests.{eq-eqb, ne-eqb, leb-true, leb-false}
 use lib.Dec.{T, eqb, leb}
 use native.Mathlib.Numerals.{add-one}
 use native.Mathlib.Nat.{le-of-suc-le-suc}
 use native.Mathlib.Omega.{arith}
-use lib.ListN.{length, take, getD}
-use lib.Seq.{slice, slice-cons, slice-empty, getD-take, length-take-le}
+use lib.ListN.{length, take, drop, getD}
+use lib.Seq.{slice, slice-cons, slice-empty, getD-take, length-take-le, take-add, drop-append-le, drop-at}
 use lib.Ieee.{Float, nan, inf, fin, up, down, eq, isNan}
 use Rattle.limits.proofs.Samples.{and-assoc, and-true, and-left, and-right}
 use Rattle.lists.specs.Lists.{every, upTo}
 
-module _ {A : Type 0} (p : A → Bool) (l : List A) (count : ℕ) (d : A) (h : count ≤ length l) where
-  -- a turn: what was seen and what is left pass just where the whole does
-  pub every-turn : (ok r w : Bool) (i : ℕ) → i < count → r ≡ p (getD l i d) → (ok && every p (slice i count l)) ≡ w → ((ok && r) && every p (slice (i + 1) count l)) ≡ w
+every-append : {A : Type 0} (p : A → Bool) (k l : List A) → every p (k ++ l) ≡ (every p k && every p l)
+unfolding every
+every-append p [] l = refl
+every-append p (x ∷ k) l = rw (every-append p k l) (sym (and-assoc (p x) (every p k) (every p l)))
+
+-- a part from i to k, and then one from k to t
+slice-join : {A : Type 0} (l : List A) (i k t : ℕ) → i ≤ k → k ≤ t → t ≤ length l → slice i t l ≡ slice i k l ++ slice k t l
+slice-join l i k t a b h =
+    let n : length (take k l) ≡ k = length-take-le k l (omega arith) in
+    let m : k + (t - k) ≡ t = omega arith in
+    let e : take t l ≡ take k l ++ take (t - k) (drop k l) = rw m at (take-add k (t - k) l) in
+    rw e (drop-append-le i (take k l) (take (t - k) (drop k l)) (omega arith) ∙ rw (drop-at (take k l) (take (t - k) (drop k l)) k n) refl)
+
+module _ {A : Type 0} (p : A → Bool) (l : List A) (count : ℕ) (h : count ≤ length l) where
+  -- a turn that looks at the elements from i to k: what was seen and what is left pass just where the whole does
+  pub every-part : (ok r w : Bool) (i k : ℕ) → r ≡ every p (slice i k l) → (ok && every p (slice i count l)) ≡ w → i ≤ k → k ≤ count → ((ok && r) && every p (slice k count l)) ≡ w
+  every-part ok r w i k e q a b =
+      rw e (and-assoc ok (every p (slice i k l)) (every p (slice k count l)) ∙ rw (slice-join l i k count a b h, every-append p (slice i k l) (slice k count l)) at q)
+
+  -- a turn that looks at one
+  pub every-turn : (d : A) (ok r w : Bool) (i : ℕ) → i < count → r ≡ p (getD l i d) → (ok && every p (slice i count l)) ≡ w → ((ok && r) && every p (slice (i + 1) count l)) ≡ w
   unfolding every
-  every-turn ok r w i k e q =
+  every-turn d ok r w i k e q =
       rw (e, add-one i) (and-assoc ok (p (getD l i d)) (every p (slice (suc i) count l)) ∙ rw (slice-cons i count l d k h) at q)
 
   pub every-end : (ok w : Bool) (i : ℕ) → i ≤ count → count ≤ i → (ok && every p (slice i count l)) ≡ w → ok ≡ w

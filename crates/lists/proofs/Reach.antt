@@ -17,27 +17,28 @@ or-left a b = omega (arith, or-add-and a b, and-le-r a b)
 or-right : (a b : ℕ) → b ≤ bitOr a b
 or-right a b = omega (arith, or-add-and a b, and-le-l a b)
 
-reaches-more : (low r b a : ℕ) → Reaches low r a → Reaches low (bitOr r b) a
-reaches-more low r b a h =
-    let o = or-left r b in
-    (omega (arith, h .0), λ k. h .1 (omega arith))
+-- low and r reach each index from the place a to the place b
+abbrev pub Reach : ℕ → ℕ → List ℕ → ℕ → ℕ → Type 0
+Reach low r at a b = (i : ℕ) → a ≤ i → i < b → Reaches low r (getD at i 0)
 
-reaches-one : (low r d a : ℕ) → low < 2 ^ 64 → d < 2 ^ 64 → (d + low) % 2 ^ 64 ≡ a → Reaches low (bitOr r d) a
-reaches-one low r d a L D e =
-    let o = or-right r d in
-    (omega arith, λ k. omega arith)
+pub reach-one : (at : List ℕ) (low d i : ℕ) → low < 2 ^ 64 → d < 2 ^ 64 → (d + low) % 2 ^ 64 ≡ getD at i 0 → Reach low d at i (i + 1)
+reach-one at low d i L D e j a b =
+    let same : i ≡ j = omega arith in
+    subst (λ (z : ℕ). Reaches low d (getD at z 0)) same (omega arith, λ k. omega arith)
 
--- one index more
-pub reaches-turn : (at : List ℕ) (first i low bits d : ℕ) → low < 2 ^ 64 → d < 2 ^ 64 → (d + low) % 2 ^ 64 ≡ getD at i 0
-    → ((j : ℕ) → first ≤ j → j < i → Reaches low bits (getD at j 0)) → (j : ℕ) → first ≤ j → j < i + 1 → Reaches low (bitOr bits d) (getD at j 0)
-reaches-turn at first i low bits d L D e f j a b = go (ltb j i) (ltb-true j i) (ltb-false j i)
+-- two parts of a list, one behind the other
+pub reach-join : (at : List ℕ) (low r s a b c : ℕ) → Reach low r at a b → Reach low s at b c → Reach low (bitOr r s) at a c
+reach-join at low r s a b c f g i k l = go (ltb i b) (ltb-true i b) (ltb-false i b)
   where
-    go : (t : Bool) → (t ≡ true → j < i) → (t ≡ false → i ≤ j) → Reaches low (bitOr bits d) (getD at j 0)
-    go true p q = reaches-more low bits d (getD at j 0) (f j a (p refl))
+    go : (t : Bool) → (t ≡ true → i < b) → (t ≡ false → b ≤ i) → Reaches low (bitOr r s) (getD at i 0)
+    go true p q =
+        let h = f i k (p refl) in
+        let o = or-left r s in
+        (omega (arith, h .0), λ m. h .1 (omega arith))
     go false p q =
-        let k = q refl in
-        let same : i ≡ j = omega arith in
-        subst (λ (z : ℕ). Reaches low (bitOr bits d) (getD at z 0)) same (reaches-one low bits d (getD at i 0) L D e)
+        let h = g i (q refl) l in
+        let o = or-right r s in
+        (omega (arith, h .0), λ m. h .1 (omega arith))
 
 every-all : {A : Type 0} (p : A → Bool) (l : List A) (d : A) → ((i : ℕ) → i < length l → p (getD l i d) ≡ true) → every p l ≡ true
 unfolding every

@@ -48,14 +48,14 @@ loop-again c =
       omega arith,
       omega arith,
       ap (λ (t : Bool). t && every (λ (a : ℕ). leb a (s .args .limit)) (slice (l .loop .i + 1) (s .args .count) at)) (zero-sum (l .loop .bad) (c .past .result))
-          ∙ every-turn (λ (a : ℕ). leb a (s .args .limit)) at (s .args .count) 0 (s .pre .0) (eqb (l .loop .bad) 0) (eqb (c .past .result) 0) (upTo (s .args .limit) (take (s .args .count) at)) (l .loop .i) (omega arith) (c .past .ensures .1) (l .loop .inv .2),
+          ∙ every-turn (λ (a : ℕ). leb a (s .args .limit)) at (s .args .count) (s .pre .0) 0 (eqb (l .loop .bad) 0) (eqb (c .past .result) 0) (upTo (s .args .limit) (take (s .args .count) at)) (l .loop .i) (omega arith) (c .past .ensures .1) (l .loop .inv .2),
     )
 
 returns : tie.Need-returns Inv-loop μ-loop
 returns c =
     let l = c .before in
     let s = l .before .before in
-    every-end (λ (a : ℕ). leb a (s .args .limit)) (s .args .at .now) (s .args .count) 0 (s .pre .0) (eqb (l .loop .bad) 0) (upTo (s .args .limit) (take (s .args .count) (s .args .at .now))) (l .loop .i) (omega arith) (omega arith) (l .loop .inv .2)
+    every-end (λ (a : ℕ). leb a (s .args .limit)) (s .args .at .now) (s .args .count) (s .pre .0) (eqb (l .loop .bad) 0) (upTo (s .args .limit) (take (s .args .count) (s .args .at .now))) (l .loop .i) (omega arith) (omega arith) (l .loop .inv .2)
 
 pub each-within-spec : {M : Type 1} → statement M
 each-within-spec =

@@ -1,12 +1,12 @@
 -- `lists::no_nan` meets its contract. Assumes nothing.
 use borrow.Author.Needs.{needs}
-use Rattle.lists.proofs.Every.{every-turn, every-end}
+use Rattle.lists.proofs.Every.{every-part}
 use Rattle.lists.specs.Lists.{every, noNan}
-use lib.Ieee.{Float, nan, isNan}
+use lib.Ieee.{Float, isNan}
 use lib.Seq.{slice}
 use lib.ListN.{take}
 use native.Mathlib.Omega.{arith}
-use Prim.Native.Nat.{_-_, _≤_}
+use Prim.Native.Nat.{_+_, _-_, _≤_}
 use mathlib.Core.Bool.{_&&_, not}
 use mathlib.Core.Path.{_≡_, refl}
 use Rattle.lists.proofs.no_nan.Statement.{statement}
@@ -21,14 +21,14 @@ abbrev μ-loop : tie.MeasureT-loop
 loop-holds : tie.Need-loop-holds Inv-loop μ-loop
 loop-holds c = (omega arith, refl)
 
-mul-is-number : tie.Need-mul-is-number Inv-loop μ-loop
-mul-is-number c = search needs
+sub-loop : tie.Need-sub-loop Inv-loop μ-loop
+sub-loop c = search needs
 
-shared-slice-read-is-number : tie.Need-shared-slice-read-is-number Inv-loop μ-loop
-shared-slice-read-is-number c = search needs
+add-no-nan-part : tie.Need-add-no-nan-part Inv-loop μ-loop
+add-no-nan-part c = search needs
 
-is-number-requires : tie.Need-is-number-requires Inv-loop μ-loop
-is-number-requires c κs = search needs
+no-nan-part-requires : tie.Need-no-nan-part-requires Inv-loop μ-loop
+no-nan-part-requires c κs = omega arith
 
 add-i : tie.Need-add-i Inv-loop μ-loop
 add-i c = search needs
@@ -38,16 +38,18 @@ loop-less c = search needs
 
 loop-again : tie.Need-loop-again Inv-loop μ-loop
 loop-again c =
-    let l = c .before .before .before in
+    let l = c .before .before in
     let s = l .before .before in
     let hz = s .args .hz .now in
-    (omega arith, every-turn (λ (x : Float). not (isNan x)) hz (s .args .count) nan (s .pre) (l .loop .ok) (c .is-number .result) (noNan (take (s .args .count) hz)) (l .loop .i) (omega arith) (c .is-number .ensures) (l .loop .inv .1))
+    let p = c .no-nan-part in
+    let i = l .loop .i in
+    (omega arith, every-part (λ (x : Float). not (isNan x)) hz (s .args .count) (s .pre) (l .loop .ok) (p .result) (noNan (take (s .args .count) hz)) i (i + 128) (p .ensures) (l .loop .inv .1) (omega arith) (omega arith))
+
+no-nan-part-requires-2 : tie.Need-no-nan-part-requires-2 Inv-loop μ-loop
+no-nan-part-requires-2 c κs = omega arith
 
 returns : tie.Need-returns Inv-loop μ-loop
-returns c =
-    let l = c .before in
-    let s = l .before .before in
-    every-end (λ (x : Float). not (isNan x)) (s .args .hz .now) (s .args .count) nan (s .pre) (l .loop .ok) (noNan (take (s .args .count) (s .args .hz .now))) (l .loop .i) (omega arith) (omega arith) (l .loop .inv .1)
+returns c = rw (c .no-nan-part2 .ensures) (c .before .before .loop .inv .1)
 
 pub no-nan-spec : {M : Type 1} → statement M
 no-nan-spec =
@@ -56,10 +58,11 @@ no-nan-spec =
     Inv-loop
     μ-loop
     loop-holds
-    mul-is-number
-    shared-slice-read-is-number
-    is-number-requires
+    sub-loop
+    add-no-nan-part
+    no-nan-part-requires
     add-i
     loop-less
     loop-again
+    no-nan-part-requires-2
     returns)
