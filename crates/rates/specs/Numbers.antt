@@ -56,10 +56,6 @@ tailS = near 3 10
 abbrev pub sameBurstS : Float
 sameBurstS = near 3 10
 
--- QUIET_S: repetitions start 3.7 to 4 s apart and a frame is only decoded 2 s after it starts, so a message waits this long after its latest one
-abbrev pub receiverQuietS : Float
-receiverQuietS = num 10
-
 -- ---- frequency.rs
 
 -- SETTLE_S: readings are trusted this long into a frame and after a retune
