@@ -5,16 +5,9 @@ use mathlib.Core.List.{List, [], _∷_, _++_}
 use Prim.Native.Nat.{ℕ, zero, suc, _+_, _-_, _≤_, _<_}
 use native.Mathlib.Omega.{arith}
 use lib.ListN.{replicate}
-use lib.Ieee.{Float, round, neg, add, mul, div, lt, le, eq, ofInt, ofBits, toUnsigned}
+use lib.Ieee.{Float}
 use borrow.Author.Tests.{lt-ltb, le-ltb}
-use Rattle.floats.specs.Floor.{floor, roundHalfUp}
-use Rattle.floats.specs.Number.{num, near}
-use Rattle.rates.specs.Numbers.{gapMs}
-use Rattle.bursts.specs.Numbers.{aboveDb}
-use Rattle.bursts.specs.Levels.{noiseFloor}
-use Rattle.bursts.specs.Bursts.{Cluster, cluster, none, since, loud, clusters, longEnough, threshold, gapSamples, burstOf, burstsIn, burstsOf}
-use Rattle.bursts.specs.declared.BurstOptions.{BurstOptions}
-use Rattle.bursts.specs.declared.Burst.{Burst}
+use Rattle.bursts.specs.Bursts.{Cluster, cluster, none, since, loud, clusters}
 
 -- ---- runs of equal samples
 
