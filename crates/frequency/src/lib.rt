@@ -15,9 +15,6 @@ ghost use Rattle.frequency.specs.Waiting.{Settling, settledOf, stepBy};
 // How far past the stream's end a line's last reading may stand.
 const AHEAD: u64 = 32760;
 
-// The frequency of a message needs this many readings.
-const FEWEST: usize = 5;
-
 // The tracker; its lists are lent: readings as at, lo, hz, and tunings as tuned, freq, of which the counts are held.
 pub struct FrequencyTracker {
     pub rate: u32,
@@ -318,7 +315,7 @@ fn settled_step(t: FrequencyTracker, at: &[u64], hz: &[f64], out: &mut [f64]) ->
     let signal = t.signal;
     let from = signal.frame_from;
     let m = measure::gather_late(t.rate, from, t.readings, at, hz, out);
-    if m < FEWEST {
+    if m < measure::FEWEST {
         return tuning::Step::Stay;
     }
     tuning::Step::Settled(cfo::round_hz(measure::median_of(out, m)))

@@ -13,8 +13,8 @@ ghost use Rattle.lists.specs.Marks.{marked, retained, gathered, put, ands};
 ghost use Rattle.measure.specs.Measured.{median, sampleOf, firstOf, pastOf, inside, near, spaced, frameBy, direct, middle, pickFrequency};
 ghost use Rattle.measure.specs.Gathered.{Lined, Rows, Free};
 
-// A frame's frequency needs this many readings.
-const FEWEST: usize = 5;
+// The frequency of a frame, and a retune, need this many readings.
+pub const FEWEST: usize = 5;
 
 // The scale is known to about 1 %, and only from readings up to 50 kHz: a message read further than this from the receiver
 // frequency gets no frequency rather than one that may miss the device's window (+/- 1 kHz is the aim).
