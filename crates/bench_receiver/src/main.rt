@@ -1,7 +1,6 @@
 // What `host/bench` measures of the receiver: raw samples in pushes of one size, then a flush; it prints how many records there were.
 ghost use Prim.Native.Nat.{_<_};
 use libc::STDIN_FILENO;
-use receiver::Received;
 use receiver::SigfoxReceiver;
 
 // Between two pushes: the receiver, how many records it wrote, and the refusal of the last call or 0.
@@ -11,31 +10,6 @@ struct State {
     refused: u8,
 }
 
-fn after(s: State, r: Received) -> State {
-    let receiver = r.receiver;
-    State {
-        receiver,
-        records: std::num::wrapping_add_u64(s.records, r.count as u64),
-        refused: r.refused,
-    }
-}
-
-// The next samples of a chunk, `step` of them or what is left.
-fn push(
-    s: State,
-    raw: &[u8],
-    samples: &mut [f32; 48000],
-    events: &mut [u8; 30720],
-    scratch32: &mut [f32; 48000],
-    scratch64: &mut [f64; 3000],
-) -> State {
-    let receiver = s.receiver;
-    after(
-        s,
-        receiver.push_raw(raw, samples, events, scratch32, scratch64),
-    )
-}
-
 fn flush(
     s: State,
     samples: &mut [f32; 48000],
@@ -43,8 +17,14 @@ fn flush(
     scratch32: &mut [f32; 48000],
     scratch64: &mut [f64; 3000],
 ) -> State {
-    let receiver = s.receiver;
-    after(s, receiver.flush(samples, events, scratch32, scratch64))
+    let given = s.receiver;
+    let r = given.flush(samples, events, scratch32, scratch64);
+    let receiver = r.receiver;
+    State {
+        receiver,
+        records: std::num::wrapping_add_u64(s.records, r.count as u64),
+        refused: r.refused,
+    }
 }
 
 fn push_chunk(
@@ -58,15 +38,25 @@ fn push_chunk(
 ) -> State
     requires { ⌜ 0 < step ⌝ }
 {
-    let mut t = s;
+    let mut receiver = s.receiver;
+    let mut records = s.records;
+    let mut refused = s.refused;
     let mut at: usize = 0;
     while at < raw.len() {
         let n = dips::least(step, raw.len() - at);
         let end = at + n;
-        t = push(t, &raw[at..end], samples, events, scratch32, scratch64);
+        let r = receiver.push_raw(&raw[at..end], samples, events, scratch32, scratch64);
+        let next = r.receiver;
+        receiver = next;
+        records = std::num::wrapping_add_u64(records, r.count as u64);
+        refused = r.refused;
         at = end;
     }
-    t
+    State {
+        receiver,
+        records,
+        refused,
+    }
 }
 
 fn main() {

@@ -20,13 +20,12 @@ use Rattle.ledger.proofs.Ranks.{AllRanked}
 use Rattle.ledger.proofs.Carry.{carry}
 use Rattle.ledger.proofs.Seeing.{Clear, events-seen, events-size, records-in, no-records}
 use Rattle.ledger.proofs.Sound.{Sound, fresh-sound, sound-ranked, call-sound}
-use Rattle.receiver.specs.State.{stateOf}
 use Rattle.receiver.specs.Calls.{Memory, lengthsOf, refusalOf, recordsOf, stateAfter, samplesAfter, Free, Answered}
 use Rattle.receiver.specs.declared.SigfoxReceiver.{SigfoxReceiver}
 use Rattle.history.specs.Runs as runs
 use Rattle.history.specs.Runs.{Request, askPush, askRaw, askFlush, callOf, Typed, Exchange, Port, memoryOf, Did, portAfter, freshPort, recordsFrom, turnFrom, attemptOf}
 use Rattle.history.specs.Theorem.{Untouched}
-use Rattle.history.proofs.States.{number-is, records-are, state-is, samples-kept}
+use Rattle.history.proofs.States.{For, new-for, number-is, records-are, state-for, samples-kept}
 
 -- ---- the samples of a call are binary32 numbers
 
@@ -70,14 +69,14 @@ same-port p q e f = make e f
 -- ---- the port stands for a ledger
 
 pub record Stands (rate : ℕ) (first : List Float) (p : Port) (l : Ledger byFrames) : Type 0 where
-  pub state : p .receiver ≡ stateOf rate (carry l)
+  pub state : For rate (p .receiver) (carry l)
   pub size : length (p .samples) ≡ length first
   pub holds : take (length (l .held)) (p .samples) ≡ l .held
   pub sound : Sound l
 
 pub fresh-stands : (rate : ℕ) (first : List Float) → Stands rate first (freshPort rate first) fresh
 unfolding fresh
-fresh-stands rate first = record { state = refl; size = refl; holds = refl; sound = fresh-sound }
+fresh-stands rate first = record { state = new-for rate; size = refl; holds = refl; sound = fresh-sound }
 
 module _ (rate : ℕ) (first : List Float) (p : Port) (l : Ledger byFrames) (st : Stands rate first p l) (x : Exchange) (did : Did p x) where
   abbrev c : Call
@@ -90,14 +89,14 @@ module _ (rate : ℕ) (first : List Float) (p : Port) (l : Ledger byFrames) (st 
   n = number rate l (attemptOf first x)
 
   abbrev s : SigfoxReceiver
-  s = stateOf rate (carry l)
+  s = p .receiver
 
   -- the ledger's records of it
   abbrev written : List (List ℕ)
   written = map recordOf (callEvents rate (demodOf rate) l c n)
 
   answered : Answered s c before (x .reply .after) (x .reply .received)
-  answered = rw (st .state) at (did .1)
+  answered = did .1
 
   cause-is : cause rate (lengthsOf before) (causes.countsOf l) l c ≡ n
   cause-is = rw (st .size) refl
@@ -106,7 +105,7 @@ module _ (rate : ℕ) (first : List Float) (p : Port) (l : Ledger byFrames) (st 
   ranked = sound-ranked l (st .sound)
 
   refusal-is : refusalOf s c before ≡ n
-  refusal-is = number-is rate l ranked c before (st .holds) ∙ cause-is
+  refusal-is = number-is rate s l (st .state) c before (st .holds) ∙ cause-is
 
   after-sound : Sound (afterCall rate (demodOf rate) l c n) × Every Clear (callEvents rate (demodOf rate) l c n)
   after-sound = call-sound rate l (st .sound) (attemptOf first x .lent) c n refl (call-singles (x .asked .request) (did .0))
@@ -115,7 +114,7 @@ module _ (rate : ℕ) (first : List Float) (p : Port) (l : Ledger byFrames) (st 
   refused = answered .refused ∙ refusal-is
 
   records-is : recordsOf s c (before .samples) (refusalOf s c before) ≡ written
-  records-is = rw refusal-is (records-are rate l ranked c before (st .holds) n)
+  records-is = rw refusal-is (records-are rate s l (st .state) c before (st .holds) ranked n)
 
   count : x .reply .received .count ≡ length written
   count = answered .count ∙ ap length records-is
@@ -137,9 +136,9 @@ module _ (rate : ℕ) (first : List Float) (p : Port) (l : Ledger byFrames) (st 
 
   pub next : Stands rate first (portAfter x) (afterCall rate (demodOf rate) l c n)
   next =
-      let k = samples-kept rate l before (st .holds) c n cause-is in
+      let k = samples-kept rate l before (st .holds) s (st .state) c n cause-is in
       record {
-        state = answered .state ∙ ap (stateAfter s c (p .samples)) refusal-is ∙ state-is rate l ranked c before (st .holds) n;
+        state = rw (answered .state ∙ ap (stateAfter s c (p .samples)) refusal-is) (state-for rate s l (st .state) c before (st .holds) ranked n);
         size = ap length samples ∙ k .size ∙ st .size;
         holds = rw samples (k .held);
         sound = after-sound .0;
@@ -153,7 +152,7 @@ module _ (rate : ℕ) (first : List Float) (p : Port) (l : Ledger byFrames) (st 
       go zero e = absurd (h (refused ∙ e))
       go (suc k) e =
           let m : refusalOf s c before ≡ suc k = refusal-is ∙ e in
-          let receiver : x .reply .received .receiver ≡ p .receiver = answered .state ∙ ap (stateAfter s c (p .samples)) m ∙ sym (st .state) in
+          let receiver : x .reply .received .receiver ≡ p .receiver = answered .state ∙ ap (stateAfter s c (p .samples)) m in
           let same : x .reply .after .samples ≡ p .samples = samples ∙ ap (samplesAfter s c (p .samples)) e ∙ samples-same s c (p .samples) k in
           let none : written ≡ [] = rw e refl in
           record {

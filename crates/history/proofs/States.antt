@@ -1,20 +1,19 @@
 -- The state and the sample buffer of the port stand for 01's ledger, with the entry that the Rust merges of each open message; and so after a call.
-use mathlib.Core.Path.{_≡_, refl, sym, ap, _∙_}
+use mathlib.Core.Path.{_≡_, refl, subst, sym, ap, _∙_}
 use mathlib.Core.Bool.{Bool, true, false, not, _||_, cond}
 use mathlib.Core.List.{List, map}
-use Prim.Native.Nat.{ℕ, zero, suc, _-_, _≤_}
+use Prim.Native.Nat.{ℕ, zero, suc, _≤_}
 use native.Mathlib.Omega.{arith}
 use lib.Dec.{ltb}
 use lib.Ieee.{Float}
-use lib.ListN.{length, take, replicate}
+use lib.ListN.{length, take, drop}
 use lib.Seq.{take-append-seam}
 use borrow.Author.Tests.{ltb-false}
 use Rattle.limits.specs.Limits.{badRate, short}
 use Rattle.limits.specs.Samples.{rateOk}
-use Rattle.ledger.specs.Ledger.{byFrames, byEntry, capacity, Ledger, Call, push, flush, startCall, scans, closed, events}
-use Rattle.ledger.specs.Causes.{mostStarts, orderly, Lent, tooShort, callCause, cause, afterCall, callEvents}
+use Rattle.ledger.specs.Ledger.{byFrames, byEntry, capacity, Ledger, Call, push, flush, fresh, startCall, scans, closed, events}
+use Rattle.ledger.specs.Causes.{orderly, Lent, tooShort, callCause, cause, afterCall, callEvents}
 use Rattle.ledger.specs.Causes as causes
-use Rattle.ledger.specs.Room.{openPlaces}
 use Rattle.ledger.specs.Demodulation.{demodOf}
 use Rattle.ledger.specs.Records.{recordOf}
 use Rattle.ledger.proofs.Orders.{passed, rate-pos}
@@ -25,8 +24,9 @@ use Rattle.samples.specs.Buffer.{allFilled}
 use Rattle.samples.proofs.Fillings.{held-length}
 use Rattle.starts.specs.Starts as starts
 use Rattle.waiting.specs.Waiting as waiting
-use Rattle.receiver.specs.State.{ledgerOf, countsOf, stateOf}
+use Rattle.receiver.specs.State.{ledgerOf, countsOf, newState, stateOver}
 use Rattle.receiver.specs.Calls.{Memory, lengthsOf, refusalOf, recordsOf, stateAfter, samplesAfter}
+use Rattle.receiver.specs.declared.SigfoxReceiver.{SigfoxReceiver}
 use Rattle.history.proofs.Buffers.{fills-keeps}
 
 -- a call looks at no frame that was heard before it
@@ -46,20 +46,26 @@ module _ (rate : ℕ) (l : Ledger byEntry) where
   events-start c zero = ap (events rate c) (scans-start c)
   events-start c (suc n) = refl
 
-  -- the state for a ledger stands for it
-  ledger-is : (buf : List Float) → take (length (l .held)) buf ≡ l .held → ledgerOf (stateOf rate l) buf ≡ startCall l
-  unfolding stateOf starts.cleared waiting.cleared startCall
-  ledger-is buf h =
-      rw (h, take-append-seam (l .starts) (replicate (mostStarts - length (l .starts)) 0), take-append-seam (l .waiting) (replicate (openPlaces - length (l .waiting)) waiting.blank))
-      refl
+-- the state s of a receiver stands for the ledger l, whatever its places past the counts hold
+pub record For (rate : ℕ) (s : SigfoxReceiver) (l : Ledger byEntry) : Type 0 where
+  pub rated : s .rate ≡ rate
+  pub counts : countsOf s ≡ causes.countsOf l
+  pub ledger : (buf : List Float) → take (length (l .held)) buf ≡ l .held → ledgerOf s buf ≡ startCall l
 
-  counts-are : countsOf (stateOf rate l) ≡ causes.countsOf l
-  unfolding stateOf starts.cleared waiting.cleared
-  counts-are = refl
+pub new-for : (rate : ℕ) → For rate (newState rate) fresh
+unfolding newState waiting.none fresh startCall
+new-for rate = record { rated = refl; counts = refl; ledger = λ buf h. refl }
 
-  rate-is : stateOf rate l .rate ≡ rate
-  unfolding stateOf
-  rate-is = refl
+over-for : (s : SigfoxReceiver) (l : Ledger byEntry) → For (s .rate) (stateOver s l) l
+unfolding stateOver starts.over waiting.over startCall
+over-for s l =
+    record {
+      rated = refl;
+      counts = refl;
+      ledger =
+          λ buf h.
+          rw (h, take-append-seam (l .starts) (drop (length (l .starts)) (s .starts .at)), take-append-seam (l .waiting) (drop (length (l .waiting)) (s .waiting .messages))) refl;
+    }
 
 -- an accepted call has a sample buffer that is long enough
 wide : (rate : ℕ) (b : Lent) (l : Ledger byFrames) (c : Call) → cause rate b (causes.countsOf l) l c ≡ 0 → capacity rate ≤ b .samples
@@ -75,28 +81,35 @@ wide rate b l c e = ltb-false (b .samples) (capacity rate) (first (ltb (b .sampl
     second true false k q = refl
     second false y k q = absurd (omega arith)
 
-module _ (rate : ℕ) (l : Ledger byFrames) (ranked : AllRanked (l .waiting)) (c : Call) (b : Memory) (holds : take (length (l .held)) (b .samples) ≡ l .held) where
-  pub number-is : refusalOf (stateOf rate (carry l)) c b ≡ cause rate (lengthsOf b) (causes.countsOf l) l c
+module _ (rate : ℕ) (s : SigfoxReceiver) (l : Ledger byFrames) (f : For rate s (carry l)) (c : Call) (b : Memory) (holds : take (length (l .held)) (b .samples) ≡ l .held) where
+  pub number-is : refusalOf s c b ≡ cause rate (lengthsOf b) (causes.countsOf l) l c
   number-is =
-      rw (ledger-is rate (carry l) (b .samples) holds, counts-are rate (carry l), rate-is rate (carry l))
-      (cause-start rate (carry l) (lengthsOf b) c ∙ cause-carry rate (lengthsOf b) l c)
+      ap (λ (k : Ledger byEntry). cause (s .rate) (lengthsOf b) (countsOf s) k c) (f .ledger (b .samples) holds)
+      ∙ ap (λ (k : causes.Counts). cause (s .rate) (lengthsOf b) k (startCall (carry l)) c) (f .counts)
+      ∙ ap (λ (r : ℕ). cause r (lengthsOf b) (causes.countsOf (carry l)) (startCall (carry l)) c) (f .rated)
+      ∙ cause-start rate (carry l) (lengthsOf b) c
+      ∙ cause-carry rate (lengthsOf b) l c
 
-  pub records-are : (n : ℕ) → recordsOf (stateOf rate (carry l)) c (b .samples) n ≡ map recordOf (callEvents rate (demodOf rate) l c n)
-  unfolding stateOf
-  records-are n =
-      ap (map recordOf)
-      (ap (λ (k : Ledger byEntry). callEvents rate (demodOf rate) k c n) (ledger-is rate (carry l) (b .samples) holds)
-      ∙ events-start rate (carry l) c n
-      ∙ sym (call-events-carry rate (demodOf rate) l c n ranked))
+  module _ (ranked : AllRanked (l .waiting)) where
+    pub records-are : (n : ℕ) → recordsOf s c (b .samples) n ≡ map recordOf (callEvents rate (demodOf rate) l c n)
+    records-are n =
+        ap (map recordOf)
+        (ap (λ (k : Ledger byEntry). callEvents (s .rate) (demodOf (s .rate)) k c n) (f .ledger (b .samples) holds)
+        ∙ ap (λ (r : ℕ). callEvents r (demodOf r) (startCall (carry l)) c n) (f .rated)
+        ∙ events-start rate (carry l) c n
+        ∙ sym (call-events-carry rate (demodOf rate) l c n ranked))
 
-  pub state-is : (n : ℕ) → stateAfter (stateOf rate (carry l)) c (b .samples) n ≡ stateOf rate (carry (afterCall rate (demodOf rate) l c n))
-  unfolding stateAfter afterCall stateOf
-  state-is zero =
-      ap (stateOf rate)
-      (ap (λ (k : Ledger byEntry). closed rate c (scans rate (demodOf rate) k c)) (ledger-is rate (carry l) (b .samples) holds)
-      ∙ ap (closed rate c) (scans-start rate (carry l) c)
-      ∙ sym (call-carry rate (demodOf rate) l c 0 ranked))
-  state-is (suc n) = refl
+    pub state-for : (n : ℕ) → For rate (stateAfter s c (b .samples) n) (carry (afterCall rate (demodOf rate) l c n))
+    unfolding stateAfter afterCall
+    state-for zero =
+        let k = closed (s .rate) c (scans (s .rate) (demodOf (s .rate)) (ledgerOf s (b .samples)) c) in
+        let e : k ≡ carry (afterCall rate (demodOf rate) l c 0)
+        = ap (λ (k : Ledger byEntry). closed (s .rate) c (scans (s .rate) (demodOf (s .rate)) k c)) (f .ledger (b .samples) holds)
+        ∙ ap (λ (r : ℕ). closed r c (scans r (demodOf r) (startCall (carry l)) c)) (f .rated)
+        ∙ ap (closed rate c) (scans-start rate (carry l) c)
+        ∙ sym (call-carry rate (demodOf rate) l c 0 ranked) in
+        subst (λ (m : Ledger byEntry). For rate (stateOver s k) m) e (subst (λ (r : ℕ). For r (stateOver s k) k) (f .rated) (over-for s k))
+    state-for (suc n) = f
 
 -- ---- the sample buffer
 
@@ -124,10 +137,17 @@ module _ (rate : ℕ) (l : Ledger byFrames) (b : Memory) (holds : take (length (
   unfolding scans startCall
   flush-kept = record { size = refl; held = rw (scan-still rate (demodOf rate) 0 (startCall l) .held) holds }
 
-  pub samples-kept : (c : Call) (n : ℕ) → cause rate (lengthsOf b) (causes.countsOf l) l c ≡ n
-      → Kept (afterCall rate (demodOf rate) l c n) (samplesAfter (stateOf rate (carry l)) c (b .samples) n)
-  unfolding samplesAfter afterCall closed stateOf
-  samples-kept (push xs) zero e = let k = push-kept xs e in record { size = k .size; held = k .held }
-  samples-kept flush zero e = record { size = refl; held = flush-kept .held }
-  samples-kept (push xs) (suc n) e = record { size = refl; held = holds }
-  samples-kept flush (suc n) e = record { size = refl; held = holds }
+  module _ (s : SigfoxReceiver) (f : For rate s (carry l)) where
+    filled-is : (xs : List Float) → allFilled (s .rate) (length xs) (record { held = s .held; places = b .samples }) xs .places
+        ≡ allFilled rate (length xs) (record { held = length (l .held); places = b .samples }) xs .places
+    filled-is xs =
+        ap (λ (r : ℕ). allFilled r (length xs) (record { held = s .held; places = b .samples }) xs .places) (f .rated)
+        ∙ ap (λ (k : causes.Counts). allFilled rate (length xs) (record { held = k .held; places = b .samples }) xs .places) (f .counts)
+
+    pub samples-kept : (c : Call) (n : ℕ) → cause rate (lengthsOf b) (causes.countsOf l) l c ≡ n
+        → Kept (afterCall rate (demodOf rate) l c n) (samplesAfter s c (b .samples) n)
+    unfolding samplesAfter afterCall closed
+    samples-kept (push xs) zero e = let k = push-kept xs e in rw (filled-is xs) (record { size = k .size; held = k .held })
+    samples-kept flush zero e = record { size = refl; held = flush-kept .held }
+    samples-kept (push xs) (suc n) e = record { size = refl; held = holds }
+    samples-kept flush (suc n) e = record { size = refl; held = holds }

@@ -4,11 +4,11 @@ use mathlib.Core.List.{List, [], _∷_, map}
 use Prim.Native.Nat.{ℕ}
 use lib.Dec.{T}
 use lib.Ieee.{Float, binary32, fits}
-use Rattle.ledger.specs.Ledger.{Call, push, pushRaw, flush, byEntry, fresh}
+use Rattle.ledger.specs.Ledger.{Call, push, pushRaw, flush}
 use Rattle.ledger.specs.Causes.{Attempt}
 use Rattle.ledger.specs.Records.{recordsIn, seenIn}
 use Rattle.ledger.specs.Demand3.{Turn}
-use Rattle.receiver.specs.State.{stateOf}
+use Rattle.receiver.specs.State.{newState}
 use Rattle.receiver.specs.Calls.{Memory, lengthsOf, Answered}
 use Rattle.receiver.specs.declared.SigfoxReceiver.{SigfoxReceiver}
 use Rattle.receiver.specs.declared.Received.{Received}
@@ -77,7 +77,7 @@ Run p (x ∷ xs) = Did p x × Run (portAfter x) xs
 
 -- what `SigfoxReceiver::new` answers, with a sample buffer of any length and first contents
 abbrev pub freshPort : ℕ → List Float → Port
-freshPort rate samples = record { receiver = stateOf rate (fresh {K = byEntry}); samples = samples }
+freshPort rate samples = record { receiver = newState rate; samples = samples }
 
 -- ---- what a client sees of it
 

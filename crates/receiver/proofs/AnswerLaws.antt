@@ -22,12 +22,12 @@ use Rattle.ledger.proofs.Basics.{and-true, or-false}
 use Rattle.ledger.proofs.Orders.{passed}
 use Rattle.starts.specs.Starts as starts
 use Rattle.waiting.specs.Waiting as waiting
-use Rattle.receiver.specs.State.{ledgerOf, countsOf}
+use Rattle.receiver.specs.State.{ledgerOf, countsOf, samplesOk}
 use Rattle.receiver.specs.Calls.{Memory, lengthsOf, refusalOf, recordsOf, stateAfter, samplesAfter, Free, Answered}
 use Rattle.receiver.specs.Running.{Passes, Answers}
 use Rattle.receiver.specs.declared.SigfoxReceiver.{SigfoxReceiver}
 use Rattle.receiver.specs.declared.Received.{Received}
-use Rattle.receiver.proofs.StateLaws.{numbersOk, numbers-fit, orderly-is}
+use Rattle.receiver.proofs.StateLaws.{orderly-is, samples-fit}
 
 -- ---- a call that no cause applies to
 
@@ -68,12 +68,9 @@ module _ (s : SigfoxReceiver) (c : Call) (m : Memory) (starts-places : length (s
   counts-are : countsOf s ≡ causes.countsOf (ledgerOf s (m .samples))
   counts-are =
       let o = sym (orderly-is s (m .samples)) ∙ in-order (s .rate) (countsOf s) (ledgerOf s (m .samples)) c (long-enough .2) in
-      let a = and-true (numbersOk (s .rate) (s .held) (s .base) (s .unscanned)) _ o in
-      let b = and-true (allDbm (take (s .held) (m .samples))) _ (a .1) in
-      let d = and-true (starts.startsOk (s .rate) (s .base) _ (s .starts)) (waiting.waitingOk (s .waiting)) (b .1) in
-      let x = numbers-fit (s .rate) (s .held) (s .base) (s .unscanned) (a .0) .0 in
-      let y = leb-true (s .starts .count) mostStarts (and-true (leb (s .starts .count) mostStarts) _ (d .0) .0) in
-      let z = leb-true (s .waiting .count) mostWaiting (and-true (leb (s .waiting .count) mostWaiting) _ (d .1) .0) in
+      let a = and-true (samplesOk (s .rate) (s .held) (s .base) (s .unscanned) (s .starts) (m .samples)) (waiting.waitingOk (s .waiting)) o in
+      let x = samples-fit (s .rate) (s .held) (s .base) (s .unscanned) (s .starts) (m .samples) (a .0) in
+      let z = leb-true (s .waiting .count) mostWaiting (and-true (leb (s .waiting .count) mostWaiting) _ (a .1) .0) in
       let p : length (take (s .held) (m .samples)) ≡ s .held = length-take-le (s .held) (m .samples) (omega (arith, lengths .0)) in
       let q : length (starts.remembered (s .starts)) ≡ s .starts .count = length-take-le (s .starts .count) (s .starts .at) (omega arith) in
       let r : length (waiting.waitingOf (s .waiting)) ≡ s .waiting .count = length-take-le (s .waiting .count) (s .waiting .messages) (omega arith) in

@@ -1,6 +1,7 @@
 -- The causes by their subjects are the ledger's. Assumes nothing.
 use mathlib.Core.Bool.{Bool, _&&_, _||_, cond, false, not, true}
 use mathlib.Core.List.{List, [], _∷_}
+use mathlib.Core.Logic.{⊎-elim}
 use mathlib.Core.Path.{_∙_, _≡_, refl, sym}
 use Prim.Native.Nat.{_+_, _<_, _≤_, suc, ℕ}
 use native.Mathlib.Nat.{not-suc-le-zero}
@@ -9,13 +10,14 @@ use lib.Dec.{ltb}
 use lib.Ieee.{Float}
 use lib.ListN.{getD, length}
 use borrow.Author.Tests.{le-ltb, lt-ltb, ltb-false}
-use Rattle.ledger.specs.Causes.{Lent, anyNan, callCause, cause, orderly, tooShort, waitingAtPush}
+use Rattle.ledger.specs.Causes.{Lent, allFit, anyNan, callCause, cause, orderly, tooShort, unlike, waitingAtPush}
+use Rattle.ledger.proofs.Basics.{and-true, either}
 use Rattle.ledger.specs.Ledger.{byEntry, capacity, flush, push}
 use Rattle.ledger.specs.Room.{Below}
 use Rattle.limits.specs.Limits.{badNumber, badRate, badSample, badState, eventsSize, long, longestStream, scratch64, short, stream}
 use Rattle.limits.specs.Samples.{allDbm, rateOk}
-use Rattle.receiver.proofs.StateLaws.{numbers-fit, numbersOk, orderly-is}
-use Rattle.receiver.specs.State.{Known, countsOf, givenCause, ledgerOf, stateCause}
+use Rattle.receiver.proofs.StateLaws.{orderly-is, samples-fit}
+use Rattle.receiver.specs.State.{countsOf, givenCause, ledgerOf, orderCause, samplesOk, stateCause}
 use Rattle.limits.specs.Limits as limits
 use Rattle.waiting.specs.Waiting as waiting
 use Rattle.waiting.specs.declared.Condition.{Condition}
@@ -101,63 +103,79 @@ module _ (s : SigfoxReceiver) (buf : List Float) (b : Lent) where
       (cond (not (allDbm xs)) badSample (stateCause s buf (length xs))) f)
       ∙ push-is xs
 
-  flush-is : pick (rateOk (s .rate)) (tooShort (s .rate) b) (ltb (capacity (s .rate)) 0)
-      (cond (not (orderly (s .rate) (countsOf s) (ledgerOf s buf))) badState (cond (anyNan byEntry (waiting.waitingOf (s .waiting))) badNumber 0))
-      ≡ cause (s .rate) b (countsOf s) (ledgerOf s buf) flush
-  unfolding cause callCause
+  flush-is : pick (rateOk (s .rate)) (tooShort (s .rate) b) (ltb (capacity (s .rate)) 0) (orderCause s buf) ≡ cause (s .rate) b (countsOf s) (ledgerOf s buf) flush
+  unfolding cause callCause orderCause
   flush-is = rw (le-ltb (capacity (s .rate)) 0 (omega arith)) refl
 
   pub flush-first : (g : ℕ) → g ≡ givenCause (s .rate) b 0 → 1 ≤ g → g ≡ cause (s .rate) b (countsOf s) (ledgerOf s buf) flush
   unfolding givenCause
   flush-first g e h =
-      e
-      ∙ pick-first (rateOk (s .rate)) (tooShort (s .rate) b) (ltb (capacity (s .rate)) 0)
-      (cond (not (orderly (s .rate) (countsOf s) (ledgerOf s buf))) badState (cond (anyNan byEntry (waiting.waitingOf (s .waiting))) badNumber 0)) (rw e at h)
-      ∙ flush-is
+      e ∙ pick-first (rateOk (s .rate)) (tooShort (s .rate) b) (ltb (capacity (s .rate)) 0) (orderCause s buf) (rw e at h) ∙ flush-is
 
-  pub flush-later : (x : ℕ) → givenCause (s .rate) b 0 ≡ 0
-      → x ≡ cond (not (orderly (s .rate) (countsOf s) (ledgerOf s buf))) badState (cond (anyNan byEntry (waiting.waitingOf (s .waiting))) badNumber 0)
-      → x ≡ cause (s .rate) b (countsOf s) (ledgerOf s buf) flush
+  pub flush-later : (x : ℕ) → givenCause (s .rate) b 0 ≡ 0 → x ≡ orderCause s buf → x ≡ cause (s .rate) b (countsOf s) (ledgerOf s buf) flush
   unfolding givenCause
-  flush-later x e h =
-      h
-      ∙ pick-none (rateOk (s .rate)) (tooShort (s .rate) b) (ltb (capacity (s .rate)) 0)
-      (cond (not (orderly (s .rate) (countsOf s) (ledgerOf s buf))) badState (cond (anyNan byEntry (waiting.waitingOf (s .waiting))) badNumber 0)) e
-      ∙ flush-is
+  flush-later x e h = h ∙ pick-none (rateOk (s .rate)) (tooShort (s .rate) b) (ltb (capacity (s .rate)) 0) (orderCause s buf) e ∙ flush-is
 
 -- ---- the state's causes
 
-module _ (s : SigfoxReceiver) (buf : List Float) (n : ℕ) (r : Condition) (k : Known s buf r) where
-  pub state-order : r .ok ≡ false → badState ≡ stateCause s buf n
-  unfolding stateCause
-  state-order e = rw (sym (k .ok) ∙ e) refl
+module _ (s : SigfoxReceiver) (buf : List Float) where
+  abbrev ok : Bool
+  ok = samplesOk (s .rate) (s .held) (s .base) (s .unscanned) (s .starts) buf
 
-  module _ (ok : r .ok ≡ true) where
-    orders : orderly (s .rate) (countsOf s) (ledgerOf s buf) ≡ true
-    orders = sym (k .ok) ∙ ok
+  pub order-samples : ok ≡ false → badState ≡ orderCause s buf
+  unfolding orderCause
+  order-samples e = rw (orderly-is s buf, e) refl
 
-    pub state-fits : (s .held ≤ capacity (s .rate)) × (s .base + s .held ≤ longestStream)
-    state-fits =
-        numbers-fit (s .rate) (s .held) (s .base) (s .unscanned)
-        (and-first (numbersOk (s .rate) (s .held) (s .base) (s .unscanned)) _ (sym (orderly-is s buf) ∙ orders))
+  module _ (e : ok ≡ true) where
+    -- no message, none out of order
+    pub order-empty : s .waiting .count ≡ 0 → 0 ≡ orderCause s buf
+    unfolding orderCause unlike allFit anyNan
+    order-empty z = rw (orderly-is s buf, e, z) refl
+
+    module _ (r : Condition) (k : waiting.Checked (s .waiting) r) where
+      pub order-messages : r .ok ≡ false → badState ≡ orderCause s buf
+      unfolding orderCause
+      order-messages f = rw (orderly-is s buf, e, sym (k .ok) ∙ f) refl
+
+      pub order-nan : r .ok ≡ true → (x : ℕ) → x ≡ cond (r .nan) badNumber 0 → x ≡ orderCause s buf
+      unfolding orderCause
+      order-nan f x g = g ∙ rw (orderly-is s buf, e, sym (k .ok) ∙ f, k .nan f) refl
+
+  module _ (n x : ℕ) (h : x ≡ orderCause s buf) where
+    orders : (x ≡ badState → ⊥) → orderly (s .rate) (countsOf s) (ledgerOf s buf) ≡ true
+    unfolding orderCause
+    orders g = ⊎-elim (λ e. e) (λ e. absurd (g (h ∙ rw e refl))) (either (orderly (s .rate) (countsOf s) (ledgerOf s buf)))
+
+    pub state-order : x ≡ badState → x ≡ stateCause s buf n
+    unfolding orderCause stateCause
+    state-order g =
+        ⊎-elim
+        (λ e. absurd (no-five (anyNan byEntry (waiting.waitingOf (s .waiting))) (sym (h ∙ rw e refl) ∙ g)))
+        (λ e. g ∙ rw e refl)
+        (either (orderly (s .rate) (countsOf s) (ledgerOf s buf)))
       where
-        and-first : (a b : Bool) → a && b ≡ true → a ≡ true
-        and-first true b e = refl
-        and-first false b e = e
+        no-five : (b : Bool) → cond b badNumber 0 ≡ badState → ⊥
+        no-five true q = omega arith
+        no-five false q = omega arith
 
-    pub state-waiting : waitingAtPush < s .waiting .count → limits.waiting ≡ stateCause s buf n
-    unfolding stateCause
-    state-waiting h = rw (orders, lt-ltb waitingAtPush (s .waiting .count) h) refl
+    module _ (g : x ≡ badState → ⊥) where
+      pub state-fits : s .base + s .held ≤ longestStream
+      state-fits =
+          samples-fit (s .rate) (s .held) (s .base) (s .unscanned) (s .starts) buf
+          (and-true ok (waiting.waitingOk (s .waiting)) (sym (orderly-is s buf) ∙ orders g) .0) .1
 
-    pub state-stream : s .waiting .count ≤ waitingAtPush → longestStream < s .base + s .held + n → stream ≡ stateCause s buf n
-    unfolding stateCause
-    state-stream h g = rw (orders, le-ltb waitingAtPush (s .waiting .count) h, lt-ltb longestStream (s .base + s .held + n) g) refl
+      pub state-waiting : waitingAtPush < s .waiting .count → limits.waiting ≡ stateCause s buf n
+      unfolding stateCause
+      state-waiting q = rw (orders g, lt-ltb waitingAtPush (s .waiting .count) q) refl
 
-    pub state-nan : s .waiting .count ≤ waitingAtPush → s .base + s .held + n ≤ longestStream → (x : ℕ) → x ≡ cond (r .nan) badNumber 0
-        → x ≡ stateCause s buf n
-    unfolding stateCause
-    state-nan h g x e =
-        e ∙ rw (orders, le-ltb waitingAtPush (s .waiting .count) h, le-ltb longestStream (s .base + s .held + n) g, k .nan ok) refl
+      module _ (q : s .waiting .count ≤ waitingAtPush) where
+        pub state-stream : longestStream < s .base + s .held + n → stream ≡ stateCause s buf n
+        unfolding stateCause
+        state-stream p = rw (orders g, le-ltb waitingAtPush (s .waiting .count) q, lt-ltb longestStream (s .base + s .held + n) p) refl
+
+        pub state-last : s .base + s .held + n ≤ longestStream → x ≡ stateCause s buf n
+        unfolding orderCause stateCause
+        state-last p = h ∙ rw (orders g, le-ltb waitingAtPush (s .waiting .count) q, le-ltb longestStream (s .base + s .held + n) p) refl
 
 pub below-all : (hi : ℕ) (l : List ℕ) → ((i : ℕ) → i < length l → getD l i 0 < hi) → Below hi l
 below-all hi [] h = tt

@@ -3,4 +3,5 @@ pub mod StateLaws
 pub mod CauseLaws
 pub mod FillLaws
 pub mod RunLaws
+pub mod AddLaws
 pub mod AnswerLaws

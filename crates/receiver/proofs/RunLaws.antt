@@ -32,7 +32,7 @@ use Rattle.waiting.specs.declared.Waiting.{Waiting}
 use Rattle.scan.specs.Midway.{Midway, Lent, Within, Does, AllSized}
 use Rattle.scan.specs.declared.Scanned.{Scanned}
 use Rattle.closing.specs.Written.{Sized, written}
-use Rattle.receiver.specs.State.{ledgerOf, stateOf}
+use Rattle.receiver.specs.State.{ledgerOf, stateOver}
 use Rattle.receiver.specs.Calls.{samplesAfter}
 use Rattle.receiver.specs.Running.{Passes, Under, Closable, EndsBy, Ended}
 use Rattle.receiver.specs.declared.SigfoxReceiver.{SigfoxReceiver}
@@ -64,7 +64,7 @@ module _ (s : SigfoxReceiver) (samples : List Float) (old : List ℕ) (scratch :
     starts-few : s .starts .count ≤ 96
     starts-few = let e : s .starts .count ≡ length (starts.remembered (s .starts)) = ap (λ (k : causes.Counts). k .starts) (p .counts) in omega (arith, p .order .few)
 
-    waiting-few : s .waiting .count ≤ 128
+    pub waiting-few : s .waiting .count ≤ 128
     waiting-few = let e : s .waiting .count ≡ length (waitingOf (s .waiting)) = ap (λ (k : causes.Counts). k .waiting) (p .counts) in omega (arith, p .order .waiting)
 
     begins : Within (record { starts = s .starts; waiting = s .waiting; count = 0 })
@@ -188,12 +188,12 @@ others-are : (rate : ℕ) (c : Call) (all : Bool) (l : Ledger byEntry) (t : Floa
     → others (ready byEntry c (now rate l)) (l .waiting) ≡ others (leaves all t) (l .waiting)
 others-are rate c all l t k e = rw e (ap (λ (f : Pending → Bool). others f (l .waiting)) (k (now rate l)))
 
-module _ (rate : ℕ) (l : Ledger byEntry) (old : List ℕ) (held base unscanned : ℕ) (t : Scanned) (bytes : List ℕ) (u : Under l old held base unscanned t bytes) where
+module _ (s : SigfoxReceiver) (l : Ledger byEntry) (old : List ℕ) (held base unscanned : ℕ) (t : Scanned) (bytes : List ℕ) (u : Under l old held base unscanned t bytes) where
   -- "Now is (base + held)/rate"
   abbrev time : Float
-  time = seconds rate (base + held)
+  time = seconds (s .rate) (base + held)
 
-  time-is : time ≡ now rate l
+  time-is : time ≡ now (s .rate) l
   unfolding now
   time-is = rw (u .holds, u .based) refl
 
@@ -201,31 +201,31 @@ module _ (rate : ℕ) (l : Ledger byEntry) (old : List ℕ) (held base unscanned
     abbrev leaving : List (List ℕ)
     leaving = written all time (waitingOf (t .waiting))
 
-    leaving-are : leaving ≡ map recordOf (map (eventOf byEntry) (messages rate c l))
-    leaving-are = rw (u .midway .waiting, messages-are rate c all l time k time-is) refl
+    leaving-are : leaving ≡ map recordOf (map (eventOf byEntry) (messages (s .rate) c l))
+    leaving-are = rw (u .midway .waiting, messages-are (s .rate) c all l time k time-is) refl
 
-    records-are : map recordOf (events rate c l) ≡ map recordOf (map ofFrame (l .heard)) ++ leaving
-    records-are = map-join recordOf (map ofFrame (l .heard)) (map (eventOf byEntry) (messages rate c l)) ∙ rw leaving-are refl
+    records-are : map recordOf (events (s .rate) c l) ≡ map recordOf (map ofFrame (l .heard)) ++ leaving
+    records-are = map-join recordOf (map ofFrame (l .heard)) (map (eventOf byEntry) (messages (s .rate) c l)) ∙ rw leaving-are refl
 
     module _ (n : ℕ) (now : List ℕ)
         (w : (rs : List (List ℕ)) (was : List ℕ) → Sized rs → t .count ≡ length rs → bytes ≡ withRecords rs was
-        → (n ≡ length (rs ++ written all (seconds rate (base + held)) (waitingOf (t .waiting))))
-        × (now ≡ withRecords (rs ++ written all (seconds rate (base + held)) (waitingOf (t .waiting))) was)) where
-      wrote : (n ≡ length (map recordOf (events rate c l))) × (now ≡ withRecords (map recordOf (events rate c l)) old)
+        → (n ≡ length (rs ++ written all (seconds (s .rate) (base + held)) (waitingOf (t .waiting))))
+        × (now ≡ withRecords (rs ++ written all (seconds (s .rate) (base + held)) (waitingOf (t .waiting))) was)) where
+      wrote : (n ≡ length (map recordOf (events (s .rate) c l))) × (now ≡ withRecords (map recordOf (events (s .rate) c l)) old)
       wrote =
           rw records-are
           (w (map recordOf (map ofFrame (l .heard))) old (sized (map recordOf (map ofFrame (l .heard))) (u .midway .sized))
           (u .midway .count ∙ sym (length-map (map ofFrame (l .heard)) recordOf ∙ length-map (l .heard) ofFrame)) (u .midway .events))
 
-      pub ended : (a : Starts) (b : Waiting) → a ≡ starts.cleared (starts.remembered (t .starts))
-          → b ≡ waiting.cleared (others (leaves all (seconds rate (base + held))) (waitingOf (t .waiting)))
-          → Ended rate c l old
-          (record { refused = 0; count = n; receiver = record { rate = rate; held = held; base = base; unscanned = unscanned; starts = a; waiting = b } }) now
-      unfolding stateOf closed
+      pub ended : (a : Starts) (b : Waiting) → a ≡ starts.over (s .starts) (starts.remembered (t .starts))
+          → b ≡ waiting.over (s .waiting) (others (leaves all (seconds (s .rate) (base + held))) (waitingOf (t .waiting)))
+          → Ended s c l old
+          (record { refused = 0; count = n; receiver = record { rate = s .rate; held = held; base = base; unscanned = unscanned; starts = a; waiting = b } }) now
+      unfolding stateOver closed
       ended a b ea eb =
-          let x : a ≡ starts.cleared (l .starts) = ea ∙ ap starts.cleared (u .midway .starts) in
-          let y : b ≡ waiting.cleared (others (ready byEntry c (ledger.now rate l)) (l .waiting)) =
-          eb ∙ rw (u .midway .waiting, others-are rate c all l time k time-is) refl in
+          let x : a ≡ starts.over (s .starts) (l .starts) = ea ∙ ap (starts.over (s .starts)) (u .midway .starts) in
+          let y : b ≡ waiting.over (s .waiting) (others (ready byEntry c (ledger.now (s .rate) l)) (l .waiting)) =
+          eb ∙ rw (u .midway .waiting, others-are (s .rate) c all l time k time-is) refl in
           record { answer = rw (wrote .0, u .holds, u .based, u .unseen, x, y) refl; records = wrote .1 }
 
 -- the records of a call whose scans are done have room
@@ -241,7 +241,7 @@ closable s c samples places old now scratch held base unscanned t all p d k e =
     let few = bounded rate (demodOf rate) fair entries-lawful pos .events l c (p .order) (p .accepted) in
     let long = scans-small rate (demodOf rate) l c pos (p .order .room) .1 in
     let n : length (written all (seconds rate (base + held)) (waitingOf (t .waiting))) ≡ length (messages rate c w)
-    = ap length (leaving-are rate w old held base unscanned t now (d .under) c all k)
+    = ap length (leaving-are s w old held base unscanned t now (d .under) c all k)
     ∙ length-map (map (eventOf byEntry) (messages rate c w)) recordOf ∙ length-map (messages rate c w) (eventOf byEntry) in
     record {
       starts = d .starts;

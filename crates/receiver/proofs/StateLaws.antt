@@ -2,21 +2,22 @@
 use mathlib.Core.Bool.{Bool, _&&_, false, not, true}
 use mathlib.Core.List.{List, []}
 use mathlib.Core.Logic.{_⊎_, inl, inr, ⊎-elim}
-use mathlib.Core.Path.{_∙_, _≡_, refl, sym}
+use mathlib.Core.Path.{_≡_, refl, sym}
 use Prim.Native.Nat.{_*_, _+_, _-_, _/_, _<_, _^_, _≤_, ℕ}
 use native.Mathlib.Omega.{arith}
 use lib.Dec.{leb, ltb}
-use lib.Ieee.{Float, nan}
+use lib.Ieee.{Float}
 use lib.ListN.{take}
 use borrow.Author.Tests.{le-leb, le-ltb, leb-false, leb-true, lt-leb, lt-ltb, ltb-false, ltb-true}
 use Rattle.ledger.specs.Causes.{below, mostStarts, oldestS, orderly, since}
 use Rattle.ledger.specs.Ledger.{capacity, spaced}
 use Rattle.limits.specs.Limits.{longestStream}
 use Rattle.limits.specs.Samples.{allDbm}
-use Rattle.receiver.specs.State.{Known, countsOf, ledgerOf}
+use Rattle.ledger.proofs.Basics.{and-true}
+use Rattle.receiver.specs.State.{countsOf, ledgerOf, numbersOk, samplesOk}
 use Rattle.starts.specs.Starts as starts
 use Rattle.waiting.specs.Waiting as waiting
-use Rattle.waiting.specs.declared.Condition.{Condition}
+use Rattle.starts.specs.declared.Starts.{Starts}
 use Rattle.receiver.specs.declared.SigfoxReceiver.{SigfoxReceiver}
 
 either : (b : Bool) → (b ≡ true) ⊎ (b ≡ false)
@@ -47,10 +48,6 @@ scanned-is u rate =
     (λ e. let x = ltb-false u ((rate + 1) / 2) e in rw e (sym (le-ltb (2 * u) rate (omega arith))))
     (either (ltb u ((rate + 1) / 2)))
 
--- the numbers are in order
-abbrev pub numbersOk : ℕ → ℕ → ℕ → ℕ → Bool
-numbersOk rate held base u = leb held (capacity rate) && (leb (base + held) longestStream && ltb (2 * u) rate)
-
 pub numbers-out : (rate held base u : ℕ) → capacity rate < held → false ≡ numbersOk rate held base u
 numbers-out rate held base u h = rw (lt-leb held (capacity rate) h) refl
 
@@ -58,9 +55,15 @@ pub numbers-in : (rate held base u : ℕ) → rate < 2 ^ 32 → held ≤ capacit
     → leb base (longestStream - held) && ltb u ((rate + 1) / 2) ≡ numbersOk rate held base u
 numbers-in rate held base u r h = rw (le-leb held (capacity rate) h, stream-is base held (omega arith), scanned-is u rate) refl
 
+pub numbers-fit : (rate held base u : ℕ) → numbersOk rate held base u ≡ true → (held ≤ capacity rate) × (base + held ≤ longestStream)
+numbers-fit rate held base u e =
+    let a = and-true (leb held (capacity rate)) _ e in
+    let b = and-true (leb (base + held) longestStream) _ (a .1) in
+    (leb-true held (capacity rate) (a .0), leb-true (base + held) longestStream (b .0))
+
 -- ---- 01's order in the order of the code
 
-regroup : (a v b u c d : Bool) → a && (v && (b && (u && (c && d)))) ≡ (a && (b && u)) && (v && (c && d))
+regroup : (a v b u c d : Bool) → a && (v && (b && (u && (c && d)))) ≡ ((a && (b && u)) && (v && c)) && d
 regroup false v b u c d = refl
 regroup true true true true c d = refl
 regroup true true true false c d = refl
@@ -76,43 +79,29 @@ four true true false d e = refl
 four true true true d e = refl
 
 pub orderly-is : (s : SigfoxReceiver) (buf : List Float) → orderly (s .rate) (countsOf s) (ledgerOf s buf)
-    ≡ numbersOk (s .rate) (s .held) (s .base) (s .unscanned)
-    && (allDbm (take (s .held) buf) && (starts.startsOk (s .rate) (s .base) (s .base + s .held) (s .starts) && waiting.waitingOk (s .waiting)))
-unfolding orderly
+    ≡ samplesOk (s .rate) (s .held) (s .base) (s .unscanned) (s .starts) buf && waiting.waitingOk (s .waiting)
+unfolding orderly samplesOk
 orderly-is s buf =
     rw (four (leb (s .starts .count) mostStarts) (below (s .base + s .held) (starts.remembered (s .starts)))
     (since (s .base) (oldestS * s .rate) (starts.remembered (s .starts))) (spaced (s .rate) [] (starts.remembered (s .starts))) (waiting.waitingOk (s .waiting)))
     (regroup (leb (s .held) (capacity (s .rate))) (allDbm (take (s .held) buf)) (leb (s .base + s .held) longestStream) (ltb (2 * s .unscanned) (s .rate))
     (starts.startsOk (s .rate) (s .base) (s .base + s .held) (s .starts)) (waiting.waitingOk (s .waiting)))
 
-pub known-not : (s : SigfoxReceiver) (buf : List Float) (r : Condition) → r .ok ≡ false → numbersOk (s .rate) (s .held) (s .base) (s .unscanned) ≡ false
-    → Known s buf r
-known-not s buf r e h =
-    record {
-      ok = e ∙ sym (orderly-is s buf ∙ rw h refl);
-      nan = λ q. let z : _≡_ {A = ℕ} 0 1 = cc in absurd (omega arith);
-    }
+module _ (rate held base u : ℕ) (s : Starts) (buf : List Float) where
+  pub samples-not : numbersOk rate held base u ≡ false → false ≡ samplesOk rate held base u s buf
+  unfolding samplesOk
+  samples-not h = rw h refl
 
-and-right : (a b : Bool) → a && b ≡ true → b ≡ true
-and-right true b e = e
-and-right false b e = absurd (let z : _≡_ {A = ℕ} 0 1 = cc in omega arith)
+  pub samples-are : (v a : Bool) → numbersOk rate held base u ≡ true → v ≡ allDbm (take held buf) → a ≡ starts.startsOk rate base (base + held) s
+      → v && a ≡ samplesOk rate held base u s buf
+  unfolding samplesOk
+  samples-are v a h hv ha = rw (hv, ha, h) refl
 
-pub known-is : (s : SigfoxReceiver) (buf : List Float) (v a : Bool) (m : Condition) → numbersOk (s .rate) (s .held) (s .base) (s .unscanned) ≡ true
-    → v ≡ allDbm (take (s .held) buf) → a ≡ starts.startsOk (s .rate) (s .base) (s .base + s .held) (s .starts) → waiting.Checked (s .waiting) m
-    → Known s buf (record { ok = v && (a && m .ok); nan = m .nan })
-known-is s buf v a m h hv ha w =
-    record {
-      ok = rw (hv, ha, w .ok) (sym (orderly-is s buf ∙ rw h refl));
-      nan = λ q. w .nan (and-right a (m .ok) (and-right v (a && m .ok) q));
-    }
-
-pub numbers-fit : (rate held base u : ℕ) → numbersOk rate held base u ≡ true → (held ≤ capacity rate) × (base + held ≤ longestStream)
-numbers-fit rate held base u e = (
-  leb-true held (capacity rate) (and-left (leb held (capacity rate)) (leb (base + held) longestStream && ltb (2 * u) rate) e),
-  leb-true (base + held) longestStream (and-left (leb (base + held) longestStream) (ltb (2 * u) rate)
-      (and-right (leb held (capacity rate)) (leb (base + held) longestStream && ltb (2 * u) rate) e)),
-)
-  where
-    and-left : (a b : Bool) → a && b ≡ true → a ≡ true
-    and-left true b e = refl
-    and-left false b e = e
+  -- what a state in order has
+  pub samples-fit : samplesOk rate held base u s buf ≡ true → (held ≤ capacity rate) × (base + held ≤ longestStream) × (s .count ≤ mostStarts)
+  unfolding samplesOk
+  samples-fit e =
+      let a = and-true (numbersOk rate held base u) _ e in
+      let b = and-true (allDbm (take held buf)) _ (a .1) in
+      let n = numbers-fit rate held base u (a .0) in
+      (n .0, n .1, leb-true (s .count) mostStarts (and-true (leb (s .count) mostStarts) _ (b .1) .0))

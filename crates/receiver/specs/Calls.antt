@@ -11,7 +11,7 @@ use Rattle.ledger.specs.Causes.{Lent, cause, callEvents}
 use Rattle.ledger.specs.Demodulation.{demodOf}
 use Rattle.ledger.specs.Records.{recordOf, withRecords}
 use Rattle.samples.specs.Buffer.{allFilled}
-use Rattle.receiver.specs.State.{ledgerOf, countsOf, stateOf}
+use Rattle.receiver.specs.State.{ledgerOf, countsOf, stateOver}
 use Rattle.receiver.specs.declared.SigfoxReceiver.{SigfoxReceiver}
 use Rattle.receiver.specs.declared.Received.{Received}
 
@@ -34,9 +34,9 @@ refusalOf s c b = cause (s .rate) (lengthsOf b) (countsOf s) (ledgerOf s (b .sam
 abbrev pub recordsOf : SigfoxReceiver → Call → List Float → ℕ → List (List ℕ)
 recordsOf s c samples n = map recordOf (callEvents (s .rate) (demodOf (s .rate)) (ledgerOf s samples) c n)
 
--- the state after it: that of the ledger after the call, or as it was
+-- the state after it: for the ledger after the call, or as it was
 unfoldable pub stateAfter : SigfoxReceiver → Call → List Float → ℕ → SigfoxReceiver
-stateAfter s c samples zero = stateOf (s .rate) (closed (s .rate) c (scans (s .rate) (demodOf (s .rate)) (ledgerOf s samples) c))
+stateAfter s c samples zero = stateOver s (closed (s .rate) c (scans (s .rate) (demodOf (s .rate)) (ledgerOf s samples) c))
 stateAfter s c samples (suc n) = s
 
 -- the sample buffer after it: "sample places not written keep their contents"

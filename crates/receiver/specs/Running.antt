@@ -1,9 +1,10 @@
 -- An accepted call under way: what the code has of it stands for a ledger. Assumes nothing.
 use mathlib.Core.Path.{_≡_}
-use mathlib.Core.Bool.{Bool}
+use mathlib.Core.Bool.{Bool, false}
 use mathlib.Core.List.{List, map}
-use Prim.Native.Nat.{ℕ, _+_, _*_, _≤_}
+use Prim.Native.Nat.{ℕ, _+_, _*_, _≤_, _<_}
 use lib.ListN.{length}
+use lib.Seq.{paste}
 use lib.Ieee.{Float}
 use Rattle.limits.specs.Limits.{lowestRate, highestRate, longestStream, recordSize, eventsSize, scratch64}
 use Rattle.ledger.specs.Ledger.{Ledger, Call, byEntry, capacity, seconds, ready, scans, closed, events}
@@ -12,11 +13,11 @@ use Rattle.ledger.specs.Causes.{mostStarts}
 use Rattle.ledger.specs.Room.{InOrder, Accepted, openPlaces}
 use Rattle.ledger.specs.Demodulation.{demodOf}
 use Rattle.ledger.specs.Records.{recordOf, withRecords}
-use Rattle.waiting.specs.Waiting.{waitingOf, leaves}
+use Rattle.waiting.specs.Waiting.{waitingOf, leaves, anyExpires}
 use Rattle.scan.specs.Midway.{Midway}
 use Rattle.scan.specs.declared.Scanned.{Scanned}
 use Rattle.closing.specs.Written.{written}
-use Rattle.receiver.specs.State.{ledgerOf, countsOf, stateOf}
+use Rattle.receiver.specs.State.{ledgerOf, countsOf, stateOver}
 use Rattle.receiver.specs.Calls.{samplesAfter}
 use Rattle.receiver.specs.declared.SigfoxReceiver.{SigfoxReceiver}
 use Rattle.receiver.specs.declared.Received.{Received}
@@ -50,12 +51,47 @@ pub record Closable (rate end : ℕ) (t : Scanned) (all : Bool) (events : List �
 abbrev pub EndsBy : Call → Bool → Type 0
 EndsBy c all = (t : Float) → ready byEntry c t ≡ leaves all t
 
--- the answer to an accepted call c whose scans left l, and its records
-pub record Ended (rate : ℕ) (c : Call) (l : Ledger byEntry) (old : List ℕ) (r : Received) (now : List ℕ) : Type 0 where
-  pub answer : r ≡ record { refused = 0; count = length (map recordOf (events rate c l)); receiver = stateOf rate (closed rate c l) }
-  pub records : now ≡ withRecords (map recordOf (events rate c l)) old
+-- the answer to an accepted call c on the state s whose scans left l, and its records
+pub record Ended (s : SigfoxReceiver) (c : Call) (l : Ledger byEntry) (old : List ℕ) (r : Received) (now : List ℕ) : Type 0 where
+  pub answer : r ≡ record { refused = 0; count = length (map recordOf (events (s .rate) c l)); receiver = stateOver s (closed (s .rate) c l) }
+  pub records : now ≡ withRecords (map recordOf (events (s .rate) c l)) old
 
 -- the accepted call c on the state s is done
 pub record Answers (s : SigfoxReceiver) (c : Call) (before : List Float) (old : List ℕ) (r : Received) (after : List Float) (now : List ℕ) : Type 0 where
-  pub ended : Ended (s .rate) c (scans (s .rate) (demodOf (s .rate)) (ledgerOf s before) c) old r now
+  pub ended : Ended s c (scans (s .rate) (demodOf (s .rate)) (ledgerOf s before) c) old r now
   pub samples : after ≡ samplesAfter s c before 0
+
+-- ---- a push that only adds its samples
+
+-- what is known of an accepted push of n samples before it is looked at
+pub record Addable (s : SigfoxReceiver) (n : ℕ) : Type 0 where
+  pub highest : s .rate ≤ highestRate
+  pub held : s .held ≤ capacity (s .rate)
+  pub size : n ≤ capacity (s .rate)
+  pub unscanned : 2 * s .unscanned < s .rate
+  pub stream : s .base + s .held + n ≤ longestStream
+  pub waiting : s .waiting .count ≤ openPlaces
+
+-- there is room for them without a drop, no scan is due, and no message leaves
+pub record Adds (s : SigfoxReceiver) (n : ℕ) : Type 0 where
+  pub some : 1 ≤ n
+  pub fits : s .held + n ≤ capacity (s .rate)
+  pub quiet : 2 * (s .unscanned + n) < s .rate
+  pub stay : anyExpires (seconds (s .rate) (s .base + (s .held + n))) (waitingOf (s .waiting)) ≡ false
+
+-- the samples xs are added
+pub record Added (s : SigfoxReceiver) (xs before : List Float) (r : Received) (after : List Float) : Type 0 where
+  pub answer : r ≡ record {
+    refused = 0;
+    count = 0;
+    receiver =
+        record {
+          rate = s .rate;
+          held = s .held + length xs;
+          base = s .base;
+          unscanned = s .unscanned + length xs;
+          starts = s .starts;
+          waiting = s .waiting;
+        };
+  }
+  pub samples : after ≡ paste before (s .held) xs (length xs)

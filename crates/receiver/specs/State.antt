@@ -1,19 +1,18 @@
--- What a state and the sample buffer stand for, and the state for a ledger. Assumes nothing.
-use mathlib.Core.Path.{_≡_}
+-- What a state and the sample buffer stand for, the state for a ledger, and what a state is asked. Assumes nothing.
 use mathlib.Core.List.{List, []}
-use mathlib.Core.Bool.{true, not, cond}
-use Prim.Native.Nat.{ℕ, _+_}
+use mathlib.Core.Bool.{Bool, not, _&&_, cond}
+use Prim.Native.Nat.{ℕ, _+_, _*_}
 use lib.ListN.{length, take}
-use lib.Dec.{ltb}
+use lib.Dec.{leb, ltb}
 use lib.Ieee.{Float}
 use Rattle.limits.specs.Limits.{badRate, short, long, badState, stream, badNumber, longestStream}
 use Rattle.limits.specs.Limits as limits
-use Rattle.limits.specs.Samples.{rateOk}
+use Rattle.limits.specs.Samples.{allDbm, rateOk}
 use Rattle.ledger.specs.Ledger.{Ledger, byEntry, capacity}
 use Rattle.ledger.specs.Causes.{Counts, Lent, tooShort, waitingAtPush, orderly, anyNan}
 use Rattle.starts.specs.Starts as starts
 use Rattle.waiting.specs.Waiting as waiting
-use Rattle.waiting.specs.declared.Condition.{Condition}
+use Rattle.starts.specs.declared.Starts.{Starts}
 use Rattle.receiver.specs.declared.SigfoxReceiver.{SigfoxReceiver}
 use Rattle.receiver.specs.declared.Lengths.{Lengths}
 
@@ -33,31 +32,44 @@ ledgerOf s buf =
 abbrev pub countsOf : SigfoxReceiver → Counts
 countsOf s = record { held = s .held; starts = s .starts .count; waiting = s .waiting .count }
 
--- the state for a ledger: places past the counts are 0
-unfoldable pub stateOf : ℕ → Ledger byEntry → SigfoxReceiver
-stateOf rate l =
+-- the state of a fresh receiver
+unfoldable pub newState : ℕ → SigfoxReceiver
+newState rate = record { rate = rate; held = 0; base = 0; unscanned = 0; starts = starts.none; waiting = waiting.none }
+
+-- the state s, changed so that it stands for the ledger l: places past the counts keep their contents
+unfoldable pub stateOver : SigfoxReceiver → Ledger byEntry → SigfoxReceiver
+stateOver s l =
     record {
-      rate = rate;
+      rate = s .rate;
       held = length (l .held);
       base = l .base;
       unscanned = l .unscanned;
-      starts = starts.cleared (l .starts);
-      waiting = waiting.cleared (l .waiting);
+      starts = starts.over (s .starts) (l .starts);
+      waiting = waiting.over (s .waiting) (l .waiting);
     }
 
 abbrev pub lentOf : Lengths → Lent
 lentOf b = record { samples = b .samples; events = b .events; scratch32 = b .scratch32; scratch64 = b .scratch64 }
 
--- what a look at a state finds: 01's order of it, and where it is in order, whether a message has a NaN
-pub record Known (s : SigfoxReceiver) (buf : List Float) (r : Condition) : Type 0 where
-  pub ok : r .ok ≡ orderly (s .rate) (countsOf s) (ledgerOf s buf)
-  pub nan : r .ok ≡ true → r .nan ≡ anyNan byEntry (waiting.waitingOf (s .waiting))
+-- ---- 01's order of a state, by its parts
+
+abbrev pub numbersOk : ℕ → ℕ → ℕ → ℕ → Bool
+numbersOk rate held base unscanned = leb held (capacity rate) && (leb (base + held) longestStream && ltb (2 * unscanned) rate)
+
+unfoldable pub samplesOk : ℕ → ℕ → ℕ → ℕ → Starts → List Float → Bool
+samplesOk rate held base unscanned s buf =
+    numbersOk rate held base unscanned && (allDbm (take held buf) && starts.startsOk rate base (base + held) s)
 
 -- ---- the causes, by their subjects: together they are the ledger's `cause`
 
 -- causes 1 to 3 of a call that hands in n samples
 unfoldable pub givenCause : ℕ → Lent → ℕ → ℕ
 givenCause rate b n = cond (not (rateOk rate)) badRate (cond (tooShort rate b) short (cond (ltb (capacity rate) n) long 0))
+
+-- cause 5 or 9 of a state
+unfoldable pub orderCause : SigfoxReceiver → List Float → ℕ
+orderCause s buf =
+    cond (not (orderly (s .rate) (countsOf s) (ledgerOf s buf))) badState (cond (anyNan byEntry (waiting.waitingOf (s .waiting))) badNumber 0)
 
 -- causes 5 to 9 of a push of n samples
 unfoldable pub stateCause : SigfoxReceiver → List Float → ℕ → ℕ

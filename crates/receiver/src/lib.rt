@@ -1,13 +1,10 @@
 // The receiver's state (receiver.rs `SigfoxReceiver`), and the causes for which a call is refused, by number.
 ghost use mathlib.Core.Path.{_≡_};
-ghost use mathlib.Core.Bool.{_&&_};
-ghost use Prim.Native.Nat.{_+_, _*_, _≤_};
-ghost use lib.ListN.{length, take};
-ghost use lib.Dec.{leb, ltb};
-ghost use Rattle.limits.specs.Limits.{longestStream};
-ghost use Rattle.ledger.specs.Ledger.{byEntry, capacity, fresh, push, pushRaw, flush};
+ghost use Prim.Native.Nat.{_≤_};
+ghost use lib.ListN.{length};
+ghost use Rattle.ledger.specs.Ledger.{capacity, push, pushRaw, flush};
 ghost use Rattle.ledger.specs.Causes.{tooShort, cause};
-ghost use Rattle.receiver.specs.State.{stateOf, ledgerOf, countsOf, lentOf, givenCause, stateCause, Known};
+ghost use Rattle.receiver.specs.State.{newState, ledgerOf, countsOf, lentOf, numbersOk, samplesOk, givenCause, orderCause, stateCause};
 ghost use Rattle.receiver.specs.Calls.{Answered};
 
 mod run; // an accepted call
@@ -46,12 +43,9 @@ pub struct Lengths {
 impl SigfoxReceiver {
     // A fresh receiver of any rate.
     pub fn new(rate: u32) -> Self
-        ensures { λ r. ⌜ r ≡ stateOf rate (fresh {K = byEntry}) ⌝ }
+        ensures { λ r. ⌜ r ≡ newState rate ⌝ }
     {
-        let starts = Starts {
-            at: [0u64; 96],
-            count: 0,
-        };
+        let starts = starts::none();
         let waiting = waiting::none();
         Self {
             rate,
@@ -169,7 +163,7 @@ pub fn too_short(rate: u32, lent: Lengths) -> bool
 
 // Whether the numbers of a state are in order.
 fn numbers_ok(rate: u32, held: usize, base: u64, unscanned: usize) -> bool
-    ensures { λ r. ⌜ r ≡ leb held (capacity rate) && (leb (base + held) longestStream && ltb (2 * unscanned) rate) ⌝ }
+    ensures { λ r. ⌜ r ≡ numbersOk rate held base unscanned ⌝ }
 {
     if samples::capacity(rate) < held {
         return false;
@@ -179,27 +173,24 @@ fn numbers_ok(rate: u32, held: usize, base: u64, unscanned: usize) -> bool
     stream & scanned
 }
 
-// Whether a state is in order, and whether a message of it has a NaN.
-pub fn in_order(s: SigfoxReceiver, samples: &[f32]) -> waiting::Condition
-    requires { ⌜ capacity (s .rate) ≤ length (now samples) ⌝ }
-    ensures { λ r. ⌜ Known s (now (samples .entry)) r ⌝ }
+// Whether the numbers, the samples and the starts of a state are in order.
+fn samples_in_order(
+    rate: u32,
+    held: usize,
+    base: u64,
+    unscanned: usize,
+    starts: Starts,
+    samples: &[f32],
+) -> bool
+    requires { ⌜ capacity rate ≤ length (now samples) ⌝ }
+    ensures { λ r. ⌜ r ≡ samplesOk rate held base unscanned starts (now (samples .entry)) ⌝ }
 {
-    let held = s.held;
-    if !numbers_ok(s.rate, held, s.base, s.unscanned) {
-        return waiting::Condition {
-            ok: false,
-            nan: false,
-        };
+    if !numbers_ok(rate, held, base, unscanned) {
+        return false;
     }
     let valid = limits::all_dbm(&samples[..held]);
-    let starts = s.starts;
-    let apart = starts::in_order(starts, s.rate, s.base, s.base + (held as u64));
-    let waiting = s.waiting;
-    let messages = waiting::check(waiting);
-    waiting::Condition {
-        ok: valid & (apart & messages.ok),
-        nan: messages.nan,
-    }
+    let apart = starts::in_order(starts, rate, base, base + (held as u64));
+    valid & apart
 }
 
 // ---- causes
@@ -220,14 +211,37 @@ fn given_cause(rate: u32, lent: Lengths, n: usize) -> u8
     0
 }
 
+// Cause 5 or 9 of a given state; 0 for none. The messages are handed on only where there are any: they are large.
+fn order_cause(s: SigfoxReceiver, samples: &[f32]) -> u8
+    requires { ⌜ capacity (s .rate) ≤ length (now samples) ⌝ }
+    ensures { λ r. ⌜ r ≡ orderCause s (now (samples .entry)) ⌝ }
+{
+    let starts = s.starts;
+    if !samples_in_order(s.rate, s.held, s.base, s.unscanned, starts, samples) {
+        return limits::BAD_STATE;
+    }
+    if s.waiting.count == 0 {
+        return 0;
+    }
+    let waiting = s.waiting;
+    let c = waiting::check(waiting);
+    if !c.ok {
+        return limits::BAD_STATE;
+    }
+    if c.nan {
+        return limits::BAD_NUMBER;
+    }
+    0
+}
+
 // Causes 5 to 9 of a push of n samples; 0 for none.
 fn state_cause(s: SigfoxReceiver, samples: &[f32], n: usize) -> u8
     requires { ⌜ (capacity (s .rate) ≤ length (now samples)) × (n ≤ capacity (s .rate)) ⌝ }
     ensures { λ r. ⌜ r ≡ stateCause s (now (samples .entry)) n ⌝ }
 {
-    let c = in_order(s, samples);
-    if !c.ok {
-        return limits::BAD_STATE;
+    let order = order_cause(s, samples);
+    if order == limits::BAD_STATE {
+        return order;
     }
     if WAITING_AT_PUSH < s.waiting.count {
         return limits::WAITING;
@@ -235,10 +249,7 @@ fn state_cause(s: SigfoxReceiver, samples: &[f32], n: usize) -> u8
     if limits::LONGEST_STREAM < s.base + (s.held as u64) + (n as u64) {
         return limits::STREAM;
     }
-    if c.nan {
-        return limits::BAD_NUMBER;
-    }
-    0
+    order
 }
 
 // The cause of a push, the first by number; 0 for none.
@@ -277,12 +288,5 @@ pub fn flush_cause(s: SigfoxReceiver, samples: &[f32], lent: Lengths) -> u8
     if 1 <= given {
         return given;
     }
-    let c = in_order(s, samples);
-    if !c.ok {
-        return limits::BAD_STATE;
-    }
-    if c.nan {
-        return limits::BAD_NUMBER;
-    }
-    0
+    order_cause(s, samples)
 }

@@ -1,13 +1,15 @@
 // An accepted call: its samples come in by fillings, with drops and scans, and at its end the messages that leave are written.
 ghost use mathlib.Core.Path.{_≡_};
+ghost use mathlib.Core.Bool.{true};
 ghost use mathlib.Core.List.{List};
 ghost use Prim.Native.Nat.{ℕ, _+_, _≤_};
+ghost use lib.ListN.{length};
 ghost use Rattle.limits.specs.Limits.{highestRate};
-ghost use Rattle.ledger.specs.Ledger.{Ledger, Call, byEntry, push, flush, tail};
+ghost use Rattle.ledger.specs.Ledger.{Ledger, Call, byEntry, capacity, push, flush, tail};
 ghost use Rattle.ledger.specs.Room.{scanIf};
 ghost use Rattle.ledger.specs.Demodulation.{demodOf};
 ghost use Rattle.scan.specs.Midway.{Lent, Within, Does};
-ghost use Rattle.receiver.specs.Running.{Passes, Under, Closable, EndsBy, Ended, Answers};
+ghost use Rattle.receiver.specs.Running.{Passes, Under, Closable, EndsBy, Ended, Answers, Addable, Adds, Added};
 use crate::Received;
 use crate::SigfoxReceiver;
 use scan::Scanned;
@@ -48,9 +50,9 @@ fn scan_tail(
     )
 }
 
-// The end of a call: the messages that leave are written, the others kept (`expire`).
+// The end of a call on the state s: the messages that leave are written, the others kept (`expire`).
 fn finish(
-    rate: u32,
+    s: SigfoxReceiver,
     held: usize,
     base: u64,
     unscanned: usize,
@@ -58,20 +60,22 @@ fn finish(
     all: bool,
     events: &mut [u8],
 ) -> Received
-    requires { ⌜ Closable rate (base + held) t all (now events) ⌝ }
-    ensures { λ r. ⌜ ((c : Call) (l : Ledger byEntry) (old : List ℕ) → EndsBy c all → Under l old held base unscanned t (now (events .entry)) → Ended rate c l old r (now (events .exit))) ⌝ }
+    requires { ⌜ Closable (s .rate) (base + held) t all (now events) ⌝ }
+    ensures { λ r. ⌜ ((c : Call) (l : Ledger byEntry) (old : List ℕ) → EndsBy c all → Under l old held base unscanned t (now (events .entry)) → Ended s c l old r (now (events .exit))) ⌝ }
 {
-    let time = scan::seconds(rate, base + (held as u64));
+    let time = scan::seconds(s.rate, base + (held as u64));
     let open = t.waiting;
     let written = closing::write_messages(open, all, time, events, t.count);
-    let waiting = waiting::keep(open, all, time);
+    let before = s.waiting;
+    let waiting = waiting::keep(before, open, all, time);
     let remembered = t.starts;
-    let starts = starts::clear(remembered);
+    let first = s.starts;
+    let starts = starts::over(first, remembered);
     Received {
         refused: 0,
         count: written,
         receiver: SigfoxReceiver {
-            rate,
+            rate: s.rate,
             held,
             base,
             unscanned,
@@ -81,8 +85,46 @@ fn finish(
     }
 }
 
-// An accepted push: its samples come in, at a time as many as there is room for (`while off < dbm.len()`); a scan runs where half a second or more is not looked at.
-pub fn hear(
+// Whether a push of n samples only adds them: there is room without a drop, no scan is due, and no message leaves.
+fn only_adds(s: SigfoxReceiver, n: usize) -> bool
+    requires { ⌜ Addable s n ⌝ }
+    ensures { λ r. ⌜ (r ≡ true → Adds s n) ⌝ }
+{
+    let held = s.held + n;
+    if n == 0 {
+        return false;
+    }
+    if samples::capacity(s.rate) < held {
+        return false;
+    }
+    if (s.rate as usize) <= 2 * (s.unscanned + n) {
+        return false;
+    }
+    if s.waiting.count == 0 {
+        return true;
+    }
+    let waiting = s.waiting;
+    !waiting::any_expires(waiting, scan::seconds(s.rate, s.base + (held as u64)))
+}
+
+// An accepted push that only adds its samples.
+fn add(s: SigfoxReceiver, dbm: &[f32], samples: &mut [f32]) -> Received
+    requires { ⌜ Adds s (length (now dbm)) × (s .rate ≤ highestRate) × (capacity (s .rate) ≤ length (now samples)) ⌝ }
+    ensures { λ r. ⌜ Added s (now (dbm .entry)) (now (samples .entry)) r (now (samples .exit)) ⌝ }
+{
+    let n = samples::fill(samples, s.rate, s.held, dbm, 0);
+    let mut t = s;
+    t.held = s.held + n;
+    t.unscanned = s.unscanned + n;
+    Received {
+        refused: 0,
+        count: 0,
+        receiver: t,
+    }
+}
+
+// An accepted push, at a time as many samples as there is room for (`while off < dbm.len()`); a scan runs where half a second or more is not looked at.
+fn by_fillings(
     s: SigfoxReceiver,
     dbm: &[f32],
     samples: &mut [f32],
@@ -117,7 +159,24 @@ pub fn hear(
             unscanned = 0;
         }
     }
-    finish(rate, held, base, unscanned, t, false, events)
+    finish(s, held, base, unscanned, t, false, events)
+}
+
+// An accepted push.
+pub fn hear(
+    s: SigfoxReceiver,
+    dbm: &[f32],
+    samples: &mut [f32],
+    events: &mut [u8],
+    scratch: &mut [f64],
+) -> Received
+    requires { ⌜ Passes s (push (now dbm)) (now samples) (now events) (now scratch) ⌝ }
+    ensures { λ r. ⌜ Answers s (push (now (dbm .entry))) (now (samples .entry)) (now (events .entry)) r (now (samples .exit)) (now (events .exit)) ⌝ }
+{
+    if only_adds(s, dbm.len()) {
+        return add(s, dbm, samples);
+    }
+    by_fillings(s, dbm, samples, events, scratch)
 }
 
 // An accepted flush: a scan that waits for nothing and leaves the count of samples not looked at, then every message is written.
@@ -144,5 +203,5 @@ pub fn hear_all(
         0,
         scratch,
     );
-    finish(s.rate, held, s.base, s.unscanned, t, true, events)
+    finish(s, held, s.base, s.unscanned, t, true, events)
 }

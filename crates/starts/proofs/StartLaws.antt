@@ -7,13 +7,12 @@ use Prim.Native.Nat.{_*_, _+_, _-_, _/_, _<_, _≤_, suc, ℕ}
 use native.Mathlib.Numerals.{add-one}
 use native.Mathlib.Omega.{arith}
 use lib.Dec.{leb, ltb}
-use lib.ListN.{drop, getD, length, replicate, take}
+use lib.ListN.{drop, getD, length, take}
 use lib.Seq.{length-take-le, slice, slice-cons, take-suc}
 use borrow.Author.Tests.{le-leb, le-ltb, lt-leb, lt-ltb, ltb-false, ltb-true}
-use Rattle.ledger.specs.Causes.{below, mostStarts, since}
+use Rattle.ledger.specs.Causes.{below, since}
 use Rattle.ledger.specs.Ledger.{close, dist, near, spaced, startsFrom}
-use Rattle.starts.proofs.Places.{fill-all}
-use Rattle.starts.specs.Starts.{cleared, remembered}
+use Rattle.starts.specs.Starts.{over, remembered}
 use Rattle.starts.specs.declared.Starts.{Starts}
 
 either : (b : Bool) → (b ≡ true) ⊎ (b ≡ false)
@@ -99,16 +98,10 @@ forget-turn oldest kept kept′ w l n i h k e p =
 
 -- ---- the array
 
--- the starts after a loop that filled the places past them
-pub cleared-is : (s t : Starts) (i : ℕ) → s .count ≤ mostStarts → length (s .at) ≡ mostStarts → i ≡ mostStarts → t .count ≡ s .count
-    → t .at ≡ take (s .count) (s .at) ++ replicate (i - s .count) 0 ++ drop i (s .at) → t ≡ cleared (remembered s)
-unfolding cleared
-cleared-is s t i h e ei en p =
-    let n : length (remembered s) ≡ s .count = length-take-le (s .count) (s .at) (omega arith) in
-    let q : t .at ≡ remembered s ++ replicate (mostStarts - length (remembered s)) 0
-    = fill-all (s .at) (t .at) (s .count) i mostStarts 0 ei e p ∙ rw n refl in
-    let m : t .count ≡ length (remembered s) = en ∙ sym n in
-    made q m
-  where
-    made : {a b : List ℕ} {n m : ℕ} → a ≡ b → n ≡ m → _≡_ {A = Starts} (record { at = a; count = n }) (record { at = b; count = m })
-    made p q = cc
+-- the starts after a loop that copied them over another array
+pub over-is : (old s : Starts) (r : List ℕ) (i : ℕ) → s .count ≤ length (s .at) → i ≡ s .count → r ≡ take i (s .at) ++ drop i (old .at)
+    → _≡_ {A = Starts} (record { at = r; count = s .count }) (over old (remembered s))
+unfolding over
+over-is old s r i h e p =
+    let n : length (remembered s) ≡ s .count = length-take-le (s .count) (s .at) h in
+    rw (p, e, n) refl

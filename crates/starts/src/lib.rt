@@ -6,7 +6,7 @@ ghost use Prim.Native.Nat.{_+_, _-_, _*_, _≤_, _<_};
 ghost use lib.ListN.{length, take};
 ghost use Rattle.ledger.specs.Ledger.{close, near, startsFrom, spaced};
 ghost use Rattle.ledger.specs.Causes.{mostStarts, oldestS, below, since};
-ghost use Rattle.starts.specs.Starts.{remembered, cleared, startsOk};
+ghost use Rattle.starts.specs.Starts.{remembered, none, over, startsOk};
 
 // Places for remembered starts; a state in order has no more.
 pub const MOST_STARTS: usize = 96;
@@ -93,17 +93,29 @@ pub fn forget(s: Starts, oldest: u64) -> Starts
     t
 }
 
-// The same starts, with 0 in the places past them.
-pub fn clear(s: Starts) -> Starts
-    requires { ⌜ s .count ≤ mostStarts ⌝ }
-    ensures { λ r. ⌜ r ≡ cleared (remembered s) ⌝ }
+// No start.
+pub fn none() -> Starts
+    ensures { λ r. ⌜ r ≡ none ⌝ }
 {
-    let mut t = s;
-    let mut i = t.count;
-    while i < MOST_STARTS {
-        t.at[i] = 0;
+    Starts {
+        at: [0u64; 96],
+        count: 0,
+    }
+}
+
+// The starts of s in the first places of another array, whose other places stay as they are.
+pub fn over(old: Starts, s: Starts) -> Starts
+    requires { ⌜ s .count ≤ mostStarts ⌝ }
+    ensures { λ r. ⌜ r ≡ over old (remembered s) ⌝ }
+{
+    let n = s.count;
+    let mut t = old;
+    let mut i: usize = 0;
+    while i < n {
+        t.at[i] = s.at[i];
         i += 1;
     }
+    t.count = n;
     t
 }
 

@@ -8,21 +8,22 @@ use native.Mathlib.Nat.{le-of-suc-le-suc, not-suc-le-zero}
 use native.Mathlib.Numerals.{add-one}
 use native.Mathlib.Omega.{arith}
 use lib.Dec.{eqb}
-use lib.Ieee.{binary32, binary64, nan, ofBits, ofInt, round}
+use lib.Ieee.{Float, binary32, binary64, nan, ofBits, ofInt, round}
 use lib.IntN.{pos}
-use lib.ListN.{getD, length, replicate, set, take}
-use lib.Seq.{append-snoc, getD-take, length-take-le, set-at, slice, slice-cons, slice-empty, take-set-lt, take-suc}
+use lib.ListN.{drop, getD, length, length-append, set, take}
+use lib.Seq.{getD-take, length-take-le, slice, slice-cons, slice-empty, take-set-lt, take-suc}
 use borrow.Author.Tests.{eq-eqb, eqb-false, eqb-true, le-leb, lt-leb, ne-eqb}
 use Rattle.floats.specs.Number.{num}
 use Rattle.ledger.specs.Causes.{allFit, anyNan, entryFits, entryNan, mostWaiting, unlike, waits}
 use Rattle.ledger.specs.Demand3.{message}
 use Rattle.ledger.specs.Frames.{keyOf, same}
-use Rattle.ledger.specs.Ledger.{byEntry, join, messages, others}
-use Rattle.ledger.specs.Merge.{entryKey, merge, openEntry}
+use Rattle.ledger.specs.Ledger.{byEntry, chosen, join, messages, others}
+use Rattle.ledger.specs.Merge.{entryKey, expires, merge, openEntry}
 use Rattle.ledger.specs.Room.{openPlaces}
 use Rattle.message.specs.Messages.{frameOf}
-use Rattle.starts.proofs.Places.{take-store}
-use Rattle.waiting.specs.Waiting.{Checked, Counters, Seen, blank, cleared, distinct, findKey, keyIs, keyNumber, numberIn, placeAfter, waitingOf}
+use Rattle.ledger.proofs.Basics as basics
+use Rattle.starts.proofs.Places.{store-next, take-store}
+use Rattle.waiting.specs.Waiting.{Checked, Counters, Seen, anyExpires, distinct, findKey, keyIs, keyNumber, leaves, numberIn, over, waitingOf}
 use Rattle.ledger.specs.declared.Pending.{Pending}
 use Rattle.frame.specs.declared.UplinkFrame.{UplinkFrame}
 use Rattle.record.specs.declared.Reception.{Reception}
@@ -31,7 +32,6 @@ use Rattle.record.specs.declared.FirstFrameEnd.the-variants.{Known}
 use Rattle.waiting.specs.declared.Waiting.{Waiting}
 use Rattle.waiting.specs.declared.Looked.{Looked}
 use Rattle.waiting.specs.declared.Condition.{Condition}
-use Rattle.waiting.specs.declared.AfterCall.{AfterCall}
 
 either : (b : Bool) → (b ≡ true) ⊎ (b ≡ false)
 either true = inl refl
@@ -113,80 +113,66 @@ module _ (f : UplinkFrame) (r : Reception) where
       let m : length (take n l) ≡ n = length-take-le n l (omega arith) in
       rw (take-store l n v h, j) (sym (join-opens (take n l) (rw m k)))
 
--- ---- the end of a call: k messages stay so far, and the places behind them are blank
+-- ---- the end of a call
 
-abbrev pub Rest : List Pending → ℕ → Type 0
-Rest t k = t ≡ take k t ++ replicate (openPlaces - k) blank
+module _ (l : List Pending) (n i : ℕ) (now : Float) (z : Pending) (here : i < n) (fits : n ≤ length l) where
+  pub expires-hit : expires now (getD l i z) ≡ true → anyExpires now (slice i n l) ≡ true
+  unfolding anyExpires
+  expires-hit e = rw (slice-cons i n l z here fits, e) refl
 
-more-than : (k : ℕ) → k < openPlaces → openPlaces - k ≡ suc (openPlaces - (k + 1))
-more-than k h = omega arith
+  pub expires-miss : expires now (getD l i z) ≡ false → anyExpires now (slice i n l) ≡ anyExpires now (slice (i + 1) n l)
+  unfolding anyExpires
+  expires-miss e = rw (slice-cons i n l z here fits, e, add-one) refl
 
-stays-rest : (t : List Pending) (k : ℕ) (p : Pending) → k < openPlaces → length (take k t) ≡ k → Rest t k
-    → set t k p ≡ take k t ++ p ∷ replicate (openPlaces - (k + 1)) blank
-stays-rest t k p h m e =
-    let q : t ≡ take k t ++ blank ∷ replicate (openPlaces - (k + 1)) blank = e ∙ rw (more-than k h) refl in
-    ap (λ (x : List Pending). set x k p) q ∙ set-at (take k t) blank (replicate (openPlaces - (k + 1)) blank) p k m
+-- a push keeps every message where none is complete
+pub none-expires : (now : Float) (l : List Pending) → anyExpires now l ≡ false → (chosen (leaves false now) l ≡ []) × (others (leaves false now) l ≡ l)
+unfolding anyExpires chosen others
+none-expires now [] e = (refl, refl)
+none-expires now (p ∷ l) e =
+    let o = basics.or-false (expires now p) (anyExpires now l) e in
+    let r = none-expires now l (o .1) in
+    (rw (o .0) (r .0), rw (o .0, r .1) refl)
 
-pub record Turned (p : Pending → Bool) (t ms w : List Pending) (k i n : ℕ) (s : AfterCall) : Type 0 where
-  pub rest : Rest (set t k (s .message)) (k + s .more)
-  pub stays : take (k + s .more) (set t k (s .message)) ++ others p (slice (i + 1) n ms) ≡ w
-  pub few : s .more ≤ 1
+others-join : (p : Pending → Bool) (l : List Pending) (x : Pending) → others p (l ++ (x ∷ [])) ≡ others p l ++ others p (x ∷ [])
+unfolding others
+others-join p [] x = refl
+others-join p (m ∷ l) x = ⊎-elim (λ e. rw e (others-join p l x)) (λ e. rw e (ap (λ (k : List Pending). m ∷ k) (others-join p l x))) (either (p m))
 
-module _ (p : Pending → Bool) (t ms w : List Pending) (k i n : ℕ) (z : Pending) (here : i < n) (fits : n ≤ length ms) (small : k < openPlaces)
-    (len : length t ≡ openPlaces) (rest : Rest t k) (e : take k t ++ others p (slice i n ms) ≡ w) where
-  len-k : length (take k t) ≡ k
-  len-k = length-take-le k t (omega arith)
+-- k of the first i messages stay; they stand in the first places t of the old ones
+pub record Kept (p : Pending → Bool) (ms old t : List Pending) (i k : ℕ) : Type 0 where
+  pub count : length (others p (take i ms)) ≡ k
+  pub places : t ≡ others p (take i ms) ++ drop k old
 
-  leaves-turn : p (getD ms i z) ≡ true → Turned p t ms w k i n (record { message = blank; more = 0 })
+module _ (p : Pending → Bool) (ms old t : List Pending) (i k : ℕ) (z : Pending) (here : i < length ms) (s : Kept p ms old t i k) where
+  one-more : others p (take (i + 1) ms) ≡ others p (take i ms) ++ others p (getD ms i z ∷ [])
+  one-more = rw (add-one, take-suc ms i z here) (others-join p (take i ms) (getD ms i z))
+
+  pub keep-leaves : p (getD ms i z) ≡ true → Kept p ms old t (i + 1) k
   unfolding others
-  leaves-turn h =
-      let same : set t k blank ≡ t = stays-rest t k blank small len-k rest ∙ sym (rest ∙ rw (more-than k small) refl) in
-      let zero : k + 0 ≡ k = omega arith in
-      let one : i + 1 ≡ suc i = omega arith in
-      let o : take k t ++ others p (slice (suc i) n ms) ≡ w = (rw (slice-cons i n ms z here fits, h) at e) in
-      record { rest = rw (zero, same) rest; stays = rw (zero, same, one) o; few = omega arith }
+  keep-leaves e =
+      let q : others p (take (i + 1) ms) ≡ others p (take i ms) = one-more ∙ rw e (append-nil (others p (take i ms))) in
+      record { count = rw q (s .count); places = rw q (s .places) }
 
-  stays-turn : p (getD ms i z) ≡ false → Turned p t ms w k i n (record { message = getD ms i z; more = 1 })
+  pub keep-stays : k < length old → p (getD ms i z) ≡ false → Kept p ms old (set t k (getD ms i z)) (i + 1) (k + 1)
   unfolding others
-  stays-turn h =
-      let x = getD ms i z in
-      let one : i + 1 ≡ suc i = omega arith in
-      let o : take k t ++ x ∷ others p (slice (suc i) n ms) ≡ w = (rw (slice-cons i n ms z here fits, h) at e) in
-      let a : take (k + 1) (set t k x) ≡ take k t ++ (x ∷ []) = take-store t k x (omega arith) in
+  keep-stays h e =
+      let q : others p (take (i + 1) ms) ≡ others p (take i ms) ++ (getD ms i z ∷ []) = one-more ∙ rw e refl in
       record {
-        rest =
-            stays-rest t k x small len-k rest
-            ∙ sym (append-snoc (take k t) x (replicate (openPlaces - (k + 1)) blank))
-            ∙ ap (λ (y : List Pending). y ++ replicate (openPlaces - (k + 1)) blank) (sym a);
-        stays = rw (a, one) (append-snoc (take k t) x (others p (slice (suc i) n ms)) ∙ o);
-        few = omega arith;
+        count = rw q (length-append (others p (take i ms)) (getD ms i z ∷ []) ∙ rw (s .count) refl);
+        places = rw (q, s .places) (store-next (others p (take i ms)) old k (getD ms i z) (s .count) h);
       }
 
-  pub keep-turn : (s : AfterCall) → s ≡ placeAfter (p (getD ms i z)) (getD ms i z) → Turned p t ms w k i n s
-  keep-turn s q =
-      ⊎-elim
-      (λ h. subst (λ (a : AfterCall). Turned p t ms w k i n a) (sym (q ∙ rw h refl)) (leaves-turn h))
-      (λ h. subst (λ (a : AfterCall). Turned p t ms w k i n a) (sym (q ∙ rw h refl)) (stays-turn h))
-      (either (p (getD ms i z)))
+pub keep-none : (p : Pending → Bool) (ms old : List Pending) → Kept p ms old old 0 0
+unfolding others
+keep-none p ms old = record { count = refl; places = refl }
 
-pub more-small : (b : Bool) (p : Pending) (s : AfterCall) → s ≡ placeAfter b p → s .more ≤ 1
-more-small true p s e = rw e (omega arith)
-more-small false p s e = rw e (omega arith)
-
-pub keep-all : (p : Pending → Bool) (t : Waiting) (ms : List Pending) (k i n : ℕ) → i ≡ n → k ≤ openPlaces → length (t .messages) ≡ openPlaces
-    → Rest (t .messages) k → take k (t .messages) ++ others p (slice i n ms) ≡ others p (take n ms)
-    → _≡_ {A = Waiting} (record { messages = t .messages; count = k }) (cleared (others p (take n ms)))
-unfolding others cleared
-keep-all p t ms k i n ei hk len rest e =
-    let l : take k (t .messages) ≡ others p (take n ms)
-    = sym (append-nil (take k (t .messages))) ∙ (rw (ei, slice-empty n ms) at e) in
-    let m : length (others p (take n ms)) ≡ k = rw (← l) (length-take-le k (t .messages) (omega arith)) in
-    let q : t .messages ≡ others p (take n ms) ++ replicate (openPlaces - length (others p (take n ms))) blank
-    = rest ∙ rw (l, m) refl in
-    made q (sym m)
-  where
-    made : {a b : List Pending} {x y : ℕ} → a ≡ b → x ≡ y → _≡_ {A = Waiting} (record { messages = a; count = x }) (record { messages = b; count = y })
-    made f g = cc
+pub keep-all : (p : Pending → Bool) (ms : List Pending) (old : Waiting) (t : List Pending) (i n k : ℕ) → i ≡ n → Kept p ms (old .messages) t i k
+    → _≡_ {A = Waiting} (record { messages = t; count = k }) (over old (others p (take n ms)))
+unfolding over
+keep-all p ms old t i n k e s =
+    let c : length (others p (take n ms)) ≡ k = (rw e at (s .count)) in
+    let q : t ≡ others p (take n ms) ++ drop k (old .messages) = (rw e at (s .places)) in
+    rw (c, q) refl
 
 -- ---- one look at every message
 

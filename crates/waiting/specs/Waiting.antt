@@ -2,8 +2,8 @@
 use mathlib.Core.Path.{_≡_}
 use mathlib.Core.List.{List, [], _∷_, _++_, map}
 use mathlib.Core.Bool.{Bool, true, false, not, _&&_, _||_, cond}
-use Prim.Native.Nat.{ℕ, zero, suc, _+_, _-_, _*_, _<_}
-use lib.ListN.{length, take, replicate}
+use Prim.Native.Nat.{ℕ, zero, suc, _+_, _*_, _<_}
+use lib.ListN.{length, take, drop, replicate}
 use lib.Dec.{leb, eqb}
 use lib.IntN.{pos}
 use lib.Ieee.{Float}
@@ -20,7 +20,6 @@ use Rattle.record.specs.declared.FirstFrameEnd.the-variants.{Unknown}
 use Rattle.waiting.specs.declared.Waiting.{Waiting}
 use Rattle.waiting.specs.declared.Looked.{Looked}
 use Rattle.waiting.specs.declared.Condition.{Condition}
-use Rattle.waiting.specs.declared.AfterCall.{AfterCall}
 
 -- the messages that wait, in order
 abbrev pub waitingOf : Waiting → List Pending
@@ -38,12 +37,16 @@ findKey d c (p ∷ l) = cond (keyIs d c p) 0 (suc (findKey d c l))
 abbrev pub leaves : Bool → Float → Pending → Bool
 leaves all now p = all || expires now p
 
--- ---- the array for a list of messages
+unfoldable pub anyExpires : Float → List Pending → Bool
+anyExpires now [] = false
+anyExpires now (p ∷ l) = expires now p || anyExpires now l
+
+-- ---- the array of a list of messages
 
 abbrev pub blankSpan : FrameSpan
 blankSpan = record { rank = 0; time = num 0; end = num 0 }
 
--- what stands in the places past the messages
+-- what stands in each place of a fresh receiver
 abbrev pub blank : Pending
 blank =
     record {
@@ -68,12 +71,13 @@ blank =
       last = num 0;
     }
 
-unfoldable pub cleared : List Pending → Waiting
-cleared l = record { messages = l ++ replicate (openPlaces - length l) blank; count = length l }
+-- no message, and every place blank
+unfoldable pub none : Waiting
+none = record { messages = replicate openPlaces blank; count = 0 }
 
--- what a place holds after the end of a call: a message that stays, or nothing
-abbrev pub placeAfter : Bool → Pending → AfterCall
-placeAfter left p = cond left (record { message = blank; more = 0 }) (record { message = p; more = 1 })
+-- the messages l in the first places of an array; places past the count keep their contents
+unfoldable pub over : Waiting → List Pending → Waiting
+over w l = record { messages = l ++ drop (length l) (w .messages); count = length l }
 
 -- ---- a state's messages
 

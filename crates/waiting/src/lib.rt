@@ -11,7 +11,7 @@ ghost use Rattle.ledger.specs.Ledger.{byEntry, join, others};
 ghost use Rattle.ledger.specs.Causes.{anyNan};
 ghost use Rattle.ledger.specs.Room.{openPlaces};
 ghost use Rattle.message.specs.Messages.{frameOf};
-ghost use Rattle.waiting.specs.Waiting.{waitingOf, keyNumber, keyIs, findKey, blank, leaves, placeAfter, cleared, numberIn, distinct, Seen, waitingOk, Checked};
+ghost use Rattle.waiting.specs.Waiting.{waitingOf, keyNumber, keyIs, findKey, blank, leaves, anyExpires, none, over, numberIn, distinct, Seen, waitingOk, Checked};
 use frame::SingleBit;
 use frame::UplinkFrame;
 use ledger::Pending;
@@ -132,7 +132,7 @@ fn blank() -> Pending
 
 // No message.
 pub fn none() -> Waiting
-    ensures { λ r. ⌜ r ≡ cleared [] ⌝ }
+    ensures { λ r. ⌜ r ≡ none ⌝ }
 {
     let p = blank();
     Waiting {
@@ -141,41 +141,38 @@ pub fn none() -> Waiting
     }
 }
 
-// What a place holds after the end of a call, and how many places further the next one is.
-struct AfterCall {
-    message: Pending,
-    more: usize,
-}
-
-// A message that stays, or a blank place.
-fn stayed(p: Pending, all: bool, now: f64) -> AfterCall
-    ensures { λ r. ⌜ r ≡ placeAfter (leaves all now p) p ⌝ }
-{
-    if leaves(p, all, now) {
-        let message = blank();
-        return AfterCall { message, more: 0 };
-    }
-    AfterCall {
-        message: p,
-        more: 1,
-    }
-}
-
-// The messages that are not written stay, in order, and the other places are blank.
-pub fn keep(w: Waiting, all: bool, now: f64) -> Waiting
+// Whether a push writes one of the messages.
+pub fn any_expires(w: Waiting, now: f64) -> bool
     requires { ⌜ w .count ≤ openPlaces ⌝ }
-    ensures { λ r. ⌜ r ≡ cleared (others (leaves all now) (waitingOf w)) ⌝ }
+    ensures { λ r. ⌜ r ≡ anyExpires now (waitingOf w) ⌝ }
 {
     let n = w.count;
-    let mut t = none();
+    let mut i: usize = 0;
+    while i < n {
+        if message::expires(w.messages[i], now) {
+            return true;
+        }
+        i += 1;
+    }
+    false
+}
+
+// The messages that are not written, in order, in the first places of another array, whose other places stay as they are.
+pub fn keep(old: Waiting, w: Waiting, all: bool, now: f64) -> Waiting
+    requires { ⌜ w .count ≤ openPlaces ⌝ }
+    ensures { λ r. ⌜ r ≡ over old (others (leaves all now) (waitingOf w)) ⌝ }
+{
+    let n = w.count;
+    let mut t = old;
     let mut k: usize = 0;
     let mut i: usize = 0;
     while i < n {
-        let s = stayed(w.messages[i], all, now);
-        let p = s.message;
-        t.messages[k] = p;
-        k += s.more;
+        let p = w.messages[i];
         i += 1;
+        if !leaves(p, all, now) {
+            t.messages[k] = p;
+            k += 1;
+        }
     }
     t.count = k;
     t

@@ -1,16 +1,15 @@
 -- `bench_receiver::push_chunk` meets its contract. Assumes nothing.
 use Prim.Native.Nat.{_-_, _≤_}
-use native.Mathlib.Omega.{arith}
 use lib.ListN.{length}
 use borrow.Author.Needs.{needs}
 use Rattle.bench_receiver.proofs.push_chunk.Statement.{statement}
 use Rattle.bench_receiver.proofs.push_chunk.Tie as tie
 
 abbrev Inv-loop : tie.InvT-loop
-Inv-loop raw step samples₀ events₀ scratch32₀ scratch64₀ t₀ at₀ samples events scratch32 scratch64 t at = at ≤ length raw
+Inv-loop raw step samples₀ events₀ scratch32₀ scratch64₀ receiver₀ records₀ refused₀ at₀ samples events scratch32 scratch64 receiver records refused at = at ≤ length raw
 
 abbrev μ-loop : tie.MeasureT-loop
-μ-loop raw step samples₀ events₀ scratch32₀ scratch64₀ t₀ at₀ samples events scratch32 scratch64 t at = length raw - at
+μ-loop raw step samples₀ events₀ scratch32₀ scratch64₀ receiver₀ records₀ refused₀ at₀ samples events scratch32 scratch64 receiver records refused at = length raw - at
 
 loop-holds : tie.Need-loop-holds Inv-loop μ-loop
 loop-holds c = search needs
@@ -24,17 +23,20 @@ least-requires c κs = search needs
 add-end : tie.Need-add-end Inv-loop μ-loop
 add-end c = search needs
 
-sub-push : tie.Need-sub-push Inv-loop μ-loop
-sub-push c = search needs
+sub-push-raw : tie.Need-sub-push-raw Inv-loop μ-loop
+sub-push-raw c = search needs
 
-part-push-start : tie.Need-part-push-start Inv-loop μ-loop
-part-push-start c = search needs
+part-push-raw-start : tie.Need-part-push-raw-start Inv-loop μ-loop
+part-push-raw-start c = search needs
 
-part-push-end : tie.Need-part-push-end Inv-loop μ-loop
-part-push-end c = search needs
+part-push-raw-end : tie.Need-part-push-raw-end Inv-loop μ-loop
+part-push-raw-end c = search needs
 
-push-requires : tie.Need-push-requires Inv-loop μ-loop
-push-requires c κs = search needs
+push-raw-requires : tie.Need-push-raw-requires Inv-loop μ-loop
+push-raw-requires c κs = search needs
+
+wrapping-add-u64-requires : tie.Need-wrapping-add-u64-requires Inv-loop μ-loop
+wrapping-add-u64-requires c κs = search needs
 
 loop-less : tie.Need-loop-less Inv-loop μ-loop
 loop-less c = search needs
@@ -55,10 +57,11 @@ push-chunk-spec =
     sub-least
     least-requires
     add-end
-    sub-push
-    part-push-start
-    part-push-end
-    push-requires
+    sub-push-raw
+    part-push-raw-start
+    part-push-raw-end
+    push-raw-requires
+    wrapping-add-u64-requires
     loop-less
     loop-again
     returns)

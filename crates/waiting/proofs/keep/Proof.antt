@@ -1,74 +1,71 @@
--- `waiting::keep` meets its contract. The invariant: those kept and those that stay of what is left are those that stay of all, and the places behind are blank. Assumes nothing.
-use mathlib.Core.List.{_++_}
-use mathlib.Core.Path.{_≡_, refl}
+-- `waiting::keep` meets its contract. The invariant: those of the first i that stay are in the first k places, the others are the old ones. Assumes nothing.
+use mathlib.Core.Path.{_∙_, _≡_, sym}
 use Prim.Native.Nat.{_-_, _≤_}
 use native.Mathlib.Omega.{arith}
-use lib.ListN.{getD, length, length-set, take}
-use lib.Seq.{slice}
+use lib.ListN.{length}
 use borrow.Author.Needs.{needs}
-use Rattle.ledger.specs.Demand3.{all}
-use Rattle.ledger.specs.Ledger.{now, others}
-use Rattle.ledger.specs.Room.{openPlaces}
+use borrow.Author.Tests.{not-false, not-true}
 use Rattle.message.proofs.SpanLaws.{length-mapped}
-use Rattle.waiting.proofs.WaitingLaws.{Rest, keep-all, keep-turn, more-small, outside-message}
-use Rattle.waiting.specs.Waiting.{cleared, leaves, waitingOf}
+use Rattle.waiting.proofs.WaitingLaws.{Kept, keep-all, keep-leaves, keep-none, keep-stays, outside-message}
+use Rattle.waiting.specs.Waiting.{leaves}
 use Rattle.waiting.proofs.keep.Statement.{statement}
 use Rattle.waiting.proofs.keep.Tie as tie
 
 abbrev Inv-loop : tie.InvT-loop
-Inv-loop all now w n t₀ k₀ i₀ t k i = (i ≤ n) × (k ≤ i) × (length (t .messages) ≡ openPlaces) × Rest (t .messages) k × (take k (t .messages) ++ others (leaves all now) (slice i n (w .messages)) ≡ others (leaves all now) (take n (w .messages)))
+Inv-loop all now w n t₀ k₀ i₀ t k i = (i ≤ n) × (k ≤ i) × Kept (leaves all now) (w .messages) (t₀ .messages) (t .messages) i k
 
 abbrev μ-loop : tie.MeasureT-loop
 μ-loop all now w n t₀ k₀ i₀ t k i = n - i
 
-none-requires : tie.Need-none-requires Inv-loop μ-loop
-none-requires c κs = search needs
-
 loop-holds : tie.Need-loop-holds Inv-loop μ-loop
-unfolding cleared
-loop-holds c = rw (c .none .ensures) (search needs, search needs, refl, refl, refl)
-
-mul-stayed : tie.Need-mul-stayed Inv-loop μ-loop
-mul-stayed c = search needs
-
-element-copy-out-stayed : tie.Need-element-copy-out-stayed Inv-loop μ-loop
-element-copy-out-stayed c = search needs
-
-stayed-requires : tie.Need-stayed-requires Inv-loop μ-loop
-stayed-requires c κs = search needs
+loop-holds c = let a = c .args in (search needs, search needs, keep-none (leaves (a .all) (a .now)) (a .t2 .messages) (a .old .messages))
 
 mul-p : tie.Need-mul-p Inv-loop μ-loop
 mul-p c = search needs
+
+element-copy-out-p : tie.Need-element-copy-out-p Inv-loop μ-loop
+element-copy-out-p c = search needs
+
+add-i : tie.Need-add-i Inv-loop μ-loop
+add-i c = search needs
+
+leaves-requires : tie.Need-leaves-requires Inv-loop μ-loop
+leaves-requires c κs = search needs
+
+mul-p-2 : tie.Need-mul-p-2 Inv-loop μ-loop
+mul-p-2 c = search needs
 
 element-set-from-p : tie.Need-element-set-from-p Inv-loop μ-loop
 element-set-from-p c = search needs
 
 add-k : tie.Need-add-k Inv-loop μ-loop
-add-k c = let a = c .before .before .before .before .before .before .before .args in
-    let l = c .before .before .before .before .before .loop in
-    let s = c .before .before .stayed in
-    omega (arith, l .inv .1, l .inv .0, c .before .before .before .before .loop-test .taken, more-small (leaves (a .all) (a .now) (getD (a .t1 .messages) (l .i) outside-message)) (getD (a .t1 .messages) (l .i) outside-message) (s .result) (s .ensures), c .before .before .before .before .before .before .before .pre)
-
-add-i : tie.Need-add-i Inv-loop μ-loop
-add-i c = search needs
+add-k c = search needs
 
 loop-less : tie.Need-loop-less Inv-loop μ-loop
 loop-less c = search needs
 
 loop-again : tie.Need-loop-again Inv-loop μ-loop
-loop-again c = let a = c .before .before .before .before .before .before .before .args in
-    let l = c .before .before .before .before .before .loop in
-    let s = c .before .before .stayed in
-    let g = c .before .before .before .before .before .before .before .good .0 in
-    let h : length (a .t1 .messages) ≡ 168 = search (needs, length-mapped, g) in
-    let t = keep-turn (leaves (a .all) (a .now)) (l .t .messages) (a .t1 .messages) (others (leaves (a .all) (a .now)) (waitingOf (a .t1))) (l .k) (l .i) (a .t1 .count) outside-message
-    (omega (arith, c .before .before .before .before .loop-test .taken)) (omega arith) (omega (arith, l .inv, c .before .before .before .before .loop-test .taken)) (l .inv .2) (l .inv .3) (l .inv .4) (s .result) (s .ensures) in
-    (omega (arith, c .before .before .before .before .loop-test .taken), omega (arith, t .few, l .inv .1), simp length-set (l .inv .2), t .rest, t .stays)
+loop-again c = let s = c .before .before .before .before .before in
+    let a = s .args in
+    let l = c .before .before .before .before .loop in
+    let h : length (a .t2 .messages) ≡ 168 = search (needs, length-mapped, s .good) in
+    let g : length (a .old .messages) ≡ 168 = search (needs, length-mapped, s .good) in
+    (omega arith, omega arith, keep-stays (leaves (a .all) (a .now)) (a .t2 .messages) (a .old .messages) (l .t .messages) (l .i) (l .k) outside-message (omega arith) (l .inv .2) (omega arith) (sym (c .before .leaves .ensures) ∙ not-true (c .before .leaves .result) (c .if1 .taken)))
+
+loop-less-2 : tie.Need-loop-less-2 Inv-loop μ-loop
+loop-less-2 c = search needs
+
+loop-again-2 : tie.Need-loop-again-2 Inv-loop μ-loop
+loop-again-2 c = let s = c .before .before .before .before .before in
+    let a = s .args in
+    let l = c .before .before .before .before .loop in
+    let h : length (a .t2 .messages) ≡ 168 = search (needs, length-mapped, s .good) in
+    (omega arith, omega arith, keep-leaves (leaves (a .all) (a .now)) (a .t2 .messages) (a .old .messages) (l .t .messages) (l .i) (l .k) outside-message (omega arith) (l .inv .2) (sym (c .before .leaves .ensures) ∙ not-false (c .before .leaves .result) (c .if1 .left)))
 
 returns : tie.Need-returns Inv-loop μ-loop
-returns c = let a = c .before .before .before .args in
+returns c = let a = c .before .before .args in
     let l = c .before .loop in
-    keep-all (leaves (a .all) (a .now)) (l .t) (a .t1 .messages) (l .k) (l .i) (a .t1 .count) (omega arith) (omega arith) (l .inv .2) (l .inv .3) (l .inv .4)
+    keep-all (leaves (a .all) (a .now)) (a .t2 .messages) (a .old) (l .t .messages) (l .i) (a .t2 .count) (l .k) (omega arith) (l .inv .2)
 
 pub keep-spec : {M : Type 1} → statement M
 keep-spec =
@@ -76,15 +73,16 @@ keep-spec =
     (tie.spec
     Inv-loop
     μ-loop
-    none-requires
     loop-holds
-    mul-stayed
-    element-copy-out-stayed
-    stayed-requires
     mul-p
+    element-copy-out-p
+    add-i
+    leaves-requires
+    mul-p-2
     element-set-from-p
     add-k
-    add-i
     loop-less
     loop-again
+    loop-less-2
+    loop-again-2
     returns)

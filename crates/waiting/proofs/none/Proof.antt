@@ -1,7 +1,7 @@
 -- `waiting::none` meets its contract. Assumes nothing.
 use mathlib.Core.Path.{refl}
 use borrow.Author.Needs.{needs}
-use Rattle.waiting.specs.Waiting.{cleared}
+use Rattle.waiting.specs.Waiting.{none}
 use Rattle.waiting.proofs.none.Statement.{statement}
 use Rattle.waiting.proofs.none.Tie as tie
 
@@ -9,7 +9,7 @@ blank-requires : tie.Need-blank-requires
 blank-requires c κs = search needs
 
 returns : tie.Need-returns
-unfolding cleared
+unfolding none
 returns c = rw (c .blank .ensures) refl
 
 pub none-spec : {M : Type 1} → statement M

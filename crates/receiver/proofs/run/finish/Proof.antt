@@ -16,18 +16,19 @@ write-messages-requires c κs = let s = c .before .before .before .before in (s 
 keep-requires : tie.Need-keep-requires
 keep-requires c κs = search needs
 
-clear-requires : tie.Need-clear-requires
-clear-requires c κs = search needs
+over-requires : tie.Need-over-requires
+over-requires c κs = search needs
 
 same-length : tie.Need-same-length
 same-length c = search needs
 
 returns : tie.Need-returns
 returns c k l old e u =
-    let a = c .before .before .before .before .before .before .before .before .before .before .args in
-    let t = c .before .before .before .before .before .before .before .before .seconds in
-    let w = c .before .before .before .before .before .write-messages in
-    ended (a .rate) l old (a .held) (a .base) (a .unscanned) (a .t) (a .events .now) u k (a .all) e (w .result) _ (rw (t .ensures) at (w .ensures)) (c .clear .result) (c .before .before .keep .result) (c .clear .ensures) (rw (t .ensures) at (c .before .before .keep .ensures))
+    let a = c .before .before .before .before .before .before .before .before .before .before .before .before .args in
+    let t = c .before .before .before .before .before .before .before .before .before .before .seconds in
+    let w = c .before .before .before .before .before .before .before .write-messages in
+    let m = c .before .before .before .keep in
+    ended (a .s) l old (a .held) (a .base) (a .unscanned) (a .t) (a .events .now) u k (a .all) e (w .result) _ (rw (t .ensures) at (w .ensures)) (c .over .result) (m .result) (c .over .ensures) (rw (t .ensures) at (m .ensures))
 
 pub finish-spec : {M : Type 1} → statement M
 finish-spec =
@@ -37,6 +38,6 @@ finish-spec =
     seconds-requires
     write-messages-requires
     keep-requires
-    clear-requires
+    over-requires
     same-length
     returns)
