@@ -18,42 +18,17 @@ use Rattle.demod.specs.Capture.{joined}
 use Rattle.demod.proofs.CaptureLaws.{joined-append}
 use Rattle.ledger.specs.Merge.{finished}
 use Rattle.ledger.specs.Ledger.{chosen}
-use Rattle.ledger.specs.Records.{recordOf, withRecords}
+use Rattle.ledger.specs.Records.{Sized, recordOf, withRecords}
 use Rattle.ledger.specs.declared.Pending.{Pending}
+use Rattle.ledger.proofs.Joined.{sized-append, sized-length, with-more}
 use Rattle.waiting.specs.Waiting.{leaves}
-use Rattle.closing.specs.Written.{Sized, written, putIf}
+use Rattle.closing.specs.Written.{written, putIf}
 
 either : (b : Bool) → (b ≡ true) ⊎ (b ≡ false)
 either true = inl refl
 either false = inr refl
 
 -- ---- records of 120 bytes
-
-pub sized-append : (rs ws : List (List ℕ)) → Sized rs → Sized ws → Sized (rs ++ ws)
-sized-append [] ws a b = b
-sized-append (r ∷ rs) ws a b = (a .0, sized-append rs ws (a .1) b)
-
-pub sized-length : (rs : List (List ℕ)) → Sized rs → length (joined rs) ≡ recordSize * length rs
-unfolding joined
-sized-length [] a = refl
-sized-length (r ∷ rs) a = omega (arith, length-append r (joined rs), sized-length rs (a .1), a .0)
-
--- records behind others, in an event buffer
-pub with-more : (rs ws : List (List ℕ)) (old : List ℕ) → Sized rs → Sized ws → recordSize * (length rs + length ws) ≤ length (withRecords rs old)
-    → sets (withRecords rs old) (recordSize * length rs) (joined ws) ≡ withRecords (rs ++ ws) old
-unfolding withRecords
-with-more rs ws old a b fits =
-    let n = recordSize * length rs in
-    let rest = drop n old in
-    let front : length (joined rs) ≡ n = sized-length rs a in
-    let back : length (joined ws) ≡ recordSize * length ws = sized-length ws b in
-    let all : n + length (joined ws) ≡ recordSize * length (rs ++ ws) = omega (arith, length-append rs ws) in
-    sets-eq (joined ws) (joined rs ++ rest) n (omega arith)
-    ∙ ap₂ (λ (x y : List ℕ). x ++ joined ws ++ y)
-    (take-at (joined rs) rest n front)
-    (ap (λ (k : ℕ). drop (k + length (joined ws)) (joined rs ++ rest)) (sym front) ∙ drop-append-add (joined rs) rest (length (joined ws))
-    ∙ drop-drop (length (joined ws)) n old ∙ ap (λ (k : ℕ). drop k old) all)
-    ∙ ap (λ (x : List ℕ). x ++ drop (recordSize * length (rs ++ ws)) old) (sym (joined-append rs ws))
 
 -- a message's record is one of them
 pub finished-size : (p : Pending) → length (p .message .payload) ≡ 12 → length (p .message .auth) ≡ 5 → length (messageRecord (finished p)) ≡ recordSize

@@ -12,11 +12,6 @@ use Rattle.ledger.specs.Records.{recordOf}
 use Rattle.ledger.specs.declared.Pending.{Pending}
 use Rattle.waiting.specs.Waiting.{leaves}
 
--- each record is 120 bytes
-abbrev pub Sized : List (List ℕ) → Type 0
-Sized [] = Unit
-Sized (r ∷ rs) = (length r ≡ recordSize) × Sized rs
-
 -- "a push writes .. the open messages that have three ranks or now − last over 10; a flush, all"
 abbrev pub written : Bool → Float → List Pending → List (List ℕ)
 written all t l = map recordOf (map (eventOf byEntry) (chosen (leaves all t) l))

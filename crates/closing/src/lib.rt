@@ -8,10 +8,10 @@ ghost use lib.Seq.{sets};
 ghost use Rattle.limits.specs.Limits.{recordSize};
 ghost use Rattle.record.specs.Record.{messageRecord};
 ghost use Rattle.ledger.specs.Merge.{finished};
-ghost use Rattle.ledger.specs.Records.{withRecords};
+ghost use Rattle.ledger.specs.Records.{Sized, withRecords};
 ghost use Rattle.ledger.specs.Room.{openPlaces};
 ghost use Rattle.waiting.specs.Waiting.{waitingOf, leaves};
-ghost use Rattle.closing.specs.Written.{Sized, written, putIf};
+ghost use Rattle.closing.specs.Written.{written, putIf};
 use ledger::Pending;
 use waiting::Waiting;
 

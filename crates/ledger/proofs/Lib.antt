@@ -23,6 +23,7 @@ pub mod Seeing
 pub mod Sound
 pub mod Carry
 pub mod Records
+pub mod Joined
 pub mod Loud
 pub mod Notes
 pub mod Waiting

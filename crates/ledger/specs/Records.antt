@@ -1,4 +1,5 @@
 -- The bytes of the ledger's records, and what a client reads off the bytes of a record. Assumes nothing.
+use mathlib.Core.Path.{_≡_}
 use mathlib.Core.List.{List, [], _∷_, _++_}
 use mathlib.Core.Bool.{cond}
 use Prim.Native.Nat.{ℕ, zero, suc, _*_, _/_, _%_}
@@ -16,6 +17,11 @@ use Rattle.ledger.specs.Demand3.{Seen, frame, message}
 unfoldable pub recordOf : Event → List ℕ
 recordOf (ofFrame f) = frameRecord (f .uplink) (f .reception)
 recordOf (ofMessage m) = messageRecord m
+
+-- each record has its 120 bytes
+abbrev pub Sized : List (List ℕ) → Type 0
+Sized [] = Unit
+Sized (r ∷ rs) = (length r ≡ recordSize) × Sized rs
 
 -- an event buffer with records at its start: "event bytes past the count .. keep their contents"
 unfoldable pub withRecords : List (List ℕ) → List ℕ → List ℕ

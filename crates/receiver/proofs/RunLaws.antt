@@ -14,7 +14,7 @@ use Rattle.ledger.specs.Causes as causes
 use Rattle.ledger.specs.Causes.{mostStarts}
 use Rattle.ledger.specs.Room.{Accepted, openPlaces, scansIf, scanIf}
 use Rattle.ledger.specs.Demodulation.{demodOf}
-use Rattle.ledger.specs.Records.{recordOf, withRecords}
+use Rattle.ledger.specs.Records.{Sized, recordOf, withRecords}
 use Rattle.ledger.specs.declared.Pending.{Pending}
 use Rattle.ledger.proofs.Basics.{map-join}
 use Rattle.ledger.proofs.Sizes.{callSize, scans-small}
@@ -29,9 +29,9 @@ use Rattle.starts.specs.declared.Starts.{Starts}
 use Rattle.waiting.specs.Waiting.{waitingOf, leaves}
 use Rattle.waiting.specs.Waiting as waiting
 use Rattle.waiting.specs.declared.Waiting.{Waiting}
-use Rattle.scan.specs.Midway.{Midway, Lent, Within, Does, AllSized}
+use Rattle.scan.specs.Midway.{Midway, Lent, Within, Does}
 use Rattle.scan.specs.declared.Scanned.{Scanned}
-use Rattle.closing.specs.Written.{Sized, written}
+use Rattle.closing.specs.Written.{written}
 use Rattle.receiver.specs.State.{ledgerOf, stateOver}
 use Rattle.receiver.specs.Calls.{samplesAfter}
 use Rattle.receiver.specs.Running.{Passes, Under, Closable, EndsBy, Ended}
@@ -167,10 +167,6 @@ module _ (s : SigfoxReceiver) (samples : List Float) (old : List ℕ) (scratch :
 
 -- ---- a call's end
 
-sized : (rs : List (List ℕ)) → AllSized rs → Sized rs
-sized [] a = tt
-sized (r ∷ rs) a = (a .0, sized rs (a .1))
-
 pub ends-push : (xs : List Float) → EndsBy (push xs) false
 unfolding ready
 ends-push xs t = refl
@@ -214,7 +210,7 @@ module _ (s : SigfoxReceiver) (l : Ledger byEntry) (old : List ℕ) (held base u
       wrote : (n ≡ length (map recordOf (events (s .rate) c l))) × (now ≡ withRecords (map recordOf (events (s .rate) c l)) old)
       wrote =
           rw records-are
-          (w (map recordOf (map ofFrame (l .heard))) old (sized (map recordOf (map ofFrame (l .heard))) (u .midway .sized))
+          (w (map recordOf (map ofFrame (l .heard))) old (u .midway .sized)
           (u .midway .count ∙ sym (length-map (map ofFrame (l .heard)) recordOf ∙ length-map (l .heard) ofFrame)) (u .midway .events))
 
       pub ended : (a : Starts) (b : Waiting) → a ≡ starts.over (s .starts) (starts.remembered (t .starts))

@@ -13,17 +13,12 @@ use Rattle.ledger.specs.Ledger.{Ledger, byEntry, ofFrame, capacity, near, secon
 use Rattle.ledger.specs.Causes.{mostStarts}
 use Rattle.ledger.specs.Room.{openPlaces, eventPlaces}
 use Rattle.ledger.specs.Demodulation.{demodOf}
-use Rattle.ledger.specs.Records.{recordOf, withRecords}
+use Rattle.ledger.specs.Records.{Sized, recordOf, withRecords}
 use Rattle.starts.specs.Starts.{remembered}
 use Rattle.starts.specs.declared.Starts.{Starts}
 use Rattle.waiting.specs.Waiting.{waitingOf}
 use Rattle.waiting.specs.declared.Waiting.{Waiting}
 use Rattle.scan.specs.declared.Scanned.{Scanned}
-
--- each record has its 120 bytes
-abbrev pub AllSized : List (List ℕ) → Type 0
-AllSized [] = Unit
-AllSized (r ∷ rs) = (length r ≡ recordSize) × AllSized rs
 
 -- the ledger l is what starts, open messages, the count of records and the event buffer stand for, in a call that found the buffer as `old`
 pub record Midway (l : Ledger byEntry) (old : List ℕ) (s : Starts) (w : Waiting) (n : ℕ) (e : List ℕ) : Type 0 where
@@ -31,7 +26,7 @@ pub record Midway (l : Ledger byEntry) (old : List ℕ) (s : Starts) (w : Waitin
   pub waiting : waitingOf w ≡ l .waiting
   pub count : n ≡ length (l .heard)
   pub events : e ≡ withRecords (map recordOf (map ofFrame (l .heard))) old
-  pub sized : AllSized (map recordOf (map ofFrame (l .heard)))
+  pub sized : Sized (map recordOf (map ofFrame (l .heard)))
 
 -- what is handed to a scan is as 01 accepts it, and what is lent as long as it asks
 pub record Lent (rate base wait : ℕ) (held : List Float) (e : List ℕ) (x : List Float) : Type 0 where
