@@ -157,6 +157,16 @@ pub fn opened(f: UplinkFrame, r: Reception) -> Pending
     }
 }
 
+// What was open, with its message as it is after a frame at a time: `last` is that time, were it before that of a frame that had joined.
+fn joined(p: Pending, message: SigfoxMessage, time: f64) -> Pending
+    ensures { λ q. ⌜ q ≡ record { message = message; last = time } ⌝ }
+{
+    let mut q = p;
+    q.message = message;
+    q.last = time;
+    q
+}
+
 // The message with one more frame.
 pub fn merged(p: Pending, f: UplinkFrame, r: Reception) -> Pending
     ensures { λ q. ⌜ q ≡ merge p (frameOf f r) ⌝ }
@@ -187,10 +197,7 @@ pub fn merged(p: Pending, f: UplinkFrame, r: Reception) -> Pending
         clock_error_ppm: m.clock_error_ppm,
         start: m.start,
     };
-    Pending {
-        message,
-        last: r.time,
-    }
+    joined(p, message, r.time)
 }
 
 // ---- `expire`

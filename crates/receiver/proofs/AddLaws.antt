@@ -4,7 +4,7 @@ use mathlib.Core.List.{List, append-nil}
 use mathlib.Core.Path.{_≡_, _∙_, ap, refl, sym}
 use Prim.Native.Nat.{ℕ, _+_, _-_, _<_}
 use native.Mathlib.Omega.{arith}
-use lib.ListN.{length, take, take-append-drop}
+use lib.ListN.{length, take-append-drop}
 use lib.Seq.{paste}
 use lib.Ieee.{Float}
 use borrow.Author.Tests.{ne-eqb}
@@ -18,11 +18,10 @@ use Rattle.waiting.specs.Waiting.{waitingOf}
 use Rattle.waiting.specs.declared.Waiting.{Waiting}
 use Rattle.waiting.proofs.WaitingLaws.{none-expires}
 use Rattle.scan.specs.declared.Scanned.{Scanned}
-use Rattle.receiver.specs.State.{ledgerOf}
 use Rattle.receiver.specs.Running.{Passes, Answers, Addable, Adds, Added}
 use Rattle.receiver.specs.declared.SigfoxReceiver.{SigfoxReceiver}
 use Rattle.receiver.specs.declared.Received.{Received}
-use Rattle.receiver.proofs.FillLaws.{FillAt, fill-turn, fill-still}
+use Rattle.receiver.proofs.FillLaws.{fill-turn, fill-still}
 use Rattle.receiver.proofs.RunLaws.{Done, allIn, lastBuffer, held-is, waiting-few, fill-start, fill-end, ends-push, ended}
 
 -- ---- what is not full drops nothing

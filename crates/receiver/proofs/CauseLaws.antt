@@ -1,5 +1,5 @@
 -- The causes by their subjects are the ledger's. Assumes nothing.
-use mathlib.Core.Bool.{Bool, _&&_, _||_, cond, false, not, true}
+use mathlib.Core.Bool.{Bool, _||_, cond, false, not, true}
 use mathlib.Core.List.{List, [], _∷_}
 use mathlib.Core.Logic.{⊎-elim}
 use mathlib.Core.Path.{_∙_, _≡_, refl, sym}
@@ -11,16 +11,17 @@ use lib.Ieee.{Float}
 use lib.ListN.{getD, length}
 use borrow.Author.Tests.{le-ltb, lt-ltb, ltb-false}
 use Rattle.ledger.specs.Causes.{Lent, allFit, anyNan, callCause, cause, orderly, tooShort, unlike, waitingAtPush}
-use Rattle.ledger.proofs.Basics.{and-true, either}
+use Rattle.ledger.proofs.Basics.{either}
 use Rattle.ledger.specs.Ledger.{byEntry, capacity, flush, push}
 use Rattle.ledger.specs.Room.{Below}
 use Rattle.limits.specs.Limits.{badNumber, badRate, badSample, badState, eventsSize, long, longestStream, scratch64, short, stream}
 use Rattle.limits.specs.Samples.{allDbm, rateOk}
-use Rattle.receiver.proofs.StateLaws.{orderly-is, samples-fit}
-use Rattle.receiver.specs.State.{countsOf, givenCause, ledgerOf, orderCause, samplesOk, stateCause}
+use Rattle.receiver.proofs.StateLaws.{orderly-is}
+use Rattle.receiver.specs.State.{countsOf, givenCause, ledgerOf, messagesCause, samplesOk, stateCause}
 use Rattle.limits.specs.Limits as limits
 use Rattle.waiting.specs.Waiting as waiting
 use Rattle.waiting.specs.declared.Condition.{Condition}
+use Rattle.waiting.specs.declared.Waiting.{Waiting}
 use Rattle.receiver.specs.declared.SigfoxReceiver.{SigfoxReceiver}
 
 -- ---- three tests, then what follows
@@ -76,6 +77,11 @@ module _ (rate : ℕ) (b : Lent) (n : ℕ) where
   unfolding givenCause
   given-none e f h = rw (e, f, le-ltb (capacity rate) n h) refl
 
+-- cause 5 or 9 of a state
+unfoldable pub orderCause : SigfoxReceiver → List Float → ℕ
+orderCause s buf =
+    cond (not (orderly (s .rate) (countsOf s) (ledgerOf s buf))) badState (cond (anyNan byEntry (waiting.waitingOf (s .waiting))) badNumber 0)
+
 module _ (s : SigfoxReceiver) (buf : List Float) (b : Lent) where
   pub push-is : (xs : List Float) → pick (rateOk (s .rate)) (tooShort (s .rate) b) (ltb (capacity (s .rate)) (length xs))
       (cond (not (allDbm xs)) badSample (stateCause s buf (length xs))) ≡ cause (s .rate) b (countsOf s) (ledgerOf s buf) (push xs)
@@ -118,6 +124,20 @@ module _ (s : SigfoxReceiver) (buf : List Float) (b : Lent) where
 
 -- ---- the state's causes
 
+-- no message, none out of order
+pub none-wait : (w : Waiting) → w .count ≡ 0 → 0 ≡ messagesCause w
+unfolding messagesCause unlike allFit anyNan
+none-wait w z = rw z refl
+
+module _ (w : Waiting) (r : Condition) (k : waiting.Checked w r) where
+  pub messages-order : r .ok ≡ false → badState ≡ messagesCause w
+  unfolding messagesCause
+  messages-order f = rw (sym (k .ok) ∙ f) refl
+
+  pub messages-nan : r .ok ≡ true → (x : ℕ) → x ≡ cond (r .nan) badNumber 0 → x ≡ messagesCause w
+  unfolding messagesCause
+  messages-nan f x g = g ∙ rw (sym (k .ok) ∙ f, k .nan f) refl
+
 module _ (s : SigfoxReceiver) (buf : List Float) where
   abbrev ok : Bool
   ok = samplesOk (s .rate) (s .held) (s .base) (s .unscanned) (s .starts) buf
@@ -126,20 +146,9 @@ module _ (s : SigfoxReceiver) (buf : List Float) where
   unfolding orderCause
   order-samples e = rw (orderly-is s buf, e) refl
 
-  module _ (e : ok ≡ true) where
-    -- no message, none out of order
-    pub order-empty : s .waiting .count ≡ 0 → 0 ≡ orderCause s buf
-    unfolding orderCause unlike allFit anyNan
-    order-empty z = rw (orderly-is s buf, e, z) refl
-
-    module _ (r : Condition) (k : waiting.Checked (s .waiting) r) where
-      pub order-messages : r .ok ≡ false → badState ≡ orderCause s buf
-      unfolding orderCause
-      order-messages f = rw (orderly-is s buf, e, sym (k .ok) ∙ f) refl
-
-      pub order-nan : r .ok ≡ true → (x : ℕ) → x ≡ cond (r .nan) badNumber 0 → x ≡ orderCause s buf
-      unfolding orderCause
-      order-nan f x g = g ∙ rw (orderly-is s buf, e, sym (k .ok) ∙ f, k .nan f) refl
+  pub order-messages : ok ≡ true → messagesCause (s .waiting) ≡ orderCause s buf
+  unfolding orderCause messagesCause
+  order-messages e = rw (orderly-is s buf, e) refl
 
   module _ (n x : ℕ) (h : x ≡ orderCause s buf) where
     orders : (x ≡ badState → ⊥) → orderly (s .rate) (countsOf s) (ledgerOf s buf) ≡ true
@@ -159,23 +168,13 @@ module _ (s : SigfoxReceiver) (buf : List Float) where
         no-five false q = omega arith
 
     module _ (g : x ≡ badState → ⊥) where
-      pub state-fits : s .base + s .held ≤ longestStream
-      state-fits =
-          samples-fit (s .rate) (s .held) (s .base) (s .unscanned) (s .starts) buf
-          (and-true ok (waiting.waitingOk (s .waiting)) (sym (orderly-is s buf) ∙ orders g) .0) .1
-
       pub state-waiting : waitingAtPush < s .waiting .count → limits.waiting ≡ stateCause s buf n
       unfolding stateCause
       state-waiting q = rw (orders g, lt-ltb waitingAtPush (s .waiting .count) q) refl
 
-      module _ (q : s .waiting .count ≤ waitingAtPush) where
-        pub state-stream : longestStream < s .base + s .held + n → stream ≡ stateCause s buf n
-        unfolding stateCause
-        state-stream p = rw (orders g, le-ltb waitingAtPush (s .waiting .count) q, lt-ltb longestStream (s .base + s .held + n) p) refl
-
-        pub state-last : s .base + s .held + n ≤ longestStream → x ≡ stateCause s buf n
-        unfolding orderCause stateCause
-        state-last p = h ∙ rw (orders g, le-ltb waitingAtPush (s .waiting .count) q, le-ltb longestStream (s .base + s .held + n) p) refl
+      pub state-last : s .waiting .count ≤ waitingAtPush → (y : ℕ) → y ≡ cond (ltb longestStream (s .base + s .held + n)) stream x → y ≡ stateCause s buf n
+      unfolding orderCause stateCause
+      state-last q y p = p ∙ rw (h, orders g, le-ltb waitingAtPush (s .waiting .count) q) refl
 
 pub below-all : (hi : ℕ) (l : List ℕ) → ((i : ℕ) → i < length l → getD l i 0 < hi) → Below hi l
 below-all hi [] h = tt

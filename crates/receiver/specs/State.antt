@@ -13,6 +13,7 @@ use Rattle.ledger.specs.Causes.{Counts, Lent, tooShort, waitingAtPush, orderly,
 use Rattle.starts.specs.Starts as starts
 use Rattle.waiting.specs.Waiting as waiting
 use Rattle.starts.specs.declared.Starts.{Starts}
+use Rattle.waiting.specs.declared.Waiting.{Waiting}
 use Rattle.receiver.specs.declared.SigfoxReceiver.{SigfoxReceiver}
 use Rattle.receiver.specs.declared.Lengths.{Lengths}
 
@@ -66,10 +67,9 @@ samplesOk rate held base unscanned s buf =
 unfoldable pub givenCause : ℕ → Lent → ℕ → ℕ
 givenCause rate b n = cond (not (rateOk rate)) badRate (cond (tooShort rate b) short (cond (ltb (capacity rate) n) long 0))
 
--- cause 5 or 9 of a state
-unfoldable pub orderCause : SigfoxReceiver → List Float → ℕ
-orderCause s buf =
-    cond (not (orderly (s .rate) (countsOf s) (ledgerOf s buf))) badState (cond (anyNan byEntry (waiting.waitingOf (s .waiting))) badNumber 0)
+-- cause 5 or 9 of a state's messages
+unfoldable pub messagesCause : Waiting → ℕ
+messagesCause w = cond (not (waiting.waitingOk w)) badState (cond (anyNan byEntry (waiting.waitingOf w)) badNumber 0)
 
 -- causes 5 to 9 of a push of n samples
 unfoldable pub stateCause : SigfoxReceiver → List Float → ℕ → ℕ

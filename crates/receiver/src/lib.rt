@@ -1,14 +1,18 @@
 // The receiver's state (receiver.rs `SigfoxReceiver`), and the causes for which a call is refused, by number.
 ghost use mathlib.Core.Path.{_≡_};
-ghost use Prim.Native.Nat.{_≤_};
+ghost use mathlib.Core.Bool.{cond};
+ghost use Prim.Native.Nat.{_+_, _^_, _≤_, _<_};
 ghost use lib.ListN.{length};
+ghost use lib.Dec.{ltb};
+ghost use Rattle.limits.specs.Limits.{longestStream, stream};
 ghost use Rattle.ledger.specs.Ledger.{capacity, push, pushRaw, flush};
 ghost use Rattle.ledger.specs.Causes.{tooShort, cause};
-ghost use Rattle.receiver.specs.State.{newState, ledgerOf, countsOf, lentOf, numbersOk, samplesOk, givenCause, orderCause, stateCause};
+ghost use Rattle.receiver.specs.State.{newState, ledgerOf, countsOf, lentOf, numbersOk, samplesOk, givenCause, messagesCause, stateCause};
 ghost use Rattle.receiver.specs.Calls.{Answered};
 
 mod run; // an accepted call
 
+use ledger::Pending;
 use starts::Starts;
 use waiting::Waiting;
 
@@ -211,20 +215,11 @@ fn given_cause(rate: u32, lent: Lengths, n: usize) -> u8
     0
 }
 
-// Cause 5 or 9 of a given state; 0 for none. The messages are handed on only where there are any: they are large.
-fn order_cause(s: SigfoxReceiver, samples: &[f32]) -> u8
-    requires { ⌜ capacity (s .rate) ≤ length (now samples) ⌝ }
-    ensures { λ r. ⌜ r ≡ orderCause s (now (samples .entry)) ⌝ }
+// Cause 5 or 9 of the first n messages; 0 for none.
+fn messages_cause(messages: [Pending; 168], n: usize) -> u8
+    ensures { λ r. ⌜ r ≡ messagesCause (record { messages = messages; count = n }) ⌝ }
 {
-    let starts = s.starts;
-    if !samples_in_order(s.rate, s.held, s.base, s.unscanned, starts, samples) {
-        return limits::BAD_STATE;
-    }
-    if s.waiting.count == 0 {
-        return 0;
-    }
-    let waiting = s.waiting;
-    let c = waiting::check(waiting);
+    let c = waiting::check(messages, n);
     if !c.ok {
         return limits::BAD_STATE;
     }
@@ -234,22 +229,39 @@ fn order_cause(s: SigfoxReceiver, samples: &[f32]) -> u8
     0
 }
 
-// Causes 5 to 9 of a push of n samples; 0 for none.
+// Cause 7 of a push of n samples, or else the one given.
+fn stream_cause(base: u64, held: usize, n: usize, other: u8) -> u8
+    requires { ⌜ base + held + n < 2 ^ 64 ⌝ }
+    ensures { λ r. ⌜ r ≡ cond (ltb longestStream (base + held + n)) stream other ⌝ }
+{
+    if limits::LONGEST_STREAM < base + (held as u64) + (n as u64) {
+        return limits::STREAM;
+    }
+    other
+}
+
+// Causes 5 to 9 of a push of n samples; 0 for none. The messages are handed on only where there are any: they are large.
 fn state_cause(s: SigfoxReceiver, samples: &[f32], n: usize) -> u8
     requires { ⌜ (capacity (s .rate) ≤ length (now samples)) × (n ≤ capacity (s .rate)) ⌝ }
     ensures { λ r. ⌜ r ≡ stateCause s (now (samples .entry)) n ⌝ }
 {
-    let order = order_cause(s, samples);
+    let starts = s.starts;
+    if !samples_in_order(s.rate, s.held, s.base, s.unscanned, starts, samples) {
+        return limits::BAD_STATE;
+    }
+    let count = s.waiting.count;
+    if count == 0 {
+        return stream_cause(s.base, s.held, n, 0);
+    }
+    let messages = s.waiting.messages;
+    let order = messages_cause(messages, count);
     if order == limits::BAD_STATE {
         return order;
     }
-    if WAITING_AT_PUSH < s.waiting.count {
+    if WAITING_AT_PUSH < count {
         return limits::WAITING;
     }
-    if limits::LONGEST_STREAM < s.base + (s.held as u64) + (n as u64) {
-        return limits::STREAM;
-    }
-    order
+    stream_cause(s.base, s.held, n, order)
 }
 
 // The cause of a push, the first by number; 0 for none.
@@ -288,5 +300,14 @@ pub fn flush_cause(s: SigfoxReceiver, samples: &[f32], lent: Lengths) -> u8
     if 1 <= given {
         return given;
     }
-    order_cause(s, samples)
+    let starts = s.starts;
+    if !samples_in_order(s.rate, s.held, s.base, s.unscanned, starts, samples) {
+        return limits::BAD_STATE;
+    }
+    let count = s.waiting.count;
+    if count == 0 {
+        return 0;
+    }
+    let messages = s.waiting.messages;
+    messages_cause(messages, count)
 }

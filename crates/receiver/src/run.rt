@@ -103,8 +103,9 @@ fn only_adds(s: SigfoxReceiver, n: usize) -> bool
     if s.waiting.count == 0 {
         return true;
     }
-    let waiting = s.waiting;
-    !waiting::any_expires(waiting, scan::seconds(s.rate, s.base + (held as u64)))
+    let messages = s.waiting.messages;
+    let time = scan::seconds(s.rate, s.base + (held as u64));
+    !waiting::any_expires(messages, s.waiting.count, time)
 }
 
 // An accepted push that only adds its samples.

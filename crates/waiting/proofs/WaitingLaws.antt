@@ -16,7 +16,7 @@ use borrow.Author.Tests.{eq-eqb, eqb-false, eqb-true, le-leb, lt-leb, ne-eqb}
 use Rattle.floats.specs.Number.{num}
 use Rattle.ledger.specs.Causes.{allFit, anyNan, entryFits, entryNan, mostWaiting, unlike, waits}
 use Rattle.ledger.specs.Demand3.{message}
-use Rattle.ledger.specs.Frames.{keyOf, same}
+use Rattle.ledger.specs.Frames.{keyOf}
 use Rattle.ledger.specs.Ledger.{byEntry, chosen, join, messages, others}
 use Rattle.ledger.specs.Merge.{entryKey, expires, merge, openEntry}
 use Rattle.ledger.specs.Room.{openPlaces}
@@ -83,7 +83,7 @@ module _ (f : UplinkFrame) (r : Reception) where
   join-there : (l : List Pending) (z : Pending) → findKey (f .«device_id») (f .counter) l < length l
       → join byEntry (frameOf f r) l
       ≡ set l (findKey (f .«device_id») (f .counter) l) (merge (getD l (findKey (f .«device_id») (f .counter) l) z) (frameOf f r))
-  unfolding findKey join keyOf
+  unfolding findKey join keyOf entryKey
   join-there [] z h = absurd (not-suc-le-zero h)
   join-there (p ∷ l) z h =
       ⊎-elim
@@ -92,7 +92,7 @@ module _ (f : UplinkFrame) (r : Reception) where
       (either (keyIs (f .«device_id») (f .counter) p))
 
   join-opens : (l : List Pending) → length l ≤ findKey (f .«device_id») (f .counter) l → join byEntry (frameOf f r) l ≡ l ++ (openEntry (frameOf f r) ∷ [])
-  unfolding findKey join keyOf
+  unfolding findKey join keyOf entryKey
   join-opens [] h = refl
   join-opens (p ∷ l) h =
       ⊎-elim

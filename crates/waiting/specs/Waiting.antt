@@ -2,15 +2,14 @@
 use mathlib.Core.Path.{_≡_}
 use mathlib.Core.List.{List, [], _∷_, _++_, map}
 use mathlib.Core.Bool.{Bool, true, false, not, _&&_, _||_, cond}
-use Prim.Native.Nat.{ℕ, zero, suc, _+_, _*_, _<_}
+use Prim.Native.Nat.{ℕ, suc, _+_, _*_, _<_}
 use lib.ListN.{length, take, drop, replicate}
 use lib.Dec.{leb, eqb}
 use lib.IntN.{pos}
 use lib.Ieee.{Float}
 use Rattle.floats.specs.Number.{num}
-use Rattle.ledger.specs.Frames.{Key, same}
-use Rattle.ledger.specs.Merge.{entryKey, expires}
-use Rattle.ledger.specs.Ledger.{byEntry, others}
+use Rattle.ledger.specs.Merge.{expires}
+use Rattle.ledger.specs.Ledger.{byEntry}
 use Rattle.ledger.specs.Causes.{mostWaiting, unlike, allFit, anyNan}
 use Rattle.ledger.specs.Room.{openPlaces}
 use Rattle.ledger.specs.declared.Pending.{Pending}
@@ -26,7 +25,7 @@ abbrev pub waitingOf : Waiting → List Pending
 waitingOf w = take (w .count) (w .messages)
 
 abbrev pub keyIs : ℕ → ℕ → Pending → Bool
-keyIs d c p = same (entryKey p) (record { device = d; counter = c })
+keyIs d c p = eqb (p .message .«device_id») d && eqb (p .message .counter) c
 
 -- the place of the first message with a key, the length where there is none
 unfoldable pub findKey : ℕ → ℕ → List Pending → ℕ

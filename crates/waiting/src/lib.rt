@@ -1,12 +1,10 @@
 // The open messages (receiver.rs `pending`), in the order in which they were opened: a frame joins one or opens one, and some are kept when a call ends.
 ghost use mathlib.Core.Path.{_≡_};
 ghost use mathlib.Core.Bool.{true, cond, _||_};
-ghost use mathlib.Core.List.{[]};
 ghost use Prim.Native.Nat.{_+_, _≤_, _<_};
 ghost use lib.ListN.{length, take};
 ghost use lib.Seq.{slice};
-ghost use Rattle.ledger.specs.Frames.{same};
-ghost use Rattle.ledger.specs.Merge.{entryKey, expires};
+ghost use Rattle.ledger.specs.Merge.{expires};
 ghost use Rattle.ledger.specs.Ledger.{byEntry, join, others};
 ghost use Rattle.ledger.specs.Causes.{anyNan};
 ghost use Rattle.ledger.specs.Room.{openPlaces};
@@ -141,15 +139,14 @@ pub fn none() -> Waiting
     }
 }
 
-// Whether a push writes one of the messages.
-pub fn any_expires(w: Waiting, now: f64) -> bool
-    requires { ⌜ w .count ≤ openPlaces ⌝ }
-    ensures { λ r. ⌜ r ≡ anyExpires now (waitingOf w) ⌝ }
+// Whether a push writes one of the first n messages.
+pub fn any_expires(messages: [Pending; 168], n: usize, now: f64) -> bool
+    requires { ⌜ n ≤ openPlaces ⌝ }
+    ensures { λ r. ⌜ r ≡ anyExpires now (take n messages) ⌝ }
 {
-    let n = w.count;
     let mut i: usize = 0;
     while i < n {
-        if message::expires(w.messages[i], now) {
+        if message::expires(messages[i], now) {
             return true;
         }
         i += 1;
@@ -188,18 +185,17 @@ fn key_of(p: Pending) -> u64
     (m.device_id as u64) * COUNTERS + (m.counter as u64)
 }
 
-// One look at every message, so that the array is handed on once.
-fn look(w: Waiting) -> Looked
-    requires { ⌜ w .count ≤ openPlaces ⌝ }
-    ensures { λ r. ⌜ Seen (waitingOf w) r ⌝ }
+// One look at each of the first n messages, so that the array is handed on once.
+fn look(messages: [Pending; 168], n: usize) -> Looked
+    requires { ⌜ n ≤ openPlaces ⌝ }
+    ensures { λ r. ⌜ Seen (take n messages) r ⌝ }
 {
-    let n = w.count;
     let mut keys = [0u64; 168];
     let mut fit = true;
     let mut nans = false;
     let mut i: usize = 0;
     while i < n {
-        let p = w.messages[i];
+        let p = messages[i];
         keys[i] = key_of(p);
         let fits = message::fits(p);
         let lost = message::has_nan(p);
@@ -244,18 +240,17 @@ fn all_distinct(keys: &[u64], n: usize) -> bool
     true
 }
 
-// Whether the messages of a state are in order, and whether one has a NaN.
-pub fn check(w: Waiting) -> Condition
-    ensures { λ r. ⌜ Checked w r ⌝ }
+// Whether the first n messages are in order, and whether one has a NaN.
+pub fn check(messages: [Pending; 168], n: usize) -> Condition
+    ensures { λ r. ⌜ Checked (record { messages = messages; count = n }) r ⌝ }
 {
-    let n = w.count;
     if MOST_WAITING < n {
         return Condition {
             ok: false,
             nan: false,
         };
     }
-    let l = look(w);
+    let l = look(messages, n);
     let keys = l.keys;
     let different = all_distinct(&keys, n);
     Condition {

@@ -12,10 +12,10 @@ use Rattle.waiting.proofs.any_expires.Statement.{statement}
 use Rattle.waiting.proofs.any_expires.Tie as tie
 
 abbrev Inv-loop : tie.InvT-loop
-Inv-loop now w n i₀ i = (i ≤ n) × (anyExpires now (take n (w .messages)) ≡ anyExpires now (slice i n (w .messages)))
+Inv-loop n now messages i₀ i = (i ≤ n) × (anyExpires now (take n messages) ≡ anyExpires now (slice i n messages))
 
 abbrev μ-loop : tie.MeasureT-loop
-μ-loop now w n i₀ i = n - i
+μ-loop n now messages i₀ i = n - i
 
 loop-holds : tie.Need-loop-holds Inv-loop μ-loop
 loop-holds c = (search needs, refl)
@@ -23,8 +23,8 @@ loop-holds c = (search needs, refl)
 mul-expires : tie.Need-mul-expires Inv-loop μ-loop
 mul-expires c = search needs
 
-element-copy-out-expires : tie.Need-element-copy-out-expires Inv-loop μ-loop
-element-copy-out-expires c = search needs
+array-copy-out-expires : tie.Need-array-copy-out-expires Inv-loop μ-loop
+array-copy-out-expires c = search needs
 
 expires-requires : tie.Need-expires-requires Inv-loop μ-loop
 expires-requires c κs = search needs
@@ -32,8 +32,8 @@ expires-requires c κs = search needs
 returns : tie.Need-returns Inv-loop μ-loop
 returns c = let a = c .before .before .before .before .before .args in
     let l = c .before .before .before .before .loop in
-    let h : length (a .t1 .messages) ≡ 168 = search (needs, length-mapped) in
-    sym (l .inv .1 ∙ expires-hit (a .t1 .messages) (a .t1 .count) (l .i) (a .now) outside-message (omega arith) (omega arith) (sym (c .before .expires .ensures) ∙ c .if1 .taken))
+    let h : length (a .t1) ≡ 168 = search (needs, length-mapped) in
+    sym (l .inv .1 ∙ expires-hit (a .t1) (a .n) (l .i) (a .now) outside-message (omega arith) (omega arith) (sym (c .before .expires .ensures) ∙ c .if1 .taken))
 
 add-i : tie.Need-add-i Inv-loop μ-loop
 add-i c = search needs
@@ -44,15 +44,15 @@ loop-less c = search needs
 loop-again : tie.Need-loop-again Inv-loop μ-loop
 loop-again c = let a = c .before .before .before .before .before .args in
     let l = c .before .before .before .before .loop in
-    let h : length (a .t1 .messages) ≡ 168 = search (needs, length-mapped) in
-    (omega arith, l .inv .1 ∙ expires-miss (a .t1 .messages) (a .t1 .count) (l .i) (a .now) outside-message (omega arith) (omega arith) (sym (c .before .expires .ensures) ∙ c .if1 .left))
+    let h : length (a .t1) ≡ 168 = search (needs, length-mapped) in
+    (omega arith, l .inv .1 ∙ expires-miss (a .t1) (a .n) (l .i) (a .now) outside-message (omega arith) (omega arith) (sym (c .before .expires .ensures) ∙ c .if1 .left))
 
 returns-2 : tie.Need-returns-2 Inv-loop μ-loop
 unfolding anyExpires
 returns-2 c = let a = c .before .before .args in
     let l = c .before .loop in
-    let e : l .i ≡ a .t1 .count = omega arith in
-    sym (l .inv .1 ∙ rw (e, slice-empty (a .t1 .count) (a .t1 .messages)) refl)
+    let e : l .i ≡ a .n = omega arith in
+    sym (l .inv .1 ∙ rw (e, slice-empty (a .n) (a .t1)) refl)
 
 pub any-expires-spec : {M : Type 1} → statement M
 any-expires-spec =
@@ -62,7 +62,7 @@ any-expires-spec =
     μ-loop
     loop-holds
     mul-expires
-    element-copy-out-expires
+    array-copy-out-expires
     expires-requires
     returns
     add-i

@@ -11,7 +11,8 @@ use Rattle.waiting.proofs.check.Statement.{statement}
 use Rattle.waiting.proofs.check.Tie as tie
 
 returns : tie.Need-returns
-returns c = too-many (c .before .args .w) (record { ok = false; nan = false }) (c .if1 .taken) refl
+returns c = let a = c .before .args in
+    too-many (record { messages = a .messages; count = a .n }) (record { ok = false; nan = false }) (c .if1 .taken) refl
 
 look-requires : tie.Need-look-requires
 look-requires c κs = search needs
@@ -26,8 +27,8 @@ all-distinct-requires c κs = let h : length (c .before .before .look .result .k
 returns-2 : tie.Need-returns-2
 returns-2 c = let a = c .before .before .before .before .before .before .args in
     let g = c .before .before .before .before .before .before .good .0 in
-    let h : length (a .w .messages) ≡ 168 = search (needs, length-mapped, g) in
-    checked-is (a .w) (c .before .before .before .before .look .result) (c .before .all-distinct .result) _ (omega (arith, c .before .before .before .before .before .if1 .left)) h (c .before .before .before .before .look .ensures) (c .before .all-distinct .ensures) refl
+    let h : length (a .messages) ≡ 168 = search (needs, length-mapped, g) in
+    checked-is (record { messages = a .messages; count = a .n }) (c .before .before .before .before .look .result) (c .before .all-distinct .result) _ (omega (arith, c .before .before .before .before .before .if1 .left)) h (c .before .before .before .before .look .ensures) (c .before .all-distinct .ensures) refl
 
 pub check-spec : {M : Type 1} → statement M
 check-spec =

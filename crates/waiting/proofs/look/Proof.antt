@@ -13,15 +13,15 @@ use Rattle.ledger.specs.Ledger.{byEntry}
 use Rattle.ledger.specs.Room.{openPlaces}
 use Rattle.message.proofs.SpanLaws.{length-mapped}
 use Rattle.waiting.proofs.WaitingLaws.{counters-turn, fit-turn, key-turn, nan-turn, outside-message, seen-is}
-use Rattle.waiting.specs.Waiting.{Counters, keyNumber, waitingOf}
+use Rattle.waiting.specs.Waiting.{Counters, keyNumber}
 use Rattle.waiting.proofs.look.Statement.{statement}
 use Rattle.waiting.proofs.look.Tie as tie
 
 abbrev Inv-loop : tie.InvT-loop
-Inv-loop w n keys₀ fit₀ nans₀ i₀ keys fit nans i = (i ≤ n) × (length keys ≡ openPlaces) × (take i keys ≡ map keyNumber (take i (w .messages))) × Counters (take i (w .messages)) × (fit && allFit byEntry (slice i n (w .messages)) ≡ allFit byEntry (take n (w .messages))) × (nans || anyNan byEntry (slice i n (w .messages)) ≡ anyNan byEntry (take n (w .messages)))
+Inv-loop n messages keys₀ fit₀ nans₀ i₀ keys fit nans i = (i ≤ n) × (length keys ≡ openPlaces) × (take i keys ≡ map keyNumber (take i messages)) × Counters (take i messages) × (fit && allFit byEntry (slice i n messages) ≡ allFit byEntry (take n messages)) × (nans || anyNan byEntry (slice i n messages) ≡ anyNan byEntry (take n messages))
 
 abbrev μ-loop : tie.MeasureT-loop
-μ-loop w n keys₀ fit₀ nans₀ i₀ keys fit nans i = n - i
+μ-loop n messages keys₀ fit₀ nans₀ i₀ keys fit nans i = n - i
 
 loop-holds : tie.Need-loop-holds Inv-loop μ-loop
 loop-holds c = (search needs, refl, refl, tt, refl, refl)
@@ -29,8 +29,8 @@ loop-holds c = (search needs, refl, refl, tt, refl, refl)
 mul-p : tie.Need-mul-p Inv-loop μ-loop
 mul-p c = search needs
 
-element-copy-out-p : tie.Need-element-copy-out-p Inv-loop μ-loop
-element-copy-out-p c = search needs
+array-copy-out-p : tie.Need-array-copy-out-p Inv-loop μ-loop
+array-copy-out-p c = search needs
 
 key-of-requires : tie.Need-key-of-requires Inv-loop μ-loop
 key-of-requires c κs = search needs
@@ -57,21 +57,21 @@ loop-again : tie.Need-loop-again Inv-loop μ-loop
 loop-again c = let a = c .before .before .before .before .before .before .args in
     let l = c .before .before .before .before .before .loop in
     let k = c .before .before .key-of in
-    let h : length (a .t1 .messages) ≡ 168 = search (needs, length-mapped) in
-    let here : l .i < a .t1 .count = c .before .before .before .before .loop-test .taken in (
+    let h : length (a .t1) ≡ 168 = search (needs, length-mapped) in
+    let here : l .i < a .n = c .before .before .before .before .loop-test .taken in (
       omega arith,
       simp length-set (l .inv .1),
-      key-turn (l .keys) (a .t1 .messages) (l .i) (k .result) outside-message (omega (arith, l .inv .1)) (omega arith) (l .inv .2) (k .ensures .0),
-      counters-turn (a .t1 .messages) (l .i) outside-message (omega arith) (l .inv .3) (k .ensures .1),
-      fit-turn (a .t1 .messages) (a .t1 .count) (l .i) outside-message here (omega arith) (l .fit) (c .before .fits2 .result) (allFit byEntry (waitingOf (a .t1))) (c .before .fits2 .ensures) (l .inv .4),
-      nan-turn (a .t1 .messages) (a .t1 .count) (l .i) outside-message here (omega arith) (l .nans) (c .has-nan .result) (anyNan byEntry (waitingOf (a .t1))) (c .has-nan .ensures) (l .inv .5),
+      key-turn (l .keys) (a .t1) (l .i) (k .result) outside-message (omega (arith, l .inv .1)) (omega arith) (l .inv .2) (k .ensures .0),
+      counters-turn (a .t1) (l .i) outside-message (omega arith) (l .inv .3) (k .ensures .1),
+      fit-turn (a .t1) (a .n) (l .i) outside-message here (omega arith) (l .fit) (c .before .fits2 .result) (allFit byEntry (take (a .n) (a .t1))) (c .before .fits2 .ensures) (l .inv .4),
+      nan-turn (a .t1) (a .n) (l .i) outside-message here (omega arith) (l .nans) (c .has-nan .result) (anyNan byEntry (take (a .n) (a .t1))) (c .has-nan .ensures) (l .inv .5),
     )
 
 returns : tie.Need-returns Inv-loop μ-loop
 returns c = let a = c .before .before .args in
     let l = c .before .loop in
-    let h : length (a .t1 .messages) ≡ 168 = search (needs, length-mapped) in
-    seen-is (a .t1 .messages) (record { keys = l .keys; fit = l .fit; nan = l .nans }) (a .t1 .count) (l .i) (omega arith) (omega arith) (l .inv .2) (l .inv .3) (l .inv .4) (l .inv .5)
+    let h : length (a .t1) ≡ 168 = search (needs, length-mapped) in
+    seen-is (a .t1) (record { keys = l .keys; fit = l .fit; nan = l .nans }) (a .n) (l .i) (omega arith) (omega arith) (l .inv .2) (l .inv .3) (l .inv .4) (l .inv .5)
 
 pub look-spec : {M : Type 1} → statement M
 look-spec =
@@ -81,7 +81,7 @@ look-spec =
     μ-loop
     loop-holds
     mul-p
-    element-copy-out-p
+    array-copy-out-p
     key-of-requires
     mul-keys
     array-write-keys

@@ -1,5 +1,4 @@
 -- `receiver::run::hear` meets its contract. Assumes nothing.
-use mathlib.Core.Path.{_≡_}
 use borrow.Author.Needs.{needs}
 use Rattle.receiver.proofs.AddLaws.{addable, added}
 use Rattle.receiver.proofs.run.hear.Statement.{statement}
