@@ -101,4 +101,4 @@ unfolding history callOf see allDbm le lt eq neg ofInt sub add mul div isNan rou
 computed = refl
 
 pub worked-out : (xs : List Exchange) → Run (freshPort 200 places) xs → map (λ x. x .asked) xs ≡ threeCalls → map turnFrom xs ≡ threeTurns
-worked-out xs run e = theorem 200 places xs run .as-ledger ∙ ap (runOf 200 (demodOf 200)) (attempts places xs ∙ ap (map (attemptWith places)) e) ∙ computed
+worked-out xs run e = theorem .holds 200 places xs run .as-ledger ∙ ap (runOf 200 (demodOf 200)) (attempts places xs ∙ ap (map (attemptWith places)) e) ∙ computed

@@ -8,8 +8,9 @@ use Rattle.ledger.specs.Causes.{number, afterCall}
 use Rattle.ledger.specs.Demodulation.{demodOf}
 use Rattle.ledger.specs.History.{history}
 use Rattle.ledger.proofs.Theorem.{demand3}
+use Rattle.receiver.proofs.Contracts.{contracts}
 use Rattle.history.specs.Runs.{Exchange, Port, Run, portAfter, freshPort, recordsFrom, turnFrom, attemptOf, callOf}
-use Rattle.history.specs.Theorem.{ledgerRecords, RefusedUntouched, RestKept, Theorem}
+use Rattle.history.specs.Theorem.{ledgerRecords, RefusedUntouched, RestKept, Holds, Theorem}
 use Rattle.history.proofs.Calls.{Stands, fresh-stands, turn, records, rest, untouched, next}
 
 module _ (rate : ℕ) (first : List Float) where
@@ -33,8 +34,8 @@ module _ (rate : ℕ) (first : List Float) where
         rest-kept = (rest rate first p l st x (run .0), w .rest-kept);
       }
 
-pub theorem : Theorem
-theorem rate samples xs run =
+every-run : (rate : ℕ) (samples : List Float) (xs : List Exchange) → Run (freshPort rate samples) xs → Holds rate samples xs
+every-run rate samples xs run =
     let w = walk rate samples (freshPort rate samples) fresh xs (fresh-stands rate samples) run in
     record {
       as-ledger = w .turns;
@@ -43,3 +44,6 @@ theorem rate samples xs run =
       rest-kept = w .rest-kept;
       claims = rw (w .turns) (demand3 rate (demodOf rate) (map (attemptOf samples) xs));
     }
+
+pub theorem : Theorem
+theorem = record { code = contracts; holds = every-run }

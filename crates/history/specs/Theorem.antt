@@ -1,6 +1,7 @@
 -- DEMAND 3 OF THE PORT: "Take every list of the calls push, push_raw and flush, refused ones included, from a fresh receiver." Assumes nothing.
 -- Read `Runs` first: a call is what the contracts of push, push_raw and flush say (`Answered`), a run is a list of calls in which "each gets the state that
 -- the last one returned and the sample buffer as the last one left it", and `turnFrom` is what a client reads off a call's number, count and bytes.
+-- That these are the contracts of the code is the field `code`.
 -- Then this file; then what it cites of the crate ledger, which has no word of the port: `Ledger` and `Causes` (01's ledger and its refusals), `Demodulation`
 -- (demand 2's frames), `Records` (the table's bytes and their readers), `Demand3` (the claims).
 use mathlib.Core.Path.{_≡_}
@@ -13,6 +14,7 @@ use Rattle.ledger.specs.Demodulation.{demodOf}
 use Rattle.ledger.specs.Records.{recordOf, withRecords}
 use Rattle.ledger.specs.Demand3.{Demand3}
 use Rattle.ledger.specs.History.{runOf}
+use Rattle.receiver.proofs.Contracts.{Contracts}
 use Rattle.history.specs.Runs.{Exchange, Port, memoryOf, portAfter, Run, freshPort, recordsFrom, turnFrom, attemptOf}
 
 -- ---- what is said of each call
@@ -53,9 +55,11 @@ pub record Holds (rate : ℕ) (samples : List Float) (xs : List Exchange) : Type
   -- them are of what a client reads off the bytes, in the whole history
   pub claims : Demand3 rate (map turnFrom xs)
 
--- "A fresh receiver has any rate", "The sample buffer has any length and first contents; event buffer and scratch may be others at each call, of any length"
-abbrev pub Theorem : Type 0
-Theorem = (rate : ℕ) (samples : List Float) (xs : List Exchange) → Run (freshPort rate samples) xs → Holds rate samples xs
+pub record Theorem : Type 0 where
+  -- the calls of a run are those of the code: what its contracts tell a caller is what `Runs` is made of, and they ask nothing (receiver's proofs/Contracts.antt)
+  pub code : Contracts
+  -- "A fresh receiver has any rate", "The sample buffer has any length and first contents; event buffer and scratch may be others at each call, of any length"
+  pub holds : (rate : ℕ) (samples : List Float) (xs : List Exchange) → Run (freshPort rate samples) xs → Holds rate samples xs
 
 -- ---- WRONG PROGRAMS, and the fields that each fails (claims: the list at the end of `Demand3`)
 -- as-ledger: refuses all, or for a state that it spoiled itself, or accepts what a cause refuses · swallows samples · never writes · hears the first push, shams the
@@ -65,3 +69,4 @@ Theorem = (rate : ℕ) (samples : List Float) (xs : List Exchange) → Run (fres
 --   table's · a first-frame end that is not the Rust's
 -- refused: moves its state, its samples, an event byte or a scratch number, and then refuses · rest-kept: writes past the count
 -- claims: wrong even where port and ledger would be wrong together
+-- code: a contract that says less, with a body that does less

@@ -1,4 +1,5 @@
 -- Laws of the state, of its causes and of an accepted call.
+pub mod Contracts
 pub mod StateLaws
 pub mod CauseLaws
 pub mod FillLaws
