@@ -11,4 +11,5 @@ pub mod Demand3
 pub mod History
 pub mod Room
 pub mod EitherOrder
+pub mod EitherOrderExample
 pub mod Example

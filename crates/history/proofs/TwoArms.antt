@@ -1,21 +1,26 @@
 -- Frames of two arms in either order, at the port.
 use mathlib.Core.Path.{_≡_, refl, sym, ap, _∙_}
-use mathlib.Core.List.{List, _++_, map}
+use mathlib.Core.List.{List, _∷_, _++_, map}
+use mathlib.Core.Bool.{false}
 use Prim.Native.Nat.{ℕ}
 use lib.Ieee.{Float}
 use lib.ListN.{length, drop}
 use lib.Seq.{take-append-seam}
+use Rattle.ledger.specs.Frames.{same, Frame, keyOf}
 use Rattle.ledger.specs.Ledger.{Ledger, byEntry, Call, scans, closed, messages, ofFrame, eventOf, events}
 use Rattle.ledger.specs.Causes.{callEvents}
 use Rattle.ledger.specs.Demodulation.{demodOf}
 use Rattle.ledger.specs.Records.{recordOf, withRecords}
+use Rattle.ledger.specs.EitherOrder.{joining}
 use Rattle.ledger.proofs.Basics.{map-join}
-use Rattle.ledger.proofs.EitherOrder.{entries-either}
+use Rattle.ledger.proofs.EitherOrder.{frames-either, entries-either}
 use Rattle.waiting.specs.Waiting.{waitingOf, over}
 use Rattle.receiver.specs.State.{ledgerOf, stateOver}
-use Rattle.receiver.specs.Calls.{Memory, refusalOf, recordsOf, stateAfter}
+use Rattle.receiver.specs.Calls.{Memory, refusalOf, recordsOf, stateAfter, Answered}
 use Rattle.receiver.specs.declared.SigfoxReceiver.{SigfoxReceiver}
-use Rattle.history.specs.Arms.{heardIn, TwoArms}
+use Rattle.receiver.specs.declared.Received.{Received}
+use Rattle.receiver.proofs.Contracts.{contracts}
+use Rattle.history.specs.TwoArms.{heardIn, EndsAlike, TwoArms}
 
 -- the entries of a state that stands for a ledger
 state-waiting : (s : SigfoxReceiver) (l : Ledger byEntry) → waitingOf (stateOver s l .waiting) ≡ l .waiting
@@ -34,8 +39,10 @@ accepted-state : (s : SigfoxReceiver) (c : Call) (samples : List Float) → stat
 unfolding stateAfter
 accepted-state s c samples = refl
 
-pub two-arms : TwoArms
-two-arms s c m n r ans ok before behind a b e h =
+ends-alike : (s : SigfoxReceiver) (c : Call) (m n : Memory) (r : Received) → Answered s c m n r → r .refused ≡ 0
+    → (before behind : List Frame) (a b : Frame) → joining (heardIn s c m) ≡ before ++ a ∷ b ∷ behind → same (keyOf a) (keyOf b) ≡ false
+    → EndsAlike s c m n r (before ++ b ∷ a ∷ behind)
+ends-alike s c m n r ans ok before behind a b e h =
     let rate = s .rate in
     let d = demodOf rate in
     let l = ledgerOf s (m .samples) in
@@ -51,3 +58,6 @@ two-arms s c m n r ans ok before behind a b e h =
       written =
           (map recordOf (map (eventOf byEntry) (messages rate c k)), ans .events ∙ ap (λ (x : List (List ℕ)). withRecords x (m .events)) rs, ans .count ∙ ap length rs, i .records);
     }
+
+pub two-arms : TwoArms
+two-arms = record { code = contracts; ledger = frames-either; port = ends-alike }
