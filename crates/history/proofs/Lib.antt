@@ -4,3 +4,4 @@ pub mod States
 pub mod Calls
 pub mod Theorem
 pub mod Example
+pub mod TwoArms

@@ -33,3 +33,5 @@ pub mod Stand
 pub mod Dues
 pub mod Turns
 pub mod Theorem
+pub mod Swaps
+pub mod EitherOrder

@@ -10,4 +10,6 @@ pub mod Causes
 pub mod Demand3
 pub mod History
 pub mod Room
+pub mod EitherOrder
+pub mod EitherOrderExample
 pub mod Example
