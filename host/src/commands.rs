@@ -3,12 +3,12 @@
 use std::io::{self, Read, Write};
 use std::process::ExitCode;
 
-use crate::{bench, compare, generate, oracle, sample};
+use crate::{bench, compare, generate, oracle, sample, vectors};
 
 const USAGE: &str = "usage: oracle NAME
        gen NAME [--seed N] [--cases N] [--case K]
        compare NAME.. [--seed N] [--cases N] [--row N]
-       sample NAME..
+       sample NAME.. | sample frames
        bench [WORD..]";
 
 /// What the flags say, or their defaults.
@@ -35,6 +35,7 @@ fn command(words: &[&str], flags: &[&str]) -> Result<ExitCode, String> {
         ["oracle", name] => print_answers(name),
         ["gen", name] => print_inputs(name, &flags),
         ["compare", names @ ..] if !names.is_empty() => compare::compare(names, flags.seed, flags.cases, flags.row),
+        ["sample", "frames"] => vectors::write(),
         ["sample", names @ ..] if !names.is_empty() => sample::write(names),
         ["bench", words @ ..] => bench::run(words),
         _ => Err(USAGE.to_string()),

@@ -25,3 +25,5 @@ mod sample;
 pub mod text;
 #[cfg(has_rust)]
 pub mod trig;
+#[cfg(has_rust)]
+pub mod vectors;

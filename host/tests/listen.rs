@@ -1,7 +1,9 @@
 //! How the program `listen` ends, and when its lines come. Needs target/bin/listen (`rt check listen`); each test says so where it isn't there.
 
-use std::fs;
+use std::fs::{self, File};
 use std::io::{BufRead, BufReader, Read, Write};
+use std::os::fd::OwnedFd;
+use std::os::unix::net::UnixStream;
 use std::path::{Path, PathBuf};
 use std::process::{Child, Command, Stdio};
 use std::sync::mpsc::{Receiver, channel};
@@ -28,7 +30,7 @@ fn program() -> Option<PathBuf> {
 
 fn run(command: &mut Command) -> Child {
     let command = command.stdin(Stdio::piped()).stdout(Stdio::piped());
-    command.spawn().expect("it can be run")
+    command.stderr(Stdio::piped()).spawn().expect("it can be run")
 }
 
 fn listen() -> Option<Child> {
@@ -55,6 +57,7 @@ fn printed(input: &[u8], piece: usize) -> Option<String> {
     drop(stdin);
     let output = child.wait_with_output().expect("it ends");
     assert!(output.status.success(), "{}", output.status);
+    assert!(output.stderr.is_empty(), "it says something on standard error");
     Some(String::from_utf8(output.stdout).expect("it prints text"))
 }
 
@@ -107,6 +110,42 @@ fn a_refusal_does_not_wait_for_more() {
     drop(stdin);
 }
 
+/// What is said on standard error where a read fails.
+const FAILED: &[u8] = b"listen: standard input can't be read\n";
+
+/// There is no standard input at all, or it is a folder: no line, as no stream has ended.
+#[test]
+fn no_readable_input() {
+    let Some(program) = program() else { return };
+    for shell in ["exec \"$0\" <&-", "exec \"$0\" < /"] {
+        let mut command = Command::new("sh");
+        let output = command.args(["-c", shell]).arg(&program).output().expect("it ends");
+        assert_eq!((&output.stdout[..], &output.stderr[..]), (&b""[..], FAILED), "{shell}");
+        assert!(output.status.success());
+    }
+}
+
+/// A read fails after some records: their lines stand, and neither messages nor `E` come after them.
+#[test]
+fn a_read_that_fails_later() {
+    let Some(program) = program() else { return };
+    let (mut near, mut far) = UnixStream::pair().expect("sockets can be made");
+    // a socket that is closed before what came to it was read resets the other end, once that has read all
+    far.write_all(b"unread").expect("there is room");
+    near.write_all(&[record(200, HZ), record(200, HZ + 1)].concat())
+        .expect("there is room");
+    drop(near);
+    let output = Command::new(program)
+        .stdin(OwnedFd::from(far))
+        .output()
+        .expect("it ends");
+    assert_eq!(
+        (&output.stdout[..], &output.stderr[..]),
+        (&b"T 868130000\n"[..], FAILED)
+    );
+    assert!(output.status.success());
+}
+
 /// The stored stream in pieces that cut records: the stored lines.
 #[test]
 fn pieces() {
@@ -134,6 +173,21 @@ fn no_output() {
     let mut stdin = child.stdin.take().expect("it is a pipe");
     assert!(ends_reading(&mut stdin, &input));
     assert!(child.wait().expect("it ends").success());
+}
+
+/// The device of standard output is full: it ends at the line that can't be written, and says nothing.
+#[test]
+fn full_output() {
+    let Some(program) = program() else { return };
+    let full = File::options().write(true).open("/dev/full").expect("Linux has it");
+    let mut command = Command::new(program);
+    let command = command.stdin(Stdio::piped()).stdout(full).stderr(Stdio::piped());
+    let mut child = command.spawn().expect("it can be run");
+    let input = fs::read(root().join("crates/listen/stdin")).expect("the repository has it");
+    let mut stdin = child.stdin.take().expect("it is a pipe");
+    assert!(ends_reading(&mut stdin, &input));
+    let output = child.wait_with_output().expect("it ends");
+    assert!(output.status.success() && output.stderr.is_empty());
 }
 
 /// Who reads the lines goes away after the first: `listen` ends though its input goes on.

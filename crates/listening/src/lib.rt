@@ -7,11 +7,13 @@ mod writing; // a line, put together and written at once
 
 ghost use Prim.Native.Nat.{_≤_, _<_};
 use crate::input::BUFFER;
+use crate::input::Fetched;
 use crate::input::RECORD;
 use crate::input::Record;
 use crate::input::fetch;
 use crate::input::record_at;
 use crate::lines::print_end;
+use crate::lines::print_failure;
 use crate::lines::print_refusal;
 use crate::listener::Listener;
 use crate::listener::track;
@@ -109,6 +111,20 @@ fn hear(
     m
 }
 
+// After a read that failed: a line on standard error, and nothing more on standard output.
+fn fail(l: Listening) -> Listening
+    requires { ⌜ l .filled < 4096 ⌝ }
+    ensures { λ r. ⌜ r .filled < 4096 ⌝ }
+{
+    print_failure();
+    let mut listener = l.listener;
+    listener.going = false;
+    let mut m = l;
+    m.listener = listener;
+    m.more = false;
+    m
+}
+
 // One read, and every record that is whole with it.
 fn turn(
     l: Listening,
@@ -127,7 +143,10 @@ fn turn(
     ensures { λ r. ⌜ r .filled < 4096 ⌝ }
 {
     let from = l.filled;
-    let n = fetch(input, from);
+    let fetched = fetch(input, from);
+    let Fetched::Bytes(n) = fetched else {
+        return fail(l);
+    };
     let end = from + n;
     let mut m = hear(
         l,

@@ -8,6 +8,7 @@ use crate::writing::add;
 use crate::writing::add_hex;
 use crate::writing::add_number;
 use frequency::Frame1;
+use libc::STDERR_FILENO;
 use measure::Frequency;
 use record::read;
 
@@ -86,4 +87,9 @@ pub fn print_end(samples: u64, frames: u64, messages: u64, leftover: usize) -> b
     let m = add_number(add(l, b" "), frames);
     let n = add_number(add(m, b" "), messages);
     writing::write(add_number(add(n, b" "), leftover as u64))
+}
+
+// What is said on standard error where standard input can't be read.
+pub fn print_failure() -> bool {
+    io::write_all(STDERR_FILENO, b"listen: standard input can't be read\n")
 }

@@ -63,6 +63,17 @@ fn common(f: Common) -> Record {
     r
 }
 
+/// A repair's number and place.
+pub fn repair(how: Option<Repair>) -> (u8, usize) {
+    match how {
+        None => (0, 0),
+        Some(Repair::Inserted { bit: false, at }) => (1, at),
+        Some(Repair::Inserted { bit: true, at }) => (2, at),
+        Some(Repair::Deleted { at }) => (3, at),
+        Some(Repair::Flipped { at }) => (4, at),
+    }
+}
+
 pub fn frame(f: &UplinkFrame, reception: Reception) -> [u8; RECORD] {
     let mut r = common(Common {
         device: f.device_id.0,
@@ -77,14 +88,8 @@ pub fn frame(f: &UplinkFrame, reception: Reception) -> [u8; RECORD] {
     r.0[0] = 1;
     r.0[1] = f.rank as u8;
     r.0[2] += 4 * u8::from(f.crc_ok);
-    let (repair, place) = match f.repaired {
-        None => (0, 0),
-        Some(Repair::Inserted { bit: false, at }) => (1, at),
-        Some(Repair::Inserted { bit: true, at }) => (2, at),
-        Some(Repair::Deleted { at }) => (3, at),
-        Some(Repair::Flipped { at }) => (4, at),
-    };
-    r.0[5] = repair;
+    let (number, place) = repair(f.repaired);
+    r.0[5] = number;
     r.put(6, &(place as u16).to_le_bytes());
     r.0
 }

@@ -1,0 +1,2 @@
+-- The crate's specification. Assumes nothing.
+pub mod Input
