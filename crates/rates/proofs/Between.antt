@@ -291,7 +291,8 @@ module _ {v : Float} {l u : ℕ} (h : Lies v l u) (d : ℕ) (small : d ≤ 2 ^ 5
 
 -- ---- v rounded to a whole number k
 
-back : (k : ℕ) → k < 2 ^ 53 → toUnsigned 64 (round binary64 false k 1) ≡ k
+-- a whole number as a float, and back
+pub back : (k : ℕ) → k < 2 ^ 53 → toUnsigned 64 (round binary64 false k 1) ≡ k
 unfolding ofInt inFloat
 back k h = unsigned-back binary64 64 k (le→leb k (2 ^ 53) (omega arith)) (omega arith) .1
 

@@ -13,10 +13,10 @@ use borrow.Author.Tests.{leb-true, leb-false}
 use Rattle.floats.specs.Number.{num}
 use Rattle.limits.specs.Limits.{lowestRate, highestRate, bufferS}
 use Rattle.rates.specs.Numbers.{bitRate, sideBits, halfBits, padS, minMs, gapMs, msPerS, stepS, tailS, sameBurstS}
-use Rattle.rates.specs.Rates.{nominalOf, halfOf, winOf, padOf, gapOf, longEnough, bufferOf, tailOf, tooNear, scanDue}
+use Rattle.rates.specs.Rates.{nominalOf, halfOf, winOf, padOf, gapOf, longEnough, bufferOf, tailOf, tooNear, scanDue, oldestKept}
 use Rattle.rates.proofs.Near.{div-at, int-value}
 use Rattle.rates.proofs.Values.{holds}
-use Rattle.rates.proofs.Between.{Lies, Factor, whole-lies, whole-factor, positive-factor, quotient-lies, times-lies, left-times-lies, up-to-whole, rounded-up, rounded-away}
+use Rattle.rates.proofs.Between.{Lies, Factor, whole-lies, whole-factor, positive-factor, quotient-lies, times-lies, left-times-lies, up-to-whole, back, rounded-up, rounded-away}
 use Rattle.rates.proofs.Tenths.{Tenths, product-tenths, tenths-above, tenths-away}
 
 -- ---- the numbers as binary fractions
@@ -179,3 +179,9 @@ module _ (r : ℕ) (lo : lowestRate ≤ r) (hi : r ≤ highestRate) where
   -- dips of a full buffer are more than `halfOf` apart, so that 3,000 places hold them
   pub dips-fit : bufferS * r ≤ 2999 * (halfOf r + 1)
   dips-fit = subst (λ (k : ℕ). bufferS * r ≤ 2999 * (k + 1)) (sym half-is) (omega arith)
+
+-- ---- the starts that are kept: those of the last second before the base
+
+pub oldest-is : (base r : ℕ) → r ≤ highestRate → oldestKept base r ≡ base - r
+unfolding ofInt
+oldest-is base r h = ap (λ (n : ℕ). base - n) (back r (omega arith))

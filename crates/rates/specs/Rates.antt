@@ -1,5 +1,5 @@
 -- Counts of samples that the Rust works out from the rate, and its tests of counts, by the Rust's binary64 expressions, operation by operation. `as usize` is `toUnsigned 64`. Assumes nothing.
-use Prim.Native.Nat.{ℕ}
+use Prim.Native.Nat.{ℕ, _-_}
 use mathlib.Core.Bool.{Bool}
 use lib.Ieee.{Float, binary64, mul, div, le, lt, toUnsigned}
 use Rattle.floats.specs.Floor.{floor, roundHalfUp}
@@ -67,3 +67,7 @@ tooNear rate d = lt (num d) (mul binary64 sameBurstS (num rate))
 -- push: u samples unscanned make a scan due, u >= STEP_S * rate
 abbrev pub scanDue : ℕ → ℕ → Bool
 scanDue rate u = le (mul binary64 stepS (num rate)) (num u)
+
+-- scan, `oldest`: base.saturating_sub(rate as usize), the start from which on starts are kept
+abbrev pub oldestKept : ℕ → ℕ → ℕ
+oldestKept base rate = base - toUnsigned 64 (num rate)
