@@ -2,6 +2,7 @@
 use mathlib.Core.Path.{_≡_, refl, sym, _∙_}
 use mathlib.Core.Bool.{Bool, true, false, _||_}
 use mathlib.Core.List.{List}
+use mathlib.Core.Option.{none, some}
 use Prim.Native.Nat.{ℕ, _*_, _≤_, _<_}
 use lib.Dec.{ltb}
 use lib.ListN.{length}
@@ -9,21 +10,21 @@ use lib.Ieee.{Float}
 use borrow.Author.Tests.{lt-ltb, le-ltb, ltb-false}
 use Rattle.limits.specs.Limits.{badRate, short, long, badSample, bufferS, mostBits, scratch64}
 use Rattle.limits.specs.Samples.{rateOk, allDbm}
-use Rattle.clock.specs.Bits.{Outcome, none, some, outcome, told, handed, bitsAnswer, bitsLeft, Free}
+use Rattle.clock.specs.Bits.{Outcome, outcome, told, handed, bitsAnswer, bitsLeft, Free}
 use Rattle.clock.specs.declared.BurstBits.{BurstBits}
 use Rattle.clock.specs.declared.BurstBits.the-variants.{Refused}
 use Rattle.dips.proofs.DipLaws.{or-left, or-right}
 
 -- no outcome is a refusal
-told-left : (rate : ℕ) (o : Outcome) (old : List ℕ) → bitsLeft (told rate o) o old ≡ handed o old
+told-left : (o : Outcome) (old : List ℕ) → bitsLeft (told o) o old ≡ handed o old
 unfolding told bitsLeft
-told-left rate none old = refl
-told-left rate (some bits c level) old = refl
+told-left none old = refl
+told-left (some b) old = refl
 
-told-free : (rate : ℕ) (o : Outcome) (old now : List Float) → Free (told rate o) old now
+told-free : (o : Outcome) (old now : List Float) → Free (told o) old now
 unfolding told Free
-told-free rate none old now = tt
-told-free rate (some bits c level) old now = tt
+told-free none old now = tt
+told-free (some b) old now = tt
 
 module _ (seg : List Float) (rate : ℕ) (bits : List ℕ) (s32 s64 : List Float) where
   -- an answer, with the bits and the scratch
@@ -62,11 +63,11 @@ module _ (seg : List Float) (rate : ℕ) (bits : List ℕ) (s32 s64 : List Float
         unfolding bitsAnswer bitsLeft Free
         bits-invalid e = (rw (a, b, le-ltb (bufferS * rate) (length seg) g, e), refl, refl, refl)
 
-        pub bits-done : (r : BurstBits) (now : List ℕ) (x y : List Float) → allDbm seg ≡ true → r ≡ told rate (outcome seg rate) → now ≡ handed (outcome seg rate) bits → Says r now x y
+        pub bits-done : (r : BurstBits) (now : List ℕ) (x y : List Float) → allDbm seg ≡ true → r ≡ told (outcome seg rate) → now ≡ handed (outcome seg rate) bits → Says r now x y
         unfolding bitsAnswer
         bits-done r now x y v e w = (
           rw (a, b, le-ltb (bufferS * rate) (length seg) g, v) e,
-          rw e (w ∙ sym (told-left rate (outcome seg rate) bits)),
-          rw e (told-free rate (outcome seg rate) s32 x),
-          rw e (told-free rate (outcome seg rate) s64 y),
+          rw e (w ∙ sym (told-left (outcome seg rate) bits)),
+          rw e (told-free (outcome seg rate) s32 x),
+          rw e (told-free (outcome seg rate) s64 y),
         )

@@ -2,6 +2,7 @@
 use mathlib.Core.Path.{_≡_, refl}
 use mathlib.Core.Bool.{Bool, true, false, not, _&&_, _||_}
 use mathlib.Core.List.{List, map}
+use mathlib.Core.Option.{none, some}
 use Prim.Native.Nat.{ℕ, _*_, _≤_, _<_}
 use lib.Dec.{leb, ltb}
 use lib.ListN.{length}
@@ -10,7 +11,6 @@ use borrow.Author.Tests.{leb-true, lt-ltb, le-ltb, ltb-false}
 use Rattle.limits.specs.Limits.{badRate, short, long, badSample, badNumber, bufferS, scratch64, longestStream}
 use Rattle.limits.specs.Samples.{rateOk, isDbm, allDbm, timeOk}
 use Rattle.limits.proofs.Samples.{and-left, and-right}
-use Rattle.rates.specs.Rates.{nominalOf}
 use Rattle.coding.specs.Bits.{odd}
 use Rattle.frame.specs.Decode.{decodeUplink}
 use Rattle.frame.specs.declared.Outcome.{Outcome}
@@ -29,15 +29,15 @@ free-frame (Refused n) d old now = tt
 free-frame Nothing d old now = tt
 free-frame Frame d old now = tt
 
-free-heard : (rate : ℕ) (t e r : Float) (o : bits.Outcome) (old now : List Float) → Free (heardIn rate t e r o .outcome) old now
+free-heard : (t e r : Float) (o : bits.Outcome) (old now : List Float) → Free (heardIn t e r o .outcome) old now
 unfolding heardIn withBurst Free
-free-heard rate t e r bits.none old now = tt
-free-heard rate t e r (bits.some l c level) old now =
-    free-frame (decodeUplink (map odd l) .outcome) (record { frame = decodeUplink (map odd l) .frame; time = t; end = e; rssi = r; «clock_error_ppm» = bits.ppmOf (c .period) (nominalOf rate) }) old now
+free-heard t e r none old now = tt
+free-heard t e r (some b) old now =
+    free-frame (decodeUplink (map odd (b .bits)) .outcome) (record { frame = decodeUplink (map odd (b .bits)) .frame; time = t; end = e; rssi = r; «clock_error_ppm» = b .ppm }) old now
 
 pub free : (dbm : List Float) (rate : ℕ) (b : Burst) (t0 : Float) (old now : List Float) → Free (decodeBurst dbm rate b t0 .outcome) old now
 unfolding decodeBurst
-free dbm rate b t0 old now = free-heard rate (timeAt t0 rate (b .start)) (timeAt t0 rate (b .end)) (b .«peak_dbm») (bits.outcome (segmentOf dbm rate b) rate) old now
+free dbm rate b t0 old now = free-heard (timeAt t0 rate (b .start)) (timeAt t0 rate (b .end)) (b .«peak_dbm») (bits.outcome (segmentOf dbm rate b) rate) old now
 
 -- the refusals, in order
 module _ (dbm : List Float) (rate : ℕ) (b : Burst) (t0 : Float) (s32 s64 : List Float) where

@@ -3,6 +3,7 @@
 use mathlib.Core.Path.{_≡_, refl, _∙_}
 use mathlib.Core.Bool.{Bool, true, false, cond}
 use mathlib.Core.List.{List, _∷_, map}
+use mathlib.Core.Option.{none, some}
 use Prim.Native.Nat.{ℕ, zero, suc, _+_, _-_, _*_, _^_, _≤_, _<_}
 use native.Mathlib.Omega.{arith}
 use lib.Dec.{T, leb, lit≤, lit<}
@@ -11,7 +12,6 @@ use lib.Ieee.{Float, binary32, binary64, div, fits, ofInt, round}
 use lib.Ieee.Fits.{add-fits}
 use Rattle.floats.specs.Number.{num}
 use Rattle.endian.proofs.Numbers.{number-lt}
-use Rattle.rates.specs.Rates.{nominalOf}
 use Rattle.coding.specs.Bits.{odd, value}
 use Rattle.coding.specs.Convolution.{fresh, deconvolved}
 use Rattle.frame.specs.Kinds.{syncSize, kinds, kindOf}
@@ -98,17 +98,17 @@ heard-lawful (Refused n) d f = blank
 heard-lawful Nothing d f = blank
 heard-lawful Frame d f = f
 
-burst-in : (rate : ℕ) (t e r : Float) (o : bits.Outcome) → Lawful (heardIn rate t e r o .decoded .frame)
+burst-in : (t e r : Float) (o : bits.Outcome) → Lawful (heardIn t e r o .decoded .frame)
 unfolding heardIn withBurst
-burst-in rate t e r bits.none = blank
-burst-in rate t e r (bits.some l c level) =
-    heard-lawful (decodeUplink (map odd l) .outcome)
-    (record { frame = decodeUplink (map odd l) .frame; time = t; end = e; rssi = r; «clock_error_ppm» = bits.ppmOf (c .period) (nominalOf rate) })
-    (decoded-lawful (map odd l))
+burst-in t e r none = blank
+burst-in t e r (some b) =
+    heard-lawful (decodeUplink (map odd (b .bits)) .outcome)
+    (record { frame = decodeUplink (map odd (b .bits)) .frame; time = t; end = e; rssi = r; «clock_error_ppm» = b .ppm })
+    (decoded-lawful (map odd (b .bits)))
 
 pub burst-lawful : (dbm : List Float) (rate : ℕ) (b : Burst) (t0 : Float) → Lawful (decodeBurst dbm rate b t0 .decoded .frame)
 unfolding decodeBurst
-burst-lawful dbm rate b t0 = burst-in rate (timeAt t0 rate (b .start)) (timeAt t0 rate (b .end)) (b .«peak_dbm») (bits.outcome (segmentOf dbm rate b) rate)
+burst-lawful dbm rate b t0 = burst-in (timeAt t0 rate (b .start)) (timeAt t0 rate (b .end)) (b .«peak_dbm») (bits.outcome (segmentOf dbm rate b) rate)
 
 -- ---- times and levels
 
@@ -126,16 +126,16 @@ heard-written (Refused n) d w = blank-written
 heard-written Nothing d w = blank-written
 heard-written Frame d w = w
 
-written-in : (rate : ℕ) (t e r : Float) (o : bits.Outcome) → T (fits binary64 t) → T (fits binary32 r) → Written (heardIn rate t e r o .decoded)
+written-in : (t e r : Float) (o : bits.Outcome) → T (fits binary64 t) → T (fits binary32 r) → Written (heardIn t e r o .decoded)
 unfolding heardIn withBurst
-written-in rate t e r bits.none p q = blank-written
-written-in rate t e r (bits.some l c level) p q =
-    heard-written (decodeUplink (map odd l) .outcome)
-    (record { frame = decodeUplink (map odd l) .frame; time = t; end = e; rssi = r; «clock_error_ppm» = bits.ppmOf (c .period) (nominalOf rate) })
+written-in t e r none p q = blank-written
+written-in t e r (some b) p q =
+    heard-written (decodeUplink (map odd (b .bits)) .outcome)
+    (record { frame = decodeUplink (map odd (b .bits)) .frame; time = t; end = e; rssi = r; «clock_error_ppm» = b .ppm })
     (record { time = p; rssi = q })
 
 pub burst-written : (dbm : List Float) (rate : ℕ) (b : Burst) (t0 : Float) → T (fits binary32 (b .«peak_dbm»)) → Written (decodeBurst dbm rate b t0 .decoded)
 unfolding decodeBurst
 burst-written dbm rate b t0 h =
-    written-in rate (timeAt t0 rate (b .start)) (timeAt t0 rate (b .end)) (b .«peak_dbm») (bits.outcome (segmentOf dbm rate b) rate)
+    written-in (timeAt t0 rate (b .start)) (timeAt t0 rate (b .end)) (b .«peak_dbm») (bits.outcome (segmentOf dbm rate b) rate)
     (add-fits binary64 t0 (div binary64 (num (b .start)) (num rate))) h

@@ -3,6 +3,7 @@ use Prim.Native.Nat.{ℕ, _+_, _-_, _*_, min, max}
 use mathlib.Core.Path.{_≡_}
 use mathlib.Core.Bool.{Bool, true, cond, not, _&&_, _||_}
 use mathlib.Core.List.{List, map}
+use mathlib.Core.Option.{none, some}
 use lib.IntN.{ℤ, pos}
 use lib.Dec.{T, leb, ltb}
 use lib.ListN.{length, take, drop}
@@ -10,7 +11,7 @@ use lib.Ieee.{Float, binary64, add, div, isNan}
 use Rattle.floats.specs.Number.{num}
 use Rattle.limits.specs.Limits.{badRate, short, long, badSample, badNumber, bufferS, scratch64, longestStream}
 use Rattle.limits.specs.Samples.{rateOk, isDbm, timeOk, allDbm}
-use Rattle.rates.specs.Rates.{nominalOf, padOf}
+use Rattle.rates.specs.Rates.{padOf}
 use Rattle.coding.specs.Bits.{odd}
 use Rattle.frame.specs.Decode.{blankFrame, decodeUplink}
 use Rattle.frame.specs.declared.Outcome.{Outcome}
@@ -59,15 +60,15 @@ unfoldable pub withBurst : Float → Float → Float → ℤ → DecodedUplink �
 unfolding heardAs
 withBurst time end rssi ppm d = heardAs (d .outcome) (record { frame = d .frame; time = time; end = end; rssi = rssi; «clock_error_ppm» = ppm })
 
-unfoldable pub heardIn : ℕ → Float → Float → Float → bits.Outcome → BurstFrame
+unfoldable pub heardIn : Float → Float → Float → bits.Outcome → BurstFrame
 unfolding withBurst
-heardIn rate time end rssi bits.none = without Nothing
-heardIn rate time end rssi (bits.some l c level) = withBurst time end rssi (bits.ppmOf (c .period) (nominalOf rate)) (decodeUplink (map odd l))
+heardIn time end rssi none = without Nothing
+heardIn time end rssi (some b) = withBurst time end rssi (b .ppm) (decodeUplink (map odd (b .bits)))
 
 unfoldable pub decodeBurst : List Float → ℕ → Burst → Float → BurstFrame
 unfolding segmentOf heardIn
 decodeBurst dbm rate b t0 =
-    heardIn rate (timeAt t0 rate (b .start)) (timeAt t0 rate (b .end)) (b .«peak_dbm») (bits.outcome (segmentOf dbm rate b) rate)
+    heardIn (timeAt t0 rate (b .start)) (timeAt t0 rate (b .end)) (b .«peak_dbm») (bits.outcome (segmentOf dbm rate b) rate)
 
 -- 01, cause 9 does not apply to a burst and a time that are handed in: indexes to 2^40, floor -200 to 100, no NaN
 unfoldable pub burstOk : Burst → Float → Bool

@@ -93,7 +93,7 @@ fn decode_segment(
     rssi: f32,
 ) -> BurstFrame
     requires { ⌜ (lowestRate ≤ rate) × (rate ≤ highestRate) × (length (now seg) ≤ bufferS * rate) × (allDbm (now seg) ≡ true) × (scratch64 ≤ length (now scratch)) ⌝ }
-    ensures { λ r. ⌜ r ≡ heardIn rate time end rssi (outcome (now (seg .entry)) rate) ⌝ }
+    ensures { λ r. ⌜ r ≡ heardIn time end rssi (outcome (now (seg .entry)) rate) ⌝ }
 {
     let mut bits = [0u8; 1024];
     match clock::bits_of(seg, rate, &mut bits, scratch) {

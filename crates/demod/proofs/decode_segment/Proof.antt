@@ -51,7 +51,7 @@ same-length c = search needs
 returns : tie.Need-returns
 returns c =
     let a = c .before .before .before .before .before .before .before .before .before .before .before .args in
-    c .no-frame .ensures ∙ never-refused (a .rate) _ _ (a .time) (a .end) (a .rssi) (sym (c .before .before .before .before .before .before .bits-of .ensures .0) ∙ c .before .enum-told .given .1)
+    c .no-frame .ensures ∙ never-refused _ _ (a .time) (a .end) (a .rssi) (sym (c .before .before .before .before .before .before .bits-of .ensures .0) ∙ c .before .enum-told .given .1)
 
 same-length-2 : tie.Need-same-length-2
 same-length-2 c = search needs
@@ -59,7 +59,7 @@ same-length-2 c = search needs
 returns-2 : tie.Need-returns-2
 returns-2 c =
     let a = c .before .before .before .before .before .before .before .before .before .before .before .args in
-    c .no-frame2 .ensures ∙ told-nothing (a .rate) _ (a .time) (a .end) (a .rssi) (sym (c .before .before .before .before .before .before .bits-of .ensures .0) ∙ c .before .enum-told2 .given .1)
+    c .no-frame2 .ensures ∙ told-nothing _ (a .time) (a .end) (a .rssi) (sym (c .before .before .before .before .before .before .bits-of .ensures .0) ∙ c .before .enum-told2 .given .1)
 
 same-length-3 : tie.Need-same-length-3
 same-length-3 c = search needs
