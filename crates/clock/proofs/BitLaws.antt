@@ -26,7 +26,8 @@ use Rattle.clock.specs.Numbers.{enoughDips, enoughPoints}
 use Rattle.dips.specs.Dips.{dipsOf, Written}
 use Rattle.clock.specs.Clock.{anchor, lost}
 use Rattle.clock.specs.Running.{place, startClock, fitFrom, pointsFrom, ended, clocked}
-use Rattle.clock.specs.Bits.{endIndex, ppmOf, Recovered, Outcome, fromDips, outcome, told, handed}
+use Rattle.limits.specs.Answer.{accepted}
+use Rattle.clock.specs.Bits.{endIndex, ppmOf, Recovered, Outcome, fromDips, outcome, handed, valuesOf, said}
 use Rattle.clock.specs.Walk.{placedBits, walked, places, Rising, Ready}
 use Rattle.clock.specs.Tracked.{Tracked}
 use Rattle.clock.proofs.RunningLaws.{running-is}
@@ -35,10 +36,10 @@ use Rattle.clock.proofs.PointLaws.{Good, facts, places-back}
 
 -- an answer and the bits, of an outcome
 abbrev pub Tells : Outcome → List ℕ → BurstBits → List ℕ → Type 0
-Tells o old r now = (r ≡ told o) × (now ≡ handed o old)
+Tells o old r now = (said r ≡ accepted (valuesOf o)) × (now ≡ handed o old)
 
 pub tells-none : (o : Outcome) (old : List ℕ) → o ≡ none → Tells o old Nothing old
-unfolding told handed
+unfolding said valuesOf handed
 tells-none o old e = (rw e, rw e)
 
 -- ---- from the clock
@@ -76,7 +77,7 @@ module _ (rate : ℕ) (seg : List Float) (level : Float) (points : List ℕ) (c 
       → n ≡ end - c .first + 2 → len ≡ min n mostBits → p ≡ ppmOf (c .period) (nominalOf rate) → Ready c points
       → now ≡ (1 ∷ walked points (c .first) (len - 1)) ++ drop len old
       → Tells (clocked seg rate level points (Fitted c)) old (Bits n (c .period) p level (c .count)) now
-  unfolding told handed read
+  unfolding said valuesOf handed read
   clock-bits k end n len p old now h ke kl e q m pe r w =
       let o = r .order (omega arith) in
       let a : c .first ≤ end = omega arith in

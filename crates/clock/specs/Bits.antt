@@ -1,11 +1,10 @@
 -- `burst_bits` of demod.rs: the bits between the points of the clock, and what it hands over. Assumes nothing.
 use Prim.Native.Nat.{ℕ, zero, suc, _-_, _*_, min}
-use mathlib.Core.Path.{_≡_}
 use lib.IntN.{ℤ, pos, negsuc, sucℤ, _-ℤ_}
-use mathlib.Core.Bool.{Bool, true, false, cond, _||_}
+use mathlib.Core.Bool.{Bool, false, cond, not, _||_}
 use mathlib.Core.List.{List, [], _∷_, _++_, map}
 use mathlib.Core.Option.{Option, none, some}
-use lib.Dec.{T, ltb, eqb}
+use lib.Dec.{ltb, eqb}
 use lib.ListN.{length, take, drop, getD}
 use lib.Ieee.{Float, nan, binary64, sub, mul, div, lt, toSigned}
 use Rattle.floats.specs.Floor.{floor, roundHalfUp}
@@ -18,6 +17,7 @@ use Rattle.bursts.specs.Levels.{quantile}
 use Rattle.dips.specs.Dips.{dipsOf}
 use Rattle.clock.specs.Numbers.{enoughDips, enoughPoints, endDb, million}
 use Rattle.clock.specs.Clock.{anchor, lost, asIndex, atMost, Point, BitClock, firstIndex, lastIndex, startClock, track}
+use Rattle.limits.specs.Answer.{Answer, refused, accepted, answer}
 use Rattle.clock.specs.declared.BurstBits.{BurstBits}
 use Rattle.clock.specs.declared.BurstBits.the-variants.{Refused, Nothing, Bits}
 
@@ -121,34 +121,37 @@ unfolding fromDips quantile
 outcome [] rate = none
 outcome (x ∷ l) rate = fromDips (x ∷ l) rate (quantile levelQuantile (x ∷ l)) (dipsOf (x ∷ l) rate (quantile levelQuantile (x ∷ l)))
 
--- an outcome as the answer, and what it leaves in the bits: the first 1,024, the rest kept
-unfoldable pub told : Outcome → BurstBits
-told none = Nothing
-told (some b) = Bits (length (b .bits)) (b .period) (b .ppm) (b .level) (b .dips)
-
+-- what it leaves in the bits: the first 1,024, the rest kept
 unfoldable pub handed : Outcome → List ℕ → List ℕ
 handed none old = old
 handed (some b) old = take mostBits (b .bits) ++ drop (min mostBits (length (b .bits))) old
 
--- what `burst_bits` answers: room for 1,024 bits, bufferS * rate f32 and 3,000 f64 is lent
-unfoldable pub bitsAnswer : List Float → ℕ → ℕ → ℕ → ℕ → BurstBits
-unfolding outcome told
-bitsAnswer seg rate bits s32 s64 =
-    cond (rateOk rate)
-    (cond (ltb bits mostBits || (ltb s32 (bufferS * rate) || ltb s64 scratch64)) (Refused short)
-    (cond (ltb (bufferS * rate) (length seg)) (Refused long)
-    (cond (allDbm seg) (told (outcome seg rate)) (Refused badSample))))
-    (Refused badRate)
+-- what is answered beside the bits
+pub record Values : Type 0 where
+  pub count : ℕ
+  pub period : Float
+  pub ppm : ℤ
+  pub level : Float
+  pub points : ℕ
 
--- what it leaves in the bits
-unfoldable pub bitsLeft : BurstBits → Outcome → List ℕ → List ℕ
-unfolding handed
-bitsLeft (Refused n) o old = old
-bitsLeft Nothing o old = handed o old
-bitsLeft (Bits count period ppm level points) o old = handed o old
+unfoldable pub valuesOf : Outcome → Option Values
+valuesOf none = none
+valuesOf (some b) = some (record { count = length (b .bits); period = b .period; ppm = b .ppm; level = b .level; points = b .dips })
 
--- a scratch is free after an accepted call, and after a refused one as it was
-unfoldable pub Free : BurstBits → List Float → List Float → Type 0
-Free (Refused n) old now = now ≡ old
-Free Nothing old now = T true
-Free (Bits count period ppm level points) old now = T true
+-- 01's number and values of each answer; no bits is an ordinary answer
+unfoldable pub said : BurstBits → Answer (Option Values)
+said (Refused n) = refused n
+said Nothing = accepted none
+said (Bits count period ppm level points) = accepted (some (record { count = count; period = period; ppm = ppm; level = level; points = points }))
+
+-- the first cause that applies to `burst_bits`, 0 where none does: room for 1,024 bits, 12 × rate f32 and 3,000 f64 is lent
+unfoldable pub bitsCause : List Float → ℕ → ℕ → ℕ → ℕ → ℕ
+bitsCause seg rate bits s32 s64 =
+    cond (not (rateOk rate)) badRate
+    (cond (ltb bits mostBits || (ltb s32 (bufferS * rate) || ltb s64 scratch64)) short
+    (cond (ltb (bufferS * rate) (length seg)) long
+    (cond (not (allDbm seg)) badSample
+    0)))
+
+abbrev pub bitsAnswer : List Float → ℕ → ℕ → ℕ → ℕ → Answer (Option Values)
+bitsAnswer seg rate bits s32 s64 = answer (bitsCause seg rate bits s32 s64) (valuesOf (outcome seg rate))
