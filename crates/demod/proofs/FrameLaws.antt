@@ -27,10 +27,12 @@ use Rattle.bursts.specs.declared.Burst.{Burst}
 use Rattle.dips.specs.Dips.{dipsOf}
 use Rattle.clock.specs.Numbers.{enoughDips, enoughPoints}
 use Rattle.clock.specs.Clock.{anchor, lost, asIndex, Point, BitClock, firstIndex, lastIndex, startClock, track}
-use Rattle.clock.specs.Bits.{endIndex, larger, indexes, onGrid, bitAt, allBits, Recovered, Outcome, ended, clocked, fromDips, outcome, told, handed}
+use Rattle.limits.specs.Answer.{accepted}
+use Rattle.clock.specs.Bits.{endIndex, larger, indexes, onGrid, bitAt, allBits, Recovered, Outcome, ended, clocked, fromDips, outcome, handed, Values, valuesOf, said}
 use Rattle.clock.specs.declared.BurstBits.the-variants as bits
 use Rattle.clock.proofs.BitLaws.{ppm-fits}
-use Rattle.demod.specs.Decode.{without, fromOf, toOf, segmentOf, timeAt, withBurst, heardIn, decodeBurst}
+use Rattle.demod.specs.declared.DecodedFrame.{DecodedFrame}
+use Rattle.demod.specs.Decode.{without, fromOf, toOf, segmentOf, timeAt, withBurst, heardIn, decodeBurst, shown}
 use Rattle.demod.specs.declared.BurstFrame.{BurstFrame}
 
 -- ---- every outcome's bits are bits, and its ppm is an i32
@@ -91,13 +93,12 @@ map-take (suc n) (x ∷ l) = ap (λ (m : List Bool). odd x ∷ m) (map-take n l)
 
 -- ---- what an answer says of its outcome
 
-pub never-refused : (o : Outcome) (n : ℕ) (t e r : Float) → told o ≡ bits.Refused n → without frame.Nothing ≡ heardIn t e r o
-unfolding told heardIn
-never-refused none n t e r q = refl
-never-refused (some b) n t e r q = absurd (let z : _≡_ {A = ℕ} 0 1 = cc in omega arith)
+pub never-refused : (o : Outcome) (n : ℕ) (t e r : Float) → said (bits.Refused n) ≡ accepted (valuesOf o) → without frame.Nothing ≡ shown (accepted (heardIn t e r o))
+unfolding said
+never-refused o n t e r q = absurd (let z : _≡_ {A = ℕ} 0 1 = cc in omega arith)
 
-pub told-nothing : (o : Outcome) (t e r : Float) → told o ≡ bits.Nothing → without frame.Nothing ≡ heardIn t e r o
-unfolding told heardIn
+pub told-nothing : (o : Outcome) (t e r : Float) → said bits.Nothing ≡ accepted (valuesOf o) → without frame.Nothing ≡ shown (accepted (heardIn t e r o))
+unfolding said valuesOf heardIn shown
 told-nothing none t e r q = refl
 told-nothing (some b) t e r q = absurd (let z : _≡_ {A = ℕ} 0 1 = cc in omega arith)
 
@@ -107,12 +108,15 @@ record Says (o : Outcome) (n : ℕ) (m : ℤ) : Type 0 where
   count : n ≡ length (read .bits)
   ppm : m ≡ read .ppm
 
-says : (o : Outcome) (n k : ℕ) (p l : Float) (m : ℤ) → told o ≡ bits.Bits n p m l k → Says o n m
-unfolding told
+says : (o : Outcome) (n k : ℕ) (p l : Float) (m : ℤ) → said (bits.Bits n p m l k) ≡ accepted (valuesOf o) → Says o n m
+unfolding said valuesOf
 says none n k p l m q = absurd (let z : _≡_ {A = ℕ} 0 1 = cc in omega arith)
-says (some b) n k p l m q = record { read = b; is = refl; count = cc; ppm = cc }
+says (some b) n k p l m q =
+    let v : _≡_ {A = Values} (record { count = n; period = p; ppm = m; level = l; points = k })
+    (record { count = length (b .bits); period = b .period; ppm = b .ppm; level = b .level; points = b .dips }) = cc in
+    record { read = b; is = refl; count = ap (λ (x : Values). x .count) v; ppm = ap (λ (x : Values). x .ppm) v }
 
-module _ (seg : List Float) (rate n k : ℕ) (p l : Float) (m : ℤ) (q : told (outcome seg rate) ≡ bits.Bits n p m l k)
+module _ (seg : List Float) (rate n k : ℕ) (p l : Float) (m : ℤ) (q : said (bits.Bits n p m l k) ≡ accepted (valuesOf (outcome seg rate)))
     (old now : List ℕ) (w : now ≡ handed (outcome seg rate) old) (len : ℕ) (e : len ≡ min n mostBits) where
   s : Says (outcome seg rate) n m
   s = says (outcome seg rate) n k p l m q
@@ -140,18 +144,18 @@ module _ (seg : List Float) (rate n k : ℕ) (p l : Float) (m : ℤ) (q : told (
   same = ap (λ (b : List ℕ). decodeUplink (map odd b)) sent ∙ ap decodeUplink (map-take mostBits (s .read .bits)) ∙ decode-prefix mostBits (map odd (s .read .bits)) (lit≤ tt)
 
   -- the frame that was decoded is the burst's
-  pub heard-frame : (t end r : Float) (d : DecodedUplink) (x : BurstFrame) → d ≡ decodeUplink (map odd (take len now)) → x ≡ withBurst t end r (toZ w32 (ofZ w32 m)) d
-      → x ≡ heardIn t end r (outcome seg rate)
+  pub heard-frame : (t end r : Float) (d : DecodedUplink) (x : BurstFrame) → d ≡ decodeUplink (map odd (take len now)) → x ≡ shown (accepted (withBurst t end r (toZ w32 (ofZ w32 m)) d))
+      → x ≡ shown (accepted (heardIn t end r (outcome seg rate)))
   unfolding heardIn
   heard-frame t end r d x f h =
       let g : toZ w32 (ofZ w32 m) ≡ m = toZ-ofZ w32 m (subst (λ (z : ℤ). SFits w32 z) (sym (s .ppm)) (clean .1)) in
       let i : heardIn t end r (outcome seg rate) ≡ withBurst t end r (s .read .ppm) (decodeUplink (map odd (s .read .bits))) = rw (s .is) in
-      h ∙ ap (λ (z : ℤ). withBurst t end r z d) (g ∙ s .ppm) ∙ ap (withBurst t end r (s .read .ppm)) (f ∙ same) ∙ sym i
+      h ∙ ap (λ (o : Option DecodedFrame). shown (accepted o)) (ap (λ (z : ℤ). withBurst t end r z d) (g ∙ s .ppm) ∙ ap (withBurst t end r (s .read .ppm)) (f ∙ same) ∙ sym i)
 
 -- ---- the segment
 
 pub decode-is : (dbm : List Float) (rate : ℕ) (b : Burst) (t0 : Float) (pad back from end to : ℕ) (t e : Float) (r : BurstFrame) → pad ≡ padOf rate → back ≡ b .start - pad → from ≡ min back (length dbm)
     → end ≡ min (b .end + pad) (length dbm) → to ≡ max from end → t ≡ timeAt t0 rate (b .start) → e ≡ timeAt t0 rate (b .end)
-    → r ≡ heardIn t e (b .«peak_dbm») (outcome (take (to - from) (drop from dbm)) rate) → r ≡ decodeBurst dbm rate b t0
+    → r ≡ shown (accepted (heardIn t e (b .«peak_dbm») (outcome (take (to - from) (drop from dbm)) rate))) → r ≡ shown (accepted (decodeBurst dbm rate b t0))
 unfolding decodeBurst segmentOf toOf fromOf
 decode-is dbm rate b t0 pad back from end to t e r pe be fe ee te tm et q = q ∙ rw (te, ee, fe, be, pe, tm, et)
