@@ -4,12 +4,12 @@ ghost use lib.Ieee.{binary32, binary64};
 ghost use lib.ListN.{length};
 ghost use Rattle.bursts.specs.Bursts.{defaultOptions, burstAnswer};
 ghost use Rattle.bursts.specs.Levels.{floorAnswer};
-ghost use Rattle.dips.specs.Dips.{dipsOf, dipAnswer, dipsAfter};
-ghost use Rattle.clock.specs.Bits.{outcome, bitsAnswer, bitsLeft, Free};
+ghost use Rattle.dips.specs.Dips.{dipAnswer, dipsAfter};
+ghost use Rattle.limits.specs.Answer.{number, leaves, Free};
+ghost use Rattle.clock.specs.Bits.{outcome, handed, bitsAnswer};
 ghost use Rattle.bench.specs.Select.{numbers, selected};
-ghost use Rattle.demod.specs.Capture.{floorOf, captured, captureAnswer, captureLeft};
-ghost use Rattle.demod.specs.Capture as capture;
-ghost use Rattle.bench.specs.Demod.{levelOf, endOf, countOf, bitCountOf, recordCountOf};
+ghost use Rattle.demod.specs.Capture.{floorOf, captured, captureAnswer, inFront};
+ghost use Rattle.bench.specs.Demod.{levelOf, endOf, countOf, bitCountOf};
 use bursts::BurstOptions;
 use bursts::Level;
 use bursts::NextBurst;
@@ -107,7 +107,7 @@ pub extern "C" fn bench_next_burst(dbm: &[f32], rate: u32, floor: f32, from: usi
 #[no_mangle]
 pub extern "C" fn bench_find_dips(seg: &[f32], rate: u32, level: f64, dips: &mut [f64]) -> usize
     ensures { λ r. ⌜ (r ≡ countOf (dipAnswer (now (seg .entry)) rate level (length (now (dips .entry)))))
-        × (now (dips .exit) ≡ dipsAfter (dipAnswer (now (seg .entry)) rate level (length (now (dips .entry)))) (dipsOf (now (seg .entry)) rate level) (now (dips .entry))) ⌝ }
+        × (now (dips .exit) ≡ dipsAfter (now (seg .entry)) rate level (now (dips .entry))) ⌝ }
 {
     match dips::find_dips(seg, rate, level, dips) {
         DipCount::Refused(_) => 0,
@@ -125,9 +125,9 @@ pub extern "C" fn bench_burst_bits(
     scratch64: &mut [f64],
 ) -> usize
     ensures { λ r. ⌜ (r ≡ bitCountOf (bitsAnswer (now (seg .entry)) rate (length (now (bits .entry))) (length (now (scratch32 .entry))) (length (now (scratch64 .entry)))))
-        × (now (bits .exit) ≡ bitsLeft (bitsAnswer (now (seg .entry)) rate (length (now (bits .entry))) (length (now (scratch32 .entry))) (length (now (scratch64 .entry)))) (outcome (now (seg .entry)) rate) (now (bits .entry)))
-        × Free (bitsAnswer (now (seg .entry)) rate (length (now (bits .entry))) (length (now (scratch32 .entry))) (length (now (scratch64 .entry)))) (now (scratch32 .entry)) (now (scratch32 .exit))
-        × Free (bitsAnswer (now (seg .entry)) rate (length (now (bits .entry))) (length (now (scratch32 .entry))) (length (now (scratch64 .entry)))) (now (scratch64 .entry)) (now (scratch64 .exit)) ⌝ }
+        × (now (bits .exit) ≡ leaves (number (bitsAnswer (now (seg .entry)) rate (length (now (bits .entry))) (length (now (scratch32 .entry))) (length (now (scratch64 .entry))))) (handed (outcome (now (seg .entry)) rate) (now (bits .entry))) (now (bits .entry)))
+        × Free (number (bitsAnswer (now (seg .entry)) rate (length (now (bits .entry))) (length (now (scratch32 .entry))) (length (now (scratch64 .entry))))) (now (scratch32 .entry)) (now (scratch32 .exit))
+        × Free (number (bitsAnswer (now (seg .entry)) rate (length (now (bits .entry))) (length (now (scratch32 .entry))) (length (now (scratch64 .entry))))) (now (scratch64 .entry)) (now (scratch64 .exit)) ⌝ }
 {
     match clock::burst_bits(seg, rate, bits, scratch32, scratch64) {
         BurstBits::Refused(_) => 0,
@@ -146,10 +146,10 @@ pub extern "C" fn bench_capture(
     scratch32: &mut [f32],
     scratch64: &mut [f64],
 ) -> usize
-    ensures { λ r. ⌜ (r ≡ recordCountOf (captureAnswer (now (dbm .entry)) rate t0 Floor.Measured (length (now (events .entry))) (length (now (scratch32 .entry))) (length (now (scratch64 .entry)))))
-        × (now (events .exit) ≡ captureLeft (captureAnswer (now (dbm .entry)) rate t0 Floor.Measured (length (now (events .entry))) (length (now (scratch32 .entry))) (length (now (scratch64 .entry)))) (captured (now (dbm .entry)) rate t0 (floorOf Floor.Measured (now (dbm .entry)))) (now (events .entry)))
-        × capture.Free (captureAnswer (now (dbm .entry)) rate t0 Floor.Measured (length (now (events .entry))) (length (now (scratch32 .entry))) (length (now (scratch64 .entry)))) (now (scratch32 .entry)) (now (scratch32 .exit))
-        × capture.Free (captureAnswer (now (dbm .entry)) rate t0 Floor.Measured (length (now (events .entry))) (length (now (scratch32 .entry))) (length (now (scratch64 .entry)))) (now (scratch64 .entry)) (now (scratch64 .exit)) ⌝ }
+    ensures { λ r. ⌜ (r ≡ countOf (captureAnswer (now (dbm .entry)) rate t0 Floor.Measured (length (now (events .entry))) (length (now (scratch32 .entry))) (length (now (scratch64 .entry)))))
+        × (now (events .exit) ≡ leaves (number (captureAnswer (now (dbm .entry)) rate t0 Floor.Measured (length (now (events .entry))) (length (now (scratch32 .entry))) (length (now (scratch64 .entry))))) (inFront (captured (now (dbm .entry)) rate t0 (floorOf Floor.Measured (now (dbm .entry)))) (now (events .entry))) (now (events .entry)))
+        × Free (number (captureAnswer (now (dbm .entry)) rate t0 Floor.Measured (length (now (events .entry))) (length (now (scratch32 .entry))) (length (now (scratch64 .entry))))) (now (scratch32 .entry)) (now (scratch32 .exit))
+        × Free (number (captureAnswer (now (dbm .entry)) rate t0 Floor.Measured (length (now (events .entry))) (length (now (scratch32 .entry))) (length (now (scratch64 .entry))))) (now (scratch64 .entry)) (now (scratch64 .exit)) ⌝ }
 {
     match demod::decode_capture(dbm, rate, t0, Floor::Measured, events, scratch32, scratch64) {
         Captured::Refused(_) => 0,

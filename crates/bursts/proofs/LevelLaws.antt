@@ -12,7 +12,8 @@ use Rattle.rates.specs.Rates.{fifthOf}
 use Rattle.bursts.specs.Numbers.{silence}
 use Rattle.limits.specs.Limits.{short, long, badSample, mostSamples}
 use Rattle.limits.specs.Samples.{allDbm}
-use Rattle.bursts.specs.Levels.{quantile, noiseFloor, floorAnswer}
+use Rattle.limits.specs.Answer.{answer}
+use Rattle.bursts.specs.Levels.{quantile, noiseFloor, said, floorCause, floorAnswer}
 use Rattle.bursts.specs.declared.Level.the-variants.{Refused, Dbm}
 
 pub floor-none : (l : List Float) → length l ≡ 0 → noiseFloor l ≡ silence
@@ -26,20 +27,20 @@ floor-some [] h = absurd (omega arith)
 floor-some (x ∷ l) h = refl
 
 module _ (l : List Float) (n : ℕ) where
-  pub floor-short : n < length l → Refused short ≡ floorAnswer l n
-  unfolding floorAnswer
+  pub floor-short : n < length l → said (Refused short) ≡ floorAnswer l n
+  unfolding said answer floorCause floorAnswer
   floor-short h = rw (lt-ltb n (length l) h)
 
   module _ (a : length l ≤ n) where
-    pub floor-long : mostSamples < length l → Refused long ≡ floorAnswer l n
-    unfolding floorAnswer
+    pub floor-long : mostSamples < length l → said (Refused long) ≡ floorAnswer l n
+    unfolding said answer floorCause floorAnswer
     floor-long h = rw (le-ltb n (length l) a, lt-ltb mostSamples (length l) h)
 
     module _ (b : length l ≤ mostSamples) where
-      pub floor-invalid : allDbm l ≡ false → Refused badSample ≡ floorAnswer l n
-      unfolding floorAnswer
+      pub floor-invalid : allDbm l ≡ false → said (Refused badSample) ≡ floorAnswer l n
+      unfolding said answer floorCause floorAnswer
       floor-invalid h = rw (le-ltb n (length l) a, le-ltb mostSamples (length l) b, h)
 
-      pub floor-done : (x : Float) → allDbm l ≡ true → x ≡ noiseFloor l → Dbm x ≡ floorAnswer l n
-      unfolding floorAnswer
+      pub floor-done : (x : Float) → allDbm l ≡ true → x ≡ noiseFloor l → said (Dbm x) ≡ floorAnswer l n
+      unfolding said answer floorCause floorAnswer
       floor-done x h e = rw (le-ltb n (length l) a, le-ltb mostSamples (length l) b, h, e)

@@ -3,6 +3,8 @@
 use mathlib.Core.Path.{_≡_, refl, sym, ap, _∙_}
 use mathlib.Core.Bool.{Bool, true, false, cond}
 use mathlib.Core.List.{List, [], _∷_}
+use mathlib.Core.Option.{some}
+use mathlib.Core.Option as option
 use Prim.Native.Nat.{ℕ, suc, _+_, _-_, _≤_, _<_}
 use native.Mathlib.Numerals.{add-one}
 use native.Mathlib.Omega.{arith}
@@ -11,7 +13,8 @@ use lib.ListN.{length, drop, length-drop}
 use lib.Seq.{drop-drop}
 use lib.Ieee.{Float}
 use borrow.Author.Tests.{ltb-true, le-leb}
-use Rattle.bursts.specs.Bursts.{Cluster, cluster, Open, none, since, loud, clusters, longEnough, threshold, gapSamples, burstOf, burstsIn, burstsOf, firstFrom}
+use Rattle.limits.specs.Answer.{accepted}
+use Rattle.bursts.specs.Bursts.{Cluster, cluster, Open, none, since, loud, clusters, longEnough, threshold, gapSamples, burstOf, burstsIn, burstsOf, firstFrom, said}
 use Rattle.bursts.specs.Found.{burstsFrom}
 use Rattle.bursts.specs.declared.BurstOptions.{BurstOptions}
 use Rattle.bursts.specs.declared.Burst.{Burst}
@@ -126,37 +129,29 @@ module _ (dbm : List Float) (rate : ℕ) (o : BurstOptions) (floor : Float) wher
     pub inside : b .end ≤ length dbm
     pub long : longEnough o rate (cluster (b .start) (b .end - 1)) ≡ true
 
-  pub found-next : (i : ℕ) (b : Burst) → i ≤ length dbm → Found b ≡ firstFrom 0 (burstsFrom dbm rate o floor i) → Next i b
-  unfolding firstFrom
+  pub found-next : (i : ℕ) (b : Burst) → i ≤ length dbm → said (Found b) ≡ accepted (firstFrom 0 (burstsFrom dbm rate o floor i)) → Next i b
+  unfolding said firstFrom
   found-next i b h e = go (burstsFrom dbm rate o floor i) refl (bursts-from-in-row i h) e
     where
-      go : (bs : List Burst) → burstsFrom dbm rate o floor i ≡ bs → InRow i bs → Found b ≡ firstFrom 0 bs → Next i b
+      go : (bs : List Burst) → burstsFrom dbm rate o floor i ≡ bs → InRow i bs → accepted (some b) ≡ accepted (firstFrom 0 bs) → Next i b
       go [] p w q = let z : _≡_ {A = ℕ} 0 1 = cc in absurd (omega arith)
       go (c ∷ cs) p (next u v r l t w) q =
-          let f : Found b ≡ Found c = rw (le-leb 0 (c .start) (omega arith)) at q in
+          let f : accepted (some b) ≡ accepted (some c) = rw (le-leb 0 (c .start) (omega arith)) at q in
           let z : b ≡ c = cc in
           rw z (record { list = p ∙ ap (λ (bs : List Burst). c ∷ bs) t; after = u; order = v; inside = r; long = l })
 
-  pub found-none : (i : ℕ) → Nothing ≡ firstFrom 0 (burstsFrom dbm rate o floor i) → burstsFrom dbm rate o floor i ≡ []
-  unfolding firstFrom
+  pub found-none : (i : ℕ) → said Nothing ≡ accepted (firstFrom 0 (burstsFrom dbm rate o floor i)) → burstsFrom dbm rate o floor i ≡ []
+  unfolding said firstFrom
   found-none i e = go (burstsFrom dbm rate o floor i) e
     where
-      go : (bs : List Burst) → Nothing ≡ firstFrom 0 bs → bs ≡ []
+      go : (bs : List Burst) → accepted option.none ≡ accepted (firstFrom 0 bs) → bs ≡ []
       go [] q = refl
       go (c ∷ cs) q =
-          let f : Nothing ≡ Found c = rw (le-leb 0 (c .start) (omega arith)) at q in
+          let f : accepted option.none ≡ accepted (some c) = rw (le-leb 0 (c .start) (omega arith)) at q in
           let z : _≡_ {A = ℕ} 0 1 = cc in
           absurd (omega arith)
 
   -- no search is refused
-  pub found-refused : (n from i : ℕ) → Refused n ≡ firstFrom from (burstsFrom dbm rate o floor i) → ⊥
-  unfolding firstFrom
-  found-refused n from i e = go (burstsFrom dbm rate o floor i) e
-    where
-      go : (bs : List Burst) → Refused n ≡ firstFrom from bs → ⊥
-      go [] q = let z : _≡_ {A = ℕ} 0 1 = cc in omega arith
-      go (c ∷ cs) q = here (leb from (c .start)) (go cs) q
-        where
-          here : (t : Bool) → (Refused n ≡ firstFrom from cs → ⊥) → Refused n ≡ cond t (Found c) (firstFrom from cs) → ⊥
-          here true f q = let z : _≡_ {A = ℕ} 0 1 = cc in omega arith
-          here false f q = f q
+  pub found-refused : (n from i : ℕ) → said (Refused n) ≡ accepted (firstFrom from (burstsFrom dbm rate o floor i)) → ⊥
+  unfolding said
+  found-refused n from i e = let z : _≡_ {A = ℕ} 0 1 = cc in omega arith

@@ -1,7 +1,9 @@
 -- `find_bursts` of demod.rs: the whole list of bursts, and the first of it that starts at or after an index. Assumes nothing.
 use Prim.Native.Nat.{ℕ, suc, _+_, _-_, _*_}
-use mathlib.Core.Bool.{Bool, cond, _&&_}
+use mathlib.Core.Bool.{Bool, cond, not, _&&_}
 use mathlib.Core.List.{List, [], _∷_}
+use mathlib.Core.Option.{Option, some}
+use mathlib.Core.Option as option
 use lib.Dec.{leb, ltb}
 use lib.ListN.{length, take, drop}
 use lib.Ieee.{Float, binary64, add, le, lt}
@@ -9,6 +11,7 @@ use Rattle.floats.specs.Fold.{maxFrom}
 use Rattle.floats.specs.Number.{num}
 use Rattle.limits.specs.Limits.{badRate, long, badSample, badNumber, bufferS}
 use Rattle.limits.specs.Samples.{rateOk, isDbm, allDbm}
+use Rattle.limits.specs.Answer.{Answer, refused, accepted, answer}
 use Rattle.rates.specs.Numbers.{minMs, gapMs}
 use Rattle.rates.specs.Rates.{gapAt, longAt}
 use Rattle.bursts.specs.Numbers.{aboveDb, mostDb, mostMs, lowestPeak}
@@ -86,9 +89,9 @@ unfolding burstsIn clusters
 burstsOf dbm rate o floor = burstsIn dbm rate o floor (clusters (threshold o floor) (gapSamples o rate) none 0 dbm)
 
 -- 01: the first burst of the whole list that starts at or after an index, or none
-unfoldable pub firstFrom : ℕ → List Burst → NextBurst
-firstFrom from [] = Nothing
-firstFrom from (b ∷ bs) = cond (leb from (b .start)) (Found b) (firstFrom from bs)
+unfoldable pub firstFrom : ℕ → List Burst → Option Burst
+firstFrom from [] = option.none
+firstFrom from (b ∷ bs) = cond (leb from (b .start)) (some b) (firstFrom from bs)
 
 -- 01, cause 9 does not apply: above 0 to 100 dB, ms 0 to 10,000, floor -200 to 100, no NaN
 abbrev pub inside : Float → Float → Bool
@@ -97,13 +100,22 @@ inside top x = le (num 0) x && le x top
 unfoldable pub optionsOk : BurstOptions → Float → Bool
 optionsOk o floor = inside mostDb (o .«above_db») && (inside mostMs (o .«min_ms») && (inside mostMs (o .«gap_ms») && isDbm floor))
 
--- what `find_bursts` answers
-unfoldable pub burstAnswer : List Float → ℕ → BurstOptions → Float → ℕ → NextBurst
-unfolding burstsOf firstFrom optionsOk
-burstAnswer dbm rate o floor from =
-    cond (rateOk rate)
-    (cond (ltb (bufferS * rate) (length dbm)) (Refused long)
-    (cond (allDbm dbm)
-    (cond (optionsOk o floor) (firstFrom from (burstsOf dbm rate o floor)) (Refused badNumber))
-    (Refused badSample)))
-    (Refused badRate)
+-- 01's number and values of each answer of `find_bursts`; no burst is an ordinary answer
+unfoldable pub said : NextBurst → Answer (Option Burst)
+said (Refused n) = refused n
+said Nothing = accepted option.none
+said (Found b) = accepted (some b)
+
+-- the first cause that applies, 0 where none does
+unfoldable pub burstCause : List Float → ℕ → BurstOptions → Float → ℕ
+unfolding optionsOk
+burstCause dbm rate o floor =
+    cond (not (rateOk rate)) badRate
+    (cond (ltb (bufferS * rate) (length dbm)) long
+    (cond (not (allDbm dbm)) badSample
+    (cond (not (optionsOk o floor)) badNumber
+    0)))
+
+unfoldable pub burstAnswer : List Float → ℕ → BurstOptions → Float → ℕ → Answer (Option Burst)
+unfolding burstsOf firstFrom burstCause
+burstAnswer dbm rate o floor from = answer (burstCause dbm rate o floor) (firstFrom from (burstsOf dbm rate o floor))

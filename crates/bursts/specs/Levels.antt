@@ -1,6 +1,6 @@
 -- `quantile` and `noise_floor` of demod.rs. Assumes nothing.
 use Prim.Native.Nat.{ℕ}
-use mathlib.Core.Bool.{cond}
+use mathlib.Core.Bool.{cond, not}
 use mathlib.Core.List.{List, [], _∷_}
 use lib.Dec.{ltb}
 use lib.ListN.{length}
@@ -8,6 +8,7 @@ use lib.Ieee.{Float, binary32}
 use Rattle.order.specs.Order.{kth}
 use Rattle.limits.specs.Limits.{short, long, badSample, mostSamples}
 use Rattle.limits.specs.Samples.{allDbm}
+use Rattle.limits.specs.Answer.{Answer, refused, accepted, answer}
 use Rattle.rates.specs.Numbers.{floorQuantile}
 use Rattle.rates.specs.Rates.{indexAt}
 use Rattle.bursts.specs.Numbers.{silence}
@@ -24,10 +25,19 @@ unfolding quantile
 noiseFloor [] = silence
 noiseFloor (x ∷ l) = quantile floorQuantile (x ∷ l)
 
--- what `noise_floor` answers: a call without a rate, whose scratch need only be as long as its samples
-unfoldable pub floorAnswer : List Float → ℕ → Level
-unfolding noiseFloor
-floorAnswer dbm scratch =
-    cond (ltb scratch (length dbm)) (Refused short)
-    (cond (ltb mostSamples (length dbm)) (Refused long)
-    (cond (allDbm dbm) (Dbm (noiseFloor dbm)) (Refused badSample)))
+-- 01's number and values of each answer of `noise_floor`
+unfoldable pub said : Level → Answer Float
+said (Refused n) = refused n
+said (Dbm x) = accepted x
+
+-- the first cause that applies, 0 where none does: a call without a rate, whose scratch need only be as long as its samples
+unfoldable pub floorCause : List Float → ℕ → ℕ
+floorCause dbm scratch =
+    cond (ltb scratch (length dbm)) short
+    (cond (ltb mostSamples (length dbm)) long
+    (cond (not (allDbm dbm)) badSample
+    0))
+
+unfoldable pub floorAnswer : List Float → ℕ → Answer Float
+unfolding noiseFloor floorCause
+floorAnswer dbm scratch = answer (floorCause dbm scratch) (noiseFloor dbm)

@@ -7,9 +7,11 @@ ghost use lib.Ieee.{nan};
 ghost use Rattle.floats.specs.Fold.{maxFrom};
 ghost use Rattle.limits.specs.Limits.{mostSamples};
 ghost use Rattle.limits.specs.Samples.{allDbm};
+ghost use Rattle.limits.specs.Answer.{accepted};
 ghost use Rattle.bursts.specs.Numbers.{lowestPeak};
 ghost use Rattle.bursts.specs.Levels.{noiseFloor, floorAnswer};
-ghost use Rattle.bursts.specs.Bursts.{defaultOptions, loud, cluster, longEnough, gapSamples, burstOf, firstFrom, inside, optionsOk, burstAnswer};
+ghost use Rattle.bursts.specs.Levels as levels;
+ghost use Rattle.bursts.specs.Bursts.{defaultOptions, loud, cluster, longEnough, gapSamples, burstOf, firstFrom, inside, optionsOk, said, burstAnswer};
 ghost use Rattle.bursts.specs.Found.{burstsFrom, FirstLoud, LastLoud};
 
 // The noise floor of no samples.
@@ -87,7 +89,7 @@ pub fn measured_floor(dbm: &[f32]) -> f32
 
 // The value at 0.2 of the sorted samples, and SILENCE of none (demod.rs `noise_floor`).
 pub fn noise_floor(dbm: &[f32], scratch: &mut [f32]) -> Level
-    ensures { λ r. ⌜ (r ≡ floorAnswer (now (dbm .entry)) (length (now (scratch .entry)))) × (now (scratch .exit) ≡ now (scratch .entry)) ⌝ }
+    ensures { λ r. ⌜ (levels.said r ≡ floorAnswer (now (dbm .entry)) (length (now (scratch .entry)))) × (now (scratch .exit) ≡ now (scratch .entry)) ⌝ }
 {
     if scratch.len() < dbm.len() {
         return Level::Refused(limits::SHORT);
@@ -215,7 +217,7 @@ pub fn search_bursts(
     from: usize,
 ) -> NextBurst
     requires { ⌜ (length (now dbm) ≤ mostSamples) × (at ≤ length (now dbm)) ⌝ }
-    ensures { λ r. ⌜ r ≡ firstFrom from (burstsFrom (now (dbm .entry)) rate options floor at) ⌝ }
+    ensures { λ r. ⌜ said r ≡ accepted (firstFrom from (burstsFrom (now (dbm .entry)) rate options floor at)) ⌝ }
 {
     let threshold = std::num::f32_to_f64_with_nan(floor) + options.above_db;
     let gap = gap_samples(options, rate);
@@ -244,7 +246,7 @@ pub fn find_bursts(
     floor: f32,
     from: usize,
 ) -> NextBurst
-    ensures { λ r. ⌜ r ≡ burstAnswer (now (dbm .entry)) rate options floor from ⌝ }
+    ensures { λ r. ⌜ said r ≡ burstAnswer (now (dbm .entry)) rate options floor from ⌝ }
 {
     if !limits::rate_ok(rate) {
         return NextBurst::Refused(limits::BAD_RATE);

@@ -1,12 +1,13 @@
 -- frequency.rs: cfo_signed, cfo_step_hz, a reading's frequency, round_hz. Assumes nothing.
 use Prim.Native.Nat.{ℕ, _+_, _-_, _/_, _%_, _^_}
-use mathlib.Core.Bool.{Bool, true, false, cond}
+use mathlib.Core.Bool.{cond}
 use lib.Dec.{ltb, eqb}
 use lib.IntN.{ℤ, pos, negsuc}
 use lib.Ieee.{Float, binary64, add, mul, div, lt, ofInt, toUnsigned}
 use Rattle.floats.specs.Floor.{floor, roundHalfUp}
 use Rattle.floats.specs.Number.{num, near}
 use Rattle.limits.specs.Limits.{badNumber}
+use Rattle.limits.specs.Answer.{Answer, refused, accepted, answer}
 use Rattle.cfo.specs.declared.StepHz.{StepHz}
 use Rattle.cfo.specs.declared.StepHz.the-variants.{Refused, Hz}
 
@@ -47,14 +48,18 @@ unfoldable pub stepOf : ℕ → ℕ → Float
 unfolding cfFs
 stepOf bw rate = div binary64 (mul binary64 (cfFs bw) (interpolation (floor (div binary64 (cfFs bw) (num rate))))) (num register)
 
-abbrev pub pickStep : Bool → StepHz → StepHz → StepHz
-pickStep true a b = a
-pickStep false a b = b
+-- 01's number and values of each answer of `cfo_step_hz`
+unfoldable pub said : StepHz → Answer Float
+said (Refused n) = refused n
+said (Hz x) = accepted x
 
--- cfo_step_hz; 01's number 9: bit rate 0
-unfoldable pub stepHz : ℕ → ℕ → StepHz
-unfolding stepOf
-stepHz bw rate = pickStep (eqb rate 0) (Refused badNumber) (Hz (stepOf bw rate))
+-- the cause that applies, 0 where none does: 9 bit rate 0
+unfoldable pub stepCause : ℕ → ℕ
+stepCause rate = cond (eqb rate 0) badNumber 0
+
+unfoldable pub stepHz : ℕ → ℕ → Answer Float
+unfolding stepOf stepCause
+stepHz bw rate = answer (stepCause rate) (stepOf bw rate)
 
 -- a reading's frequency, of receiver frequency, register value and step: f64::from(lo) + f64::from(cfo_signed(v)) * step_hz / CFO_SCALE
 unfoldable pub readingHz : ℕ → ℕ → Float → Float

@@ -1,7 +1,7 @@
 // The carrier frequency offset (CFO) register of frequency.rs: a value as a signed offset, the Hz of one step, a
 // reading's frequency, and rounding to whole Hz.
 ghost use mathlib.Core.Path.{_≡_};
-ghost use Rattle.cfo.specs.Cfo.{signed, interpolation, mantissa, stepHz, readingHz, roundHz};
+ghost use Rattle.cfo.specs.Cfo.{signed, interpolation, mantissa, said, stepHz, readingHz, roundHz};
 
 // The receiver's crystal.
 const XTAL_HZ: f64 = 32_000_000.0;
@@ -57,7 +57,7 @@ fn interp(osr: f64) -> f64
 // Hz per CFO step, as in SUBGRF_GetCFO (STM32CubeWL): the RX_BW code has the BWSELR layout (cfo_step_hz). Refusal 9 for
 // the bit rate 0.
 pub fn cfo_step_hz(bw_code: u8, bit_rate: u32) -> StepHz
-    ensures { λ r. ⌜ r ≡ stepHz «bw_code» «bit_rate» ⌝ }
+    ensures { λ r. ⌜ said r ≡ stepHz «bw_code» «bit_rate» ⌝ }
 {
     if bit_rate == 0 {
         return StepHz::Refused(limits::BAD_NUMBER);

@@ -2,6 +2,7 @@
 use mathlib.Core.Path.{_≡_, refl, sym, ap, _∙_}
 use mathlib.Core.Bool.{true, false}
 use mathlib.Core.List.{List, [], _∷_, _++_, map}
+use mathlib.Core.Option.{none, some}
 use Prim.Native.Nat.{ℕ, _+_, _-_, _≤_, _<_, min, max}
 use lib.IntN.{ℤ}
 use native.Mathlib.Omega.{arith}
@@ -23,62 +24,68 @@ use Rattle.rates.specs.Rates.{nominalOf}
 use Rattle.bursts.specs.Levels.{quantile}
 use Rattle.clock.specs.Numbers.{enoughDips, enoughPoints}
 use Rattle.dips.specs.Dips.{dipsOf, Written}
-use Rattle.clock.specs.Clock.{anchor, lost, place, startClock, fitFrom, pointsFrom}
-use Rattle.clock.specs.Bits.{endIndex, allBits, ppmOf, Outcome, none, some, ended, clocked, fromDips, outcome, told, handed}
-use Rattle.clock.specs.Walk.{walked, places, Rising, Ready}
+use Rattle.clock.specs.Clock.{anchor, lost}
+use Rattle.clock.specs.Running.{place, startClock, fitFrom, pointsFrom, ended, clocked}
+use Rattle.limits.specs.Answer.{accepted}
+use Rattle.clock.specs.Bits.{endIndex, ppmOf, Recovered, Outcome, fromDips, outcome, handed, valuesOf, said}
+use Rattle.clock.specs.Walk.{placedBits, walked, places, Rising, Ready}
 use Rattle.clock.specs.Tracked.{Tracked}
+use Rattle.clock.proofs.RunningLaws.{running-is}
 use Rattle.clock.proofs.WalkLaws.{walk-is, rising-first, length-bits, take-bits}
 use Rattle.clock.proofs.PointLaws.{Good, facts, places-back}
 
 -- an answer and the bits, of an outcome
-abbrev pub Tells : ℕ → Outcome → List ℕ → BurstBits → List ℕ → Type 0
-Tells rate o old r now = (r ≡ told rate o) × (now ≡ handed o old)
+abbrev pub Tells : Outcome → List ℕ → BurstBits → List ℕ → Type 0
+Tells o old r now = (said r ≡ accepted (valuesOf o)) × (now ≡ handed o old)
 
-pub tells-none : (rate : ℕ) (o : Outcome) (old : List ℕ) → o ≡ none → Tells rate o old Nothing old
-unfolding told handed
-tells-none rate o old e = (rw e, rw e)
+pub tells-none : (o : Outcome) (old : List ℕ) → o ≡ none → Tells o old Nothing old
+unfolding said valuesOf handed
+tells-none o old e = (rw e, rw e)
 
 -- ---- from the clock
 
 module _ (rate : ℕ) (seg : List Float) (level : Float) (points : List ℕ) (c : Clock) where
-  pub clock-few : c .count < enoughPoints → clocked seg level points (Fitted c) ≡ none
+  pub clock-few : c .count < enoughPoints → clocked seg rate level points (Fitted c) ≡ none
   unfolding clocked
   clock-few h = rw (lt-ltb (c .count) enoughPoints h)
 
-  pub clock-lost : enoughPoints ≤ c .count → lost (endIndex level seg c) ≡ true → clocked seg level points (Fitted c) ≡ none
+  pub clock-lost : enoughPoints ≤ c .count → lost (endIndex level seg (c .period) (c .phase)) ≡ true → clocked seg rate level points (Fitted c) ≡ none
   unfolding clocked ended
   clock-lost h e = rw (le-ltb (c .count) enoughPoints h, e)
 
-  clock-ended : enoughPoints ≤ c .count → lost (endIndex level seg c) ≡ false
-      → clocked seg level points (Fitted c) ≡ some (allBits points (c .first) (max (c .last) (place (endIndex level seg c)))) c level
-  unfolding clocked ended
+  read : List ℕ → Recovered
+  read bits = record { bits = bits; period = c .period; ppm = ppmOf (c .period) (nominalOf rate); level = level; dips = c .count }
+
+  clock-ended : enoughPoints ≤ c .count → lost (endIndex level seg (c .period) (c .phase)) ≡ false
+      → clocked seg rate level points (Fitted c) ≡ some (read (placedBits points (c .first) (max (c .last) (place (endIndex level seg (c .period) (c .phase))))))
+  unfolding clocked ended read
   clock-ended h e = rw (le-ltb (c .count) enoughPoints h, e)
 
   module _ (end : ℕ) (a : c .first ≤ end) where
-    length-all : length (allBits points (c .first) end) ≡ end - c .first + 2
-    unfolding allBits
+    length-all : length (placedBits points (c .first) end) ≡ end - c .first + 2
+    unfolding placedBits
     length-all = let l = length-bits points (c .first) (end + 1 - c .first) in omega arith
 
     take-all-bits : (len : ℕ) → len ≡ min (end - c .first + 2) mostBits → Rising (c .first) points
-        → 1 ∷ walked points (c .first) (len - 1) ≡ take mostBits (allBits points (c .first) end)
-    unfolding allBits
+        → 1 ∷ walked points (c .first) (len - 1) ≡ take mostBits (placedBits points (c .first) end)
+    unfolding placedBits
     take-all-bits len e r =
         let z : len - 1 ≡ min (mostBits - 1) (end + 1 - c .first) = omega arith in
         ap (λ (l : List ℕ). 1 ∷ l) (rw z (walk-is (min (mostBits - 1) (end + 1 - c .first)) (c .first) points r) ∙ sym (take-bits points (c .first) (mostBits - 1) (end + 1 - c .first)))
 
-  pub clock-bits : (k : Float) (end n len : ℕ) (p : ℤ) (old now : List ℕ) → enoughPoints ≤ c .count → k ≡ endIndex level seg c → lost k ≡ false → end ≡ max (c .last) (place k)
+  pub clock-bits : (k : Float) (end n len : ℕ) (p : ℤ) (old now : List ℕ) → enoughPoints ≤ c .count → k ≡ endIndex level seg (c .period) (c .phase) → lost k ≡ false → end ≡ max (c .last) (place k)
       → n ≡ end - c .first + 2 → len ≡ min n mostBits → p ≡ ppmOf (c .period) (nominalOf rate) → Ready c points
       → now ≡ (1 ∷ walked points (c .first) (len - 1)) ++ drop len old
-      → Tells rate (clocked seg level points (Fitted c)) old (Bits n (c .period) p level (c .count)) now
-  unfolding told handed
+      → Tells (clocked seg rate level points (Fitted c)) old (Bits n (c .period) p level (c .count)) now
+  unfolding said valuesOf handed read
   clock-bits k end n len p old now h ke kl e q m pe r w =
       let o = r .order (omega arith) in
       let a : c .first ≤ end = omega arith in
       let full = length-all end a in
-      let s : clocked seg level points (Fitted c) ≡ some (allBits points (c .first) end) c level =
-      clock-ended h (ap lost (sym ke) ∙ kl) ∙ ap (λ (x : ℕ). some (allBits points (c .first) x) c level) (ap (λ (x : Float). max (c .last) (place x)) (sym ke) ∙ sym e) in
-      let d : min mostBits (length (allBits points (c .first) end)) ≡ len = omega arith in
-      let t : 1 ∷ walked points (c .first) (len - 1) ≡ take mostBits (allBits points (c .first) end) = take-all-bits end a len (m ∙ ap (λ (x : ℕ). min x mostBits) q) (r .rising) in
+      let s : clocked seg rate level points (Fitted c) ≡ some (read (placedBits points (c .first) end)) =
+      clock-ended h (ap lost (sym ke) ∙ kl) ∙ ap (λ (x : ℕ). some (read (placedBits points (c .first) x))) (ap (λ (x : Float). max (c .last) (place x)) (sym ke) ∙ sym e) in
+      let d : min mostBits (length (placedBits points (c .first) end)) ≡ len = omega arith in
+      let t : 1 ∷ walked points (c .first) (len - 1) ≡ take mostBits (placedBits points (c .first) end) = take-all-bits end a len (m ∙ ap (λ (x : ℕ). min x mostBits) q) (r .rising) in
       (rw (s, full, q, pe), rw (s, d) (w ∙ ap (λ (l : List ℕ). l ++ drop len old) t))
 
 -- ---- from the samples
@@ -99,11 +106,11 @@ module _ (seg : List Float) (rate : ℕ) (level : Float) (ds : List Float) where
   few-dips h = rw (lt-ltb (length ds) enoughDips h)
 
   pub dips-clock : (start : Clock) → enoughDips ≤ length ds → start ≡ startClock (nominalOf rate) (anchor (nominalOf rate) (getD ds 0 nan) ds)
-      → fromDips seg rate level ds ≡ clocked seg level (pointsFrom start ds) (fitFrom start ds)
+      → fromDips seg rate level ds ≡ clocked seg rate level (pointsFrom start ds) (fitFrom start ds)
   unfolding fromDips
-  dips-clock start h e = rw (le-ltb (length ds) enoughDips h, e)
+  dips-clock start h e = rw (le-ltb (length ds) enoughDips h, e) (running-is seg rate level (nominalOf rate) (anchor (nominalOf rate) (getD ds 0 nan) ds) ds)
 
-  pub lost-clock : (start : Clock) (now : List Float) → Tracked start ds Astray now → clocked seg level (pointsFrom start ds) (fitFrom start ds) ≡ none
+  pub lost-clock : (start : Clock) (now : List Float) → Tracked start ds Astray now → clocked seg rate level (pointsFrom start ds) (fitFrom start ds) ≡ none
   unfolding clocked
   lost-clock start now t = rw (sym (t .fit))
 
@@ -129,7 +136,7 @@ module _ (seg : List Float) (rate : ℕ) (level : Float) (ds : List Float) where
         let l : length (take (c .count) now) ≡ length (pointsFrom start ds) = ap length (t .holds c refl) ∙ length-map (pointsFrom start ds) num in
         omega (arith, length-take (c .count) now, f .many)
 
-    pub kept-clock : clocked seg level (pointsFrom start ds) (fitFrom start ds) ≡ clocked seg level (places now (c .count)) (Fitted c)
+    pub kept-clock : clocked seg rate level (pointsFrom start ds) (fitFrom start ds) ≡ clocked seg rate level (places now (c .count)) (Fitted c)
     kept-clock = rw (kept-places, fitted)
 
 -- the dips in the front of a slice
@@ -160,7 +167,7 @@ module _ (seg : List Float) (rate : ℕ) (level wide : Float) (old now : List Fl
   samples-few a = from ∙ few-dips seg rate level (take n now) (omega (arith, many))
 
   pub samples-clock : (nominal phase : Float) (start : Clock) → enoughDips ≤ n → nominal ≡ nominalOf rate → phase ≡ anchor nominal (getD now 0 nan) (take n now)
-      → start ≡ startClock nominal phase → outcome seg rate ≡ clocked seg level (pointsFrom start (take n now)) (fitFrom start (take n now))
+      → start ≡ startClock nominal phase → outcome seg rate ≡ clocked seg rate level (pointsFrom start (take n now)) (fitFrom start (take n now))
   samples-clock nominal phase start a ne pe se =
       let g : getD (take n now) 0 nan ≡ getD now 0 nan = getD-take n now 0 nan (omega arith) in
       let s : start ≡ startClock (nominalOf rate) (anchor (nominalOf rate) (getD (take n now) 0 nan) (take n now)) = se ∙ rw (pe, ne, g) in

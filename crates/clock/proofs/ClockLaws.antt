@@ -18,7 +18,8 @@ use Rattle.floats.proofs.Floors.{nan-is, no-nan-is}
 use Rattle.clock.specs.declared.Clock.{Clock}
 use Rattle.clock.specs.declared.Step.the-variants.{Lost, Skipped, Joined}
 use Rattle.clock.specs.Numbers.{anchors, refits, farthestBit}
-use Rattle.clock.specs.Clock.{angle, sineSum, cosineSum, turned, anchor, sizeOf, lost, place, indexAt, skips, summed, det, refitted, refit, step}
+use Rattle.clock.specs.Clock.{sumFrom, angle, turned, anchor, sizeOf, lost}
+use Rattle.clock.specs.Running.{place, indexAt, skips, summed, det, refitted, refit, step}
 use Rattle.dips.proofs.DipLaws.{lt-or-ge, or-right}
 
 -- ---- bit indexes
@@ -78,26 +79,24 @@ first-few n m l =
     (λ h. let e : min n m ≡ m = min-eq-right h in rw e (take-take m n l h))
     (lt-or-ge n m)
 
-module _ (nominal d₀ : Float) (l : List Float) (i to : ℕ) (w : Float) where
-  pub sine-turn : (s a r : Float) → i < to → to ≤ length l → a ≡ angle nominal d₀ (getD l i nan) → r ≡ sine a
-      → sineSum nominal d₀ s (slice i to l) ≡ w → sineSum nominal d₀ (add binary64 s r) (slice (i + 1) to l) ≡ w
-  unfolding sineSum
-  sine-turn s a r h k e q p = rw (q, e, add-one i) (rw (slice-cons i to l nan h k) at p)
+-- a sum over the elements from i on, one step, and at its end
+module _ (f : Float → Float) (l : List Float) (i to : ℕ) (w : Float) where
+  pub sum-turn : (s r : Float) → i < to → to ≤ length l → r ≡ f (getD l i nan) → sumFrom f s (slice i to l) ≡ w → sumFrom f (add binary64 s r) (slice (i + 1) to l) ≡ w
+  unfolding sumFrom
+  sum-turn s r h k e p = rw (e, add-one i) (rw (slice-cons i to l nan h k) at p)
 
-  pub sine-end : (s : Float) → i ≡ to → sineSum nominal d₀ s (slice i to l) ≡ w → s ≡ w
-  unfolding sineSum
-  sine-end s e p = rw (e, slice-empty to l) at p
+  pub sum-end : (s : Float) → i ≡ to → sumFrom f s (slice i to l) ≡ w → s ≡ w
+  unfolding sumFrom
+  sum-end s e p = rw (e, slice-empty to l) at p
 
-  pub cosine-turn : (s a r : Float) → i < to → to ≤ length l → a ≡ angle nominal d₀ (getD l i nan) → r ≡ cosine a
-      → cosineSum nominal d₀ s (slice i to l) ≡ w → cosineSum nominal d₀ (add binary64 s r) (slice (i + 1) to l) ≡ w
-  unfolding cosineSum
-  cosine-turn s a r h k e q p = rw (q, e, add-one i) (rw (slice-cons i to l nan h k) at p)
+-- what the angles of dips are summed by
+abbrev pub sineOf : Float → Float → Float → Float
+sineOf nominal d₀ d = sine (angle nominal d₀ d)
 
-  pub cosine-end : (s : Float) → i ≡ to → cosineSum nominal d₀ s (slice i to l) ≡ w → s ≡ w
-  unfolding cosineSum
-  cosine-end s e p = rw (e, slice-empty to l) at p
+abbrev pub cosineOf : Float → Float → Float → Float
+cosineOf nominal d₀ d = cosine (angle nominal d₀ d)
 
 pub anchor-is : (nominal d₀ : Float) (l : List Float) (n to : ℕ) (s c : Float) → to ≡ min n anchors
-    → s ≡ sineSum nominal d₀ (num 0) (slice 0 to l) → c ≡ cosineSum nominal d₀ (num 0) (slice 0 to l) → turned nominal d₀ s c ≡ anchor nominal d₀ (take n l)
+    → s ≡ sumFrom (sineOf nominal d₀) (num 0) (slice 0 to l) → c ≡ sumFrom (cosineOf nominal d₀) (num 0) (slice 0 to l) → turned nominal d₀ s c ≡ anchor nominal d₀ (take n l)
 unfolding anchor
 anchor-is nominal d₀ l n to s c e p q = rw (p, q, e, first-few n anchors l)

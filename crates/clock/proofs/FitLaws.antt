@@ -16,7 +16,8 @@ use Rattle.clock.specs.declared.Clock.{Clock}
 use Rattle.clock.specs.declared.Step.{Step}
 use Rattle.clock.specs.declared.Step.the-variants.{Lost, Skipped, Joined}
 use Rattle.clock.specs.declared.Fit.the-variants.{Astray, Fitted}
-use Rattle.clock.specs.Clock.{lost, place, sizeOf, indexAt, skips, summed, det, refitted, refit, step, astray, after, added, fitFrom, pointsFrom}
+use Rattle.clock.specs.Clock.{lost, sizeOf}
+use Rattle.clock.specs.Running.{place, indexAt, skips, summed, det, refitted, refit, step, astray, after, added, fitFrom, pointsFrom}
 use Rattle.clock.specs.Numbers.{offGrid, refits, farthestBit}
 use Rattle.clock.specs.Tracked.{Tracked}
 use Rattle.dips.proofs.DipLaws.{or-right}

@@ -4,5 +4,8 @@ pub mod ClockLaws
 pub mod FitLaws
 pub mod PointLaws
 pub mod WalkLaws
+pub mod IndexLaws
+pub mod BackLaws
+pub mod RunningLaws
 pub mod BitLaws
 pub mod BitAnswers

@@ -15,7 +15,7 @@ use Rattle.clock.specs.declared.Step.{Step}
 use Rattle.clock.specs.declared.Step.the-variants.{Lost, Skipped, Joined}
 use Rattle.clock.specs.declared.Fit.the-variants.{Astray, Fitted}
 use Rattle.clock.specs.Numbers.{farthestBit}
-use Rattle.clock.specs.Clock.{step, astray, after, added, fitFrom, pointsFrom}
+use Rattle.clock.specs.Running.{step, astray, after, added, fitFrom, pointsFrom}
 use Rattle.dips.proofs.DipLaws.{lt-or-ge}
 use Rattle.clock.proofs.FitLaws.{Point, joined-point}
 use Rattle.clock.specs.Walk.{Rising, flat, rise}

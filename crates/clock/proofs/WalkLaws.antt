@@ -12,8 +12,7 @@ use lib.ListN.{length, take, drop, set, getD, length-set, take-append-drop}
 use lib.Seq.{drop-drop, take-suc-set, drop-set-lt}
 use lib.Ieee.{Float, nan, toUnsigned}
 use borrow.Author.Tests.{eqb-true, eqb-false, ne-eqb}
-use Rattle.clock.specs.Bits.{onGrid, bitsFrom}
-use Rattle.clock.specs.Walk.{heads, walked, places, Rising, flat, rise}
+use Rattle.clock.specs.Walk.{hasPlace, bitsFrom, heads, walked, places, Rising, flat, rise}
 
 -- ---- the places in a slice
 
@@ -115,26 +114,26 @@ weaker : {j k : ℕ} {l : List ℕ} → j ≤ k → Rising k l → Rising j l
 weaker h flat = flat
 weaker {j = j} h (rise {p = p} a r) = rise {k = j} {p = p} (omega arith) r
 
-off-grid : (k : ℕ) (l : List ℕ) → Rising (suc k) l → onGrid k l ≡ false
-unfolding onGrid
+off-grid : (k : ℕ) (l : List ℕ) → Rising (suc k) l → hasPlace k l ≡ false
+unfolding hasPlace
 off-grid k [] r = refl
 off-grid k (p ∷ ps) (rise h r) = rw (ne-eqb k p (λ e. omega arith)) (off-grid k ps (weaker (omega arith) r))
 
 bits-past : (p : ℕ) (ps : List ℕ) (k n : ℕ) → p < k → bitsFrom (p ∷ ps) k n ≡ bitsFrom ps k n
-unfolding bitsFrom onGrid
+unfolding bitsFrom hasPlace
 bits-past p ps k zero h = refl
-bits-past p ps k (suc n) h = rw (ne-eqb k p (λ e. omega arith)) (ap (λ (l : List ℕ). cond (onGrid k ps) 0 1 ∷ l) (bits-past p ps (suc k) n (omega arith)))
+bits-past p ps k (suc n) h = rw (ne-eqb k p (λ e. omega arith)) (ap (λ (l : List ℕ). cond (hasPlace k ps) 0 1 ∷ l) (bits-past p ps (suc k) n (omega arith)))
 
 pub walk-is : (n k : ℕ) (l : List ℕ) → Rising k l → walked l k n ≡ bitsFrom l k n
-unfolding walked bitsFrom heads onGrid
+unfolding walked bitsFrom heads hasPlace
 walk-is zero k l r = refl
 walk-is (suc n) k [] r = ap (λ (m : List ℕ). 1 ∷ m) (walk-is n (suc k) [] flat)
 walk-is (suc n) k (p ∷ ps) (rise h r) =
     go (eqb k p) (eqb-true k p) (eqb-false k p) (walk-is n (suc k) ps) (walk-is n (suc k) (p ∷ ps)) (off-grid k ps)
   where
     go : (t : Bool) → (t ≡ true → k ≡ p) → (t ≡ false → k ≡ p → ⊥) → (Rising (suc k) ps → walked ps (suc k) n ≡ bitsFrom ps (suc k) n)
-        → (Rising (suc k) (p ∷ ps) → walked (p ∷ ps) (suc k) n ≡ bitsFrom (p ∷ ps) (suc k) n) → (Rising (suc k) ps → onGrid k ps ≡ false)
-        → cond t (0 ∷ walked ps (suc k) n) (1 ∷ walked (p ∷ ps) (suc k) n) ≡ cond (t || onGrid k ps) 0 1 ∷ bitsFrom (p ∷ ps) (suc k) n
+        → (Rising (suc k) (p ∷ ps) → walked (p ∷ ps) (suc k) n ≡ bitsFrom (p ∷ ps) (suc k) n) → (Rising (suc k) ps → hasPlace k ps ≡ false)
+        → cond t (0 ∷ walked ps (suc k) n) (1 ∷ walked (p ∷ ps) (suc k) n) ≡ cond (t || hasPlace k ps) 0 1 ∷ bitsFrom (p ∷ ps) (suc k) n
     go true f g i j o =
         let e = f refl in
         ap (λ (m : List ℕ). 0 ∷ m) (i (rw e r) ∙ sym (bits-past p ps (suc k) n (omega arith)))
@@ -162,4 +161,4 @@ take-bits l k zero n = let z : min 0 n ≡ 0 = omega arith in rw z
 take-bits l k (suc m) zero = let z : min (suc m) 0 ≡ 0 = omega arith in rw z
 take-bits l k (suc m) (suc n) =
     let z : min (suc m) (suc n) ≡ suc (min m n) = omega arith in
-    rw z (ap (λ (r : List ℕ). cond (onGrid k l) 0 1 ∷ r) (take-bits l (suc k) m n))
+    rw z (ap (λ (r : List ℕ). cond (hasPlace k l) 0 1 ∷ r) (take-bits l (suc k) m n))

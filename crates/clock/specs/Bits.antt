@@ -1,10 +1,10 @@
 -- `burst_bits` of demod.rs: the bits between the points of the clock, and what it hands over. Assumes nothing.
-use Prim.Native.Nat.{ℕ, zero, suc, _+_, _-_, _*_, max, min}
-use mathlib.Core.Path.{_≡_}
-use lib.IntN.{ℤ}
-use mathlib.Core.Bool.{Bool, true, false, cond, _||_}
-use mathlib.Core.List.{List, [], _∷_, _++_}
-use lib.Dec.{T, ltb, eqb}
+use Prim.Native.Nat.{ℕ, zero, suc, _-_, _*_, min}
+use lib.IntN.{ℤ, pos, negsuc, sucℤ, _-ℤ_}
+use mathlib.Core.Bool.{Bool, false, cond, not, _||_}
+use mathlib.Core.List.{List, [], _∷_, _++_, map}
+use mathlib.Core.Option.{Option, none, some}
+use lib.Dec.{ltb, eqb}
 use lib.ListN.{length, take, drop, getD}
 use lib.Ieee.{Float, nan, binary64, sub, mul, div, lt, toSigned}
 use Rattle.floats.specs.Floor.{floor, roundHalfUp}
@@ -16,10 +16,8 @@ use Rattle.rates.specs.Rates.{nominalOf}
 use Rattle.bursts.specs.Levels.{quantile}
 use Rattle.dips.specs.Dips.{dipsOf}
 use Rattle.clock.specs.Numbers.{enoughDips, enoughPoints, endDb, million}
-use Rattle.clock.specs.Clock.{anchor, lost, place, startClock, fitFrom, pointsFrom}
-use Rattle.clock.specs.declared.Clock.{Clock}
-use Rattle.clock.specs.declared.Fit.{Fit}
-use Rattle.clock.specs.declared.Fit.the-variants.{Astray, Fitted}
+use Rattle.clock.specs.Clock.{anchor, lost, asIndex, atMost, Point, BitClock, firstIndex, lastIndex, startClock, track}
+use Rattle.limits.specs.Answer.{Answer, refused, accepted, answer}
 use Rattle.clock.specs.declared.BurstBits.{BurstBits}
 use Rattle.clock.specs.declared.BurstBits.the-variants.{Refused, Nothing, Bits}
 
@@ -29,54 +27,93 @@ lastHigh limit seg zero = 0
 lastHigh limit seg (suc i) = cond (lt (getD seg (suc i) nan) limit) (lastHigh limit seg i) (suc i)
 
 -- floor((last_high - phase) / period)
-unfoldable pub endIndex : Float → List Float → Clock → Float
+unfoldable pub endIndex : Float → List Float → Float → Float → Float
 unfolding lastHigh
-endIndex level seg c =
-    floor (div binary64 (sub binary64 (num (lastHigh (sub binary64 level endDb) seg (length seg - 1))) (c .phase)) (c .period))
+endIndex level seg period phase =
+    floor (div binary64 (sub binary64 (num (lastHigh (sub binary64 level endDb) seg (length seg - 1))) phase) period)
 
--- the Rust's `on_grid`
-unfoldable pub onGrid : ℕ → List ℕ → Bool
+-- last.max(end)
+unfoldable pub larger : ℤ → ℤ → ℤ
+unfolding atMost
+larger j k = cond (atMost j k) k j
+
+-- k and the indexes after it, n in all
+unfoldable pub upward : ℤ → ℕ → List ℤ
+upward k zero = []
+upward k (suc n) = k ∷ upward (sucℤ k) n
+
+-- how many: none where the number is under zero
+abbrev pub positivePart : ℤ → ℕ
+positivePart (pos n) = n
+positivePart (negsuc n) = 0
+
+-- first..=end
+unfoldable pub indexes : ℤ → ℤ → List ℤ
+unfolding upward
+indexes first end = upward first (positivePart (sucℤ end -ℤ first))
+
+-- on_grid.contains(&k)
+unfoldable pub same : ℤ → ℤ → Bool
+same (pos m) (pos n) = eqb m n
+same (pos m) (negsuc n) = false
+same (negsuc m) (pos n) = false
+same (negsuc m) (negsuc n) = eqb m n
+
+unfoldable pub onGrid : ℤ → List Point → Bool
+unfolding same
 onGrid k [] = false
-onGrid k (p ∷ ps) = eqb k p || onGrid k ps
+onGrid k (p ∷ ps) = same k (p .index) || onGrid k ps
 
--- a dip on a bit boundary means data bit 0, no dip means 1: the n bits from place k on
-unfoldable pub bitsFrom : List ℕ → ℕ → ℕ → List ℕ
+-- a dip on a bit boundary means data bit 0, no dip means 1
+unfoldable pub bitAt : List Point → ℤ → ℕ
 unfolding onGrid
-bitsFrom points k zero = []
-bitsFrom points k (suc n) = cond (onGrid k points) 0 1 ∷ bitsFrom points (suc k) n
+bitAt ps k = cond (onGrid k ps) 0 1
 
 -- the first preamble bit has no phase reference: a 1, then the bits from the first point to the end
-unfoldable pub allBits : List ℕ → ℕ → ℕ → List ℕ
-unfolding bitsFrom
-allBits points first end = 1 ∷ bitsFrom points first (end + 1 - first)
+unfoldable pub allBits : List Point → ℤ → List ℕ
+unfolding firstIndex lastIndex larger indexes bitAt
+allBits ps end = 1 ∷ map (bitAt ps) (indexes (firstIndex ps) (larger (lastIndex ps) end))
 
 -- round((period / nominal - 1) * 1e6) as i32
 unfoldable pub ppmOf : Float → Float → ℤ
 ppmOf period nominal = toSigned 31 (roundHalfUp (mul binary64 (sub binary64 (div binary64 period nominal) (num 1)) million))
 
--- no bits, or all bits, with the clock's last state and the level
-pub data Outcome : Type 0 where
-  none : Outcome
-  some : List ℕ → Clock → Float → Outcome
+-- the Rust's `BurstBits`, a bit as 0 or 1, and its `Option`
+pub record Recovered : Type 0 where
+  pub bits : List ℕ
+  pub period : Float
+  pub ppm : ℤ
+  pub level : Float
+  pub dips : ℕ
+
+abbrev pub Outcome : Type 0
+Outcome = Option Recovered
 
 -- from the clock: none where the end's index is lost
-unfoldable pub ended : List Float → Float → List ℕ → Clock → Outcome
-unfolding endIndex allBits
-ended seg level points c =
-    cond (lost (endIndex level seg c)) none (some (allBits points (c .first) (max (c .last) (place (endIndex level seg c)))) c level)
+unfoldable pub ended : List Float → ℕ → Float → BitClock → Outcome
+unfolding lost endIndex allBits ppmOf
+ended seg rate level c =
+    cond (lost (endIndex level seg (c .period) (c .phase))) none
+    (some (record {
+      bits = allBits (c .points) (asIndex (endIndex level seg (c .period) (c .phase)));
+      period = c .period;
+      ppm = ppmOf (c .period) (nominalOf rate);
+      level = level;
+      dips = length (c .points);
+    }))
 
 -- none under 8 points
-unfoldable pub clocked : List Float → Float → List ℕ → Fit → Outcome
+unfoldable pub clocked : List Float → ℕ → Float → Option BitClock → Outcome
 unfolding ended
-clocked seg level points Astray = none
-clocked seg level points (Fitted c) = cond (ltb (c .count) enoughPoints) none (ended seg level points c)
+clocked seg rate level none = none
+clocked seg rate level (some c) = cond (ltb (length (c .points)) enoughPoints) none (ended seg rate level c)
 
 -- from the dips: none under 8
 unfoldable pub fromDips : List Float → ℕ → Float → List Float → Outcome
-unfolding clocked anchor startClock
+unfolding clocked anchor startClock track
 fromDips seg rate level ds =
-    let c = startClock (nominalOf rate) (anchor (nominalOf rate) (getD ds 0 nan) ds) in
-    cond (ltb (length ds) enoughDips) none (clocked seg level (pointsFrom c ds) (fitFrom c ds))
+    cond (ltb (length ds) enoughDips) none
+    (clocked seg rate level (track (startClock (nominalOf rate) (anchor (nominalOf rate) (getD ds 0 nan) ds)) ds))
 
 -- the burst's level is the value at 0.9 of its sorted samples; no samples have none
 unfoldable pub outcome : List Float → ℕ → Outcome
@@ -84,35 +121,37 @@ unfolding fromDips quantile
 outcome [] rate = none
 outcome (x ∷ l) rate = fromDips (x ∷ l) rate (quantile levelQuantile (x ∷ l)) (dipsOf (x ∷ l) rate (quantile levelQuantile (x ∷ l)))
 
--- an outcome as the answer, and what it leaves in the bits: the first 1,024, the rest kept
-unfoldable pub told : ℕ → Outcome → BurstBits
-unfolding ppmOf
-told rate none = Nothing
-told rate (some bits c level) = Bits (length bits) (c .period) (ppmOf (c .period) (nominalOf rate)) level (c .count)
-
+-- what it leaves in the bits: the first 1,024, the rest kept
 unfoldable pub handed : Outcome → List ℕ → List ℕ
 handed none old = old
-handed (some bits c level) old = take mostBits bits ++ drop (min mostBits (length bits)) old
+handed (some b) old = take mostBits (b .bits) ++ drop (min mostBits (length (b .bits))) old
 
--- what `burst_bits` answers: room for 1,024 bits, bufferS * rate f32 and 3,000 f64 is lent
-unfoldable pub bitsAnswer : List Float → ℕ → ℕ → ℕ → ℕ → BurstBits
-unfolding outcome told
-bitsAnswer seg rate bits s32 s64 =
-    cond (rateOk rate)
-    (cond (ltb bits mostBits || (ltb s32 (bufferS * rate) || ltb s64 scratch64)) (Refused short)
-    (cond (ltb (bufferS * rate) (length seg)) (Refused long)
-    (cond (allDbm seg) (told rate (outcome seg rate)) (Refused badSample))))
-    (Refused badRate)
+-- what is answered beside the bits
+pub record Values : Type 0 where
+  pub count : ℕ
+  pub period : Float
+  pub ppm : ℤ
+  pub level : Float
+  pub points : ℕ
 
--- what it leaves in the bits
-unfoldable pub bitsLeft : BurstBits → Outcome → List ℕ → List ℕ
-unfolding handed
-bitsLeft (Refused n) o old = old
-bitsLeft Nothing o old = handed o old
-bitsLeft (Bits count period ppm level points) o old = handed o old
+unfoldable pub valuesOf : Outcome → Option Values
+valuesOf none = none
+valuesOf (some b) = some (record { count = length (b .bits); period = b .period; ppm = b .ppm; level = b .level; points = b .dips })
 
--- a scratch is free after an accepted call, and after a refused one as it was
-unfoldable pub Free : BurstBits → List Float → List Float → Type 0
-Free (Refused n) old now = now ≡ old
-Free Nothing old now = T true
-Free (Bits count period ppm level points) old now = T true
+-- 01's number and values of each answer; no bits is an ordinary answer
+unfoldable pub said : BurstBits → Answer (Option Values)
+said (Refused n) = refused n
+said Nothing = accepted none
+said (Bits count period ppm level points) = accepted (some (record { count = count; period = period; ppm = ppm; level = level; points = points }))
+
+-- the first cause that applies to `burst_bits`, 0 where none does: room for 1,024 bits, 12 × rate f32 and 3,000 f64 is lent
+unfoldable pub bitsCause : List Float → ℕ → ℕ → ℕ → ℕ → ℕ
+bitsCause seg rate bits s32 s64 =
+    cond (not (rateOk rate)) badRate
+    (cond (ltb bits mostBits || (ltb s32 (bufferS * rate) || ltb s64 scratch64)) short
+    (cond (ltb (bufferS * rate) (length seg)) long
+    (cond (not (allDbm seg)) badSample
+    0)))
+
+abbrev pub bitsAnswer : List Float → ℕ → ℕ → ℕ → ℕ → Answer (Option Values)
+bitsAnswer seg rate bits s32 s64 = answer (bitsCause seg rate bits s32 s64) (valuesOf (outcome seg rate))

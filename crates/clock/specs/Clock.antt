@@ -1,155 +1,160 @@
--- The bit clock of `burst_bits` (demod.rs): each dip is assigned to a bit index with the current estimate, then period and phase are fitted anew by least squares.
--- The Rust sums over all points at each fit; a sum from the left is its last value and one term more, so the sums are kept. Assumes nothing.
-use Prim.Native.Nat.{ℕ, _+_, _-_}
+-- The bit clock of `burst_bits` (demod.rs): each dip is assigned to a bit index with the current estimate, then period and phase are fitted anew by least squares
+-- to all points. Assumes nothing.
+use Prim.Native.Nat.{ℕ}
 use mathlib.Core.Bool.{Bool, true, false, cond, _&&_, _||_}
-use mathlib.Core.List.{List, [], _∷_}
-use lib.Dec.{leb, ltb, eqb}
-use lib.ListN.{take}
-use lib.Ieee.{Float, binary64, add, sub, mul, div, lt, isNan, toUnsigned}
+use mathlib.Core.List.{List, [], _∷_, _++_}
+use mathlib.Core.Option.{Option, none, some}
+use lib.IntN.{ℤ, pos, negsuc}
+use lib.Dec.{leb, ltb}
+use lib.ListN.{length, take}
+use lib.Ieee.{Float, binary64, add, sub, mul, div, lt, isNan, ofInt, toSigned, toUnsigned}
 use Rattle.floats.specs.Floor.{roundHalfUp}
 use Rattle.floats.specs.Number.{num}
 use Rattle.floats.specs.Trig.{tau, cosine, sine, magnitude, arctangent}
 use Rattle.clock.specs.Numbers.{offGrid, anchors, refits, farthestBit}
-use Rattle.clock.specs.declared.Clock.{Clock}
-use Rattle.clock.specs.declared.Step.{Step}
-use Rattle.clock.specs.declared.Step.the-variants.{Lost, Skipped, Joined}
-use Rattle.clock.specs.declared.Fit.{Fit}
-use Rattle.clock.specs.declared.Fit.the-variants.{Astray, Fitted}
 
--- ---- the anchor: the mean phase of the first dips, modulo one bit
+-- s, and f of each element added to it, in order (the Rust's `fold`, and its sums in a loop)
+unfoldable pub sumFrom : {A : Type 0} → (A → Float) → Float → List A → Float
+sumFrom f s [] = s
+sumFrom f s (x ∷ xs) = sumFrom f (add binary64 s (f x)) xs
+
+-- ---- the anchor: the mean phase of the first dips (circular mean modulo one bit)
 
 -- 2 * PI * (d - dips[0]) / nominal
 unfoldable pub angle : Float → Float → Float → Float
 angle nominal d₀ d = div binary64 (mul binary64 tau (sub binary64 d d₀)) nominal
 
--- the sums of sines and of cosines, by 01's stand-ins
-unfoldable pub sineSum : Float → Float → Float → List Float → Float
-unfolding angle
-sineSum nominal d₀ s [] = s
-sineSum nominal d₀ s (d ∷ ds) = sineSum nominal d₀ (add binary64 s (sine (angle nominal d₀ d))) ds
-
-unfoldable pub cosineSum : Float → Float → Float → List Float → Float
-unfolding angle
-cosineSum nominal d₀ c [] = c
-cosineSum nominal d₀ c (d ∷ ds) = cosineSum nominal d₀ (add binary64 c (cosine (angle nominal d₀ d))) ds
-
 -- dips[0] + atan2(s, c) / (2 * PI) * nominal
 unfoldable pub turned : Float → Float → Float → Float → Float
 turned nominal d₀ s c = add binary64 d₀ (mul binary64 (div binary64 (arctangent s c) tau) nominal)
 
+-- the phase before the first dip, of the sums of sines and cosines by 01's stand-ins
 unfoldable pub anchor : Float → Float → List Float → Float
-unfolding sineSum cosineSum turned
-anchor nominal d₀ ds = turned nominal d₀ (sineSum nominal d₀ (num 0) (take anchors ds)) (cosineSum nominal d₀ (num 0) (take anchors ds))
+unfolding sumFrom angle turned
+anchor nominal d₀ ds =
+    turned nominal d₀
+    (sumFrom (λ d. sine (angle nominal d₀ d)) (num 0) (take anchors ds))
+    (sumFrom (λ d. cosine (angle nominal d₀ d)) (num 0) (take anchors ds))
 
--- ---- bit indexes: whole numbers, as floats; none is accepted that is no number or beyond ±2^31, so the Rust's i64 is the same number
+-- ---- bit indexes
 
--- |k| as a whole number
+-- k.abs() as u64
 unfoldable pub sizeOf : Float → ℕ
 sizeOf k = toUnsigned 64 (magnitude k)
 
--- 01: not a number, or beyond ±2^31
+-- 01: a bit index that is not a number, or beyond ±2^31
 unfoldable pub lost : Float → Bool
 unfolding sizeOf
 lost k = isNan k || ltb farthestBit (sizeOf k)
 
--- k + 2^31, a natural number
-unfoldable pub place : Float → ℕ
-unfolding sizeOf
-place k = cond (lt k (num 0)) (farthestBit - sizeOf k) (farthestBit + sizeOf k)
+-- `as i64` of a float, and `as f64` of an index
+abbrev pub asIndex : Float → ℤ
+asIndex x = toSigned 63 x
+
+abbrev pub asFloat : ℤ → Float
+asFloat k = ofInt binary64 k
+
+-- j <= k
+unfoldable pub atMost : ℤ → ℤ → Bool
+atMost (pos m) (pos n) = leb m n
+atMost (pos m) (negsuc n) = false
+atMost (negsuc m) (pos n) = true
+atMost (negsuc m) (negsuc n) = leb n m
+
+-- ---- points
+
+-- (k, d): a bit index and the dip that stands there
+pub record Point : Type 0 where
+  pub index : ℤ
+  pub dip : Float
+
+-- the Rust's `period`, `phase` and `points`
+pub record BitClock : Type 0 where
+  pub period : Float
+  pub phase : Float
+  pub points : List Point
+
+-- points[0].0 and points[points.len() - 1].0, where there are points
+unfoldable pub firstIndex : List Point → ℤ
+firstIndex [] = pos 0
+firstIndex (p ∷ ps) = p .index
+
+unfoldable pub lastIndex : List Point → ℤ
+lastIndex [] = pos 0
+lastIndex (p ∷ []) = p .index
+lastIndex (p ∷ (q ∷ ps)) = lastIndex (q ∷ ps)
+
+-- ---- the fit
+
+-- sk, sd, skk and skd: sums over all points, from 0.0 on
+unfoldable pub sumK : List Point → Float
+unfolding sumFrom
+sumK ps = sumFrom (λ p. asFloat (p .index)) (num 0) ps
+
+unfoldable pub sumD : List Point → Float
+unfolding sumFrom
+sumD ps = sumFrom (λ p. p .dip) (num 0) ps
+
+unfoldable pub sumKK : List Point → Float
+unfolding sumFrom
+sumKK ps = sumFrom (λ p. mul binary64 (asFloat (p .index)) (asFloat (p .index))) (num 0) ps
+
+unfoldable pub sumKD : List Point → Float
+unfolding sumFrom
+sumKD ps = sumFrom (λ p. mul binary64 (asFloat (p .index)) (p .dip)) (num 0) ps
+
+-- n * skk - sk * sk
+unfoldable pub det : List Point → Float
+unfolding sumK sumKK
+det ps = sub binary64 (mul binary64 (num (length ps)) (sumKK ps)) (mul binary64 (sumK ps) (sumK ps))
+
+-- (n * skd - sk * sd) / det
+unfoldable pub slope : List Point → Float
+unfolding sumK sumD sumKD det
+slope ps = div binary64 (sub binary64 (mul binary64 (num (length ps)) (sumKD ps)) (mul binary64 (sumK ps) (sumD ps))) (det ps)
+
+-- (sd - period * sk) / n
+unfoldable pub offset : List Point → Float
+unfolding sumK sumD slope
+offset ps = div binary64 (sub binary64 (sumD ps) (mul binary64 (slope ps) (sumK ps))) (num (length ps))
+
+-- period and phase by least squares, from the fourth point on, where det > 0.0
+unfoldable pub refit : BitClock → BitClock
+unfolding det slope offset
+refit c =
+    cond (leb refits (length (c .points)) && lt (num 0) (det (c .points)))
+    (record { period = slope (c .points); phase = offset (c .points); points = c .points })
+    c
 
 -- ---- one dip
 
 -- round((d - phase) / period)
-unfoldable pub indexAt : Clock → Float → Float
+unfoldable pub indexAt : BitClock → Float → Float
 indexAt c d = roundHalfUp (div binary64 (sub binary64 d (c .phase)) (c .period))
 
--- too far from its place, or not after the last point
-unfoldable pub skips : Clock → Float → Float → Bool
-unfolding place
+-- (d - predicted).abs() > 0.35 * period, or k <= the last point's index
+unfoldable pub skips : BitClock → Float → ℤ → Bool
+unfolding atMost lastIndex
 skips c d k =
-    lt (mul binary64 offGrid (c .period)) (magnitude (sub binary64 d (add binary64 (c .phase) (mul binary64 k (c .period)))))
-    || (ltb 0 (c .count) && leb (place k) (c .last))
+    lt (mul binary64 offGrid (c .period)) (magnitude (sub binary64 d (add binary64 (c .phase) (mul binary64 (asFloat k) (c .period)))))
+    || (ltb 0 (length (c .points)) && atMost k (lastIndex (c .points)))
 
--- the point in the sums
-unfoldable pub summed : Clock → Float → Float → Clock
-unfolding place
-summed c d k =
-    record {
-      period = c .period;
-      phase = c .phase;
-      sk = add binary64 (c .sk) k;
-      sd = add binary64 (c .sd) d;
-      skk = add binary64 (c .skk) (mul binary64 k k);
-      skd = add binary64 (c .skd) (mul binary64 k d);
-      count = c .count + 1;
-      first = cond (eqb (c .count) 0) (place k) (c .first);
-      last = place k;
-    }
+-- points.push((k, d))
+unfoldable pub pushed : BitClock → Float → ℤ → BitClock
+pushed c d k = record { period = c .period; phase = c .phase; points = c .points ++ (record { index = k; dip = d } ∷ []) }
 
--- n * skk - sk * sk
-unfoldable pub det : Clock → Float
-det c = sub binary64 (mul binary64 (num (c .count)) (c .skk)) (mul binary64 (c .sk) (c .sk))
+unfoldable pub joined : BitClock → Float → ℤ → BitClock
+unfolding skips pushed refit
+joined c d k = cond (skips c d k) c (refit (pushed c d k))
 
--- (n * skd - sk * sd) / det
-unfoldable pub slope : Clock → Float
-unfolding det
-slope c = div binary64 (sub binary64 (mul binary64 (num (c .count)) (c .skd)) (mul binary64 (c .sk) (c .sd))) (det c)
+-- ---- all dips
 
--- period and phase by least squares, from the fourth point on, where the determinant is over zero
-unfoldable pub refitted : Clock → Clock
-unfolding slope
-refitted c =
-    record {
-      period = slope c;
-      phase = div binary64 (sub binary64 (c .sd) (mul binary64 (slope c) (c .sk))) (num (c .count));
-      sk = c .sk;
-      sd = c .sd;
-      skk = c .skk;
-      skd = c .skd;
-      count = c .count;
-      first = c .first;
-      last = c .last;
-    }
-
-unfoldable pub refit : Clock → Clock
-unfolding det refitted
-refit c = cond (leb refits (c .count) && lt (num 0) (det c)) (refitted c) c
-
--- what one dip does: it may be lost, skipped, or join
-unfoldable pub step : Clock → Float → Step
-unfolding lost skips summed refit indexAt
-step c d = cond (lost (indexAt c d)) Lost (cond (skips c d (indexAt c d)) Skipped (Joined (refit (summed c d (indexAt c d)))))
-
--- ---- all dips, in order
-
-unfoldable pub astray : Step → Bool
-astray Lost = true
-astray Skipped = false
-astray (Joined c) = false
-
-unfoldable pub after : Clock → Step → Clock
-after c Lost = c
-after c Skipped = c
-after c (Joined d) = d
-
-unfoldable pub added : Step → List ℕ → List ℕ
-added Lost l = l
-added Skipped l = l
-added (Joined c) l = c .last ∷ l
-
--- the clock after all dips
-unfoldable pub fitFrom : Clock → List Float → Fit
-unfolding step astray after
-fitFrom c [] = Fitted c
-fitFrom c (d ∷ ds) = cond (astray (step c d)) Astray (fitFrom (after c (step c d)) ds)
-
--- the places of the accepted points
-unfoldable pub pointsFrom : Clock → List Float → List ℕ
-unfolding step after added
-pointsFrom c [] = []
-pointsFrom c (d ∷ ds) = added (step c d) (pointsFrom (after c (step c d)) ds)
+-- in order; 01: none where an index is lost, of a dip later skipped too
+unfoldable pub track : BitClock → List Float → Option BitClock
+unfolding lost indexAt joined
+track c [] = some c
+track c (d ∷ ds) = cond (lost (indexAt c d)) none (track (joined c d (asIndex (indexAt c d))) ds)
 
 -- before the first dip
-unfoldable pub startClock : Float → Float → Clock
-startClock nominal phase =
-    record { period = nominal; phase = phase; sk = num 0; sd = num 0; skk = num 0; skd = num 0; count = 0; first = 0; last = 0 }
+unfoldable pub startClock : Float → Float → BitClock
+startClock nominal phase = record { period = nominal; phase = phase; points = [] }

@@ -2,5 +2,6 @@
 pub mod Numbers
 pub mod Clock
 pub mod Bits
-pub mod Tracked
 pub mod Walk
+pub mod Running
+pub mod Tracked

@@ -1,12 +1,28 @@
--- The bits between points that rise, point by point: what `write_bits` writes.
-use Prim.Native.Nat.{ℕ, zero, suc, _*_, _≤_, _<_}
-use mathlib.Core.Bool.{Bool, false, cond}
+-- Scaffolding: the bits between points, given by their places (bit index + 2^31): by membership, and point by point, where the points rise, as `write_bits` writes them.
+use Prim.Native.Nat.{ℕ, zero, suc, _+_, _-_, _*_, _≤_, _<_}
+use mathlib.Core.Bool.{Bool, false, cond, _||_}
 use mathlib.Core.List.{List, [], _∷_, map}
 use lib.Dec.{eqb}
 use lib.ListN.{take, drop}
 use lib.Ieee.{Float, toUnsigned}
 use Rattle.clock.specs.Numbers.{farthestBit}
 use Rattle.clock.specs.declared.Clock.{Clock}
+
+-- a point has place k
+unfoldable pub hasPlace : ℕ → List ℕ → Bool
+hasPlace k [] = false
+hasPlace k (p ∷ ps) = eqb k p || hasPlace k ps
+
+-- the n bits from place k on
+unfoldable pub bitsFrom : List ℕ → ℕ → ℕ → List ℕ
+unfolding hasPlace
+bitsFrom points k zero = []
+bitsFrom points k (suc n) = cond (hasPlace k points) 0 1 ∷ bitsFrom points (suc k) n
+
+-- a 1, and the bits from the first place to the end's
+unfoldable pub placedBits : List ℕ → ℕ → ℕ → List ℕ
+unfolding bitsFrom
+placedBits points first end = 1 ∷ bitsFrom points first (end + 1 - first)
 
 -- the first of a list is k
 unfoldable pub heads : ℕ → List ℕ → Bool

@@ -11,10 +11,12 @@ ghost use Rattle.rates.specs.Numbers.{levelQuantile};
 ghost use Rattle.rates.specs.Rates.{nominalOf};
 ghost use Rattle.bursts.specs.Levels.{quantile};
 ghost use Rattle.clock.specs.Numbers.{farthestBit};
-ghost use Rattle.clock.specs.Clock.{angle, anchor, sizeOf, lost, place, indexAt, skips, det, refit, summed, step, startClock};
+ghost use Rattle.clock.specs.Clock.{angle, anchor, sizeOf, lost};
+ghost use Rattle.clock.specs.Running.{place, indexAt, skips, det, refit, summed, step, startClock, clocked};
 ghost use Rattle.clock.specs.Tracked.{Tracked};
 ghost use Rattle.clock.specs.Walk.{heads, walked, places, Ready};
-ghost use Rattle.clock.specs.Bits.{lastHigh, endIndex, ppmOf, clocked, outcome, told, handed, bitsAnswer, bitsLeft, Free};
+ghost use Rattle.clock.specs.Bits.{lastHigh, endIndex, ppmOf, outcome, handed, valuesOf, said, bitsAnswer};
+ghost use Rattle.limits.specs.Answer.{accepted, number, leaves, Free};
 
 // The level of a burst is the value at nine tenths of its sorted samples: floor(len * 0.9) is the whole part of 9 * len / 10.
 const LEVEL_TENTHS: usize = 9;
@@ -316,7 +318,7 @@ fn under(x: f32, limit: f64) -> bool
 // The bit index of the signal's end.
 fn end_index(seg: &[f32], level: f32, c: Clock) -> f64
     requires { ⌜ (0 < length (now seg)) × (length (now seg) ≤ mostSamples) ⌝ }
-    ensures { λ r. ⌜ r ≡ endIndex level (now (seg .entry)) c ⌝ }
+    ensures { λ r. ⌜ r ≡ endIndex level (now (seg .entry)) (c .period) (c .phase) ⌝ }
 {
     let high = last_high(seg, std::num::f32_to_f64_with_nan(level) - END_DB);
     floats::floor64((floats::count_as_f64(high) - c.phase) / c.period)
@@ -352,8 +354,8 @@ fn clocked_bits(
     bits: &mut [u8],
 ) -> BurstBits
     requires { ⌜ (0 < length (now seg)) × (length (now seg) ≤ mostSamples) × (c .count ≤ length (now points)) × (mostBits ≤ length (now bits)) × Ready c (places (now points) (c .count)) ⌝ }
-    ensures { λ r. ⌜ (r ≡ told rate (clocked (now (seg .entry)) level (places (now (points .entry)) (c .count)) (Fit.Fitted c)))
-        × (now (bits .exit) ≡ handed (clocked (now (seg .entry)) level (places (now (points .entry)) (c .count)) (Fit.Fitted c)) (now (bits .entry))) ⌝ }
+    ensures { λ r. ⌜ (said r ≡ accepted (valuesOf (clocked (now (seg .entry)) rate level (places (now (points .entry)) (c .count)) (Fit.Fitted c))))
+        × (now (bits .exit) ≡ handed (clocked (now (seg .entry)) rate level (places (now (points .entry)) (c .count)) (Fit.Fitted c)) (now (bits .entry))) ⌝ }
 {
     let n = c.count;
     if n < ENOUGH_POINTS {
@@ -396,7 +398,7 @@ fn start_clock(nominal: f64, phase: f64) -> Clock
 // The bits of a burst whose samples are valid.
 pub fn bits_of(seg: &[f32], rate: u32, bits: &mut [u8], scratch: &mut [f64]) -> BurstBits
     requires { ⌜ (lowestRate ≤ rate) × (rate ≤ highestRate) × (length (now seg) ≤ bufferS * rate) × (allDbm (now seg) ≡ true) × (mostBits ≤ length (now bits)) × (scratch64 ≤ length (now scratch)) ⌝ }
-    ensures { λ r. ⌜ (r ≡ told rate (outcome (now (seg .entry)) rate)) × (now (bits .exit) ≡ handed (outcome (now (seg .entry)) rate) (now (bits .entry))) ⌝ }
+    ensures { λ r. ⌜ (said r ≡ accepted (valuesOf (outcome (now (seg .entry)) rate))) × (now (bits .exit) ≡ handed (outcome (now (seg .entry)) rate) (now (bits .entry))) ⌝ }
 {
     if seg.len() == 0 {
         return BurstBits::Nothing;
@@ -422,9 +424,9 @@ pub fn burst_bits(
     scratch32: &mut [f32],
     scratch64: &mut [f64],
 ) -> BurstBits
-    ensures { λ r. ⌜ (r ≡ bitsAnswer (now (seg .entry)) rate (length (now (bits .entry))) (length (now (scratch32 .entry))) (length (now (scratch64 .entry))))
-        × (now (bits .exit) ≡ bitsLeft r (outcome (now (seg .entry)) rate) (now (bits .entry)))
-        × Free r (now (scratch32 .entry)) (now (scratch32 .exit)) × Free r (now (scratch64 .entry)) (now (scratch64 .exit)) ⌝ }
+    ensures { λ r. ⌜ (said r ≡ bitsAnswer (now (seg .entry)) rate (length (now (bits .entry))) (length (now (scratch32 .entry))) (length (now (scratch64 .entry))))
+        × (now (bits .exit) ≡ leaves (number (said r)) (handed (outcome (now (seg .entry)) rate) (now (bits .entry))) (now (bits .entry)))
+        × Free (number (said r)) (now (scratch32 .entry)) (now (scratch32 .exit)) × Free (number (said r)) (now (scratch64 .entry)) (now (scratch64 .exit)) ⌝ }
 {
     if !limits::rate_ok(rate) {
         return BurstBits::Refused(limits::BAD_RATE);

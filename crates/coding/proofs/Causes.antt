@@ -1,16 +1,15 @@
 -- The causes for which `convolve` and `deconvolve` refuse, in their order, and what holds where none applies. Assumes nothing.
-use mathlib.Core.Path.{_≡_, refl, sym, ap, _∙_}
+use mathlib.Core.Path.{_≡_, refl}
 use mathlib.Core.Bool.{Bool, true, false, cond}
 use mathlib.Core.List.{List}
-use Prim.Native.Nat.{ℕ, zero, suc, _≤_, _<_}
+use Prim.Native.Nat.{ℕ, _≤_, _<_}
 use native.Mathlib.Omega.{arith}
 use lib.Dec.{ltb}
 use lib.ListN.{length}
 use borrow.Author.Tests.{lt-ltb, le-ltb, ltb-false}
 use Rattle.limits.specs.Limits.{short, long, badNumber, mostBits}
 use Rattle.coding.specs.Bits.{areBits}
-use Rattle.coding.specs.Answers.{highestRank, codingCause, codedBy, lentBy}
-use Rattle.coding.specs.declared.Coded.the-variants.{Refused, Done}
+use Rattle.coding.specs.Answers.{highestRank, codingCause}
 
 module _ (bits : List ℕ) (rank room : ℕ) where
   pub short-out : room < length bits → short ≡ codingCause bits rank room
@@ -58,26 +57,3 @@ none bits rank room e =
     go false false true d f g h e x = no-refusal badNumber (omega arith) e
     go false false false false f g h e x = no-refusal badNumber (omega arith) e
     go false false false true f g h e x = record { fits = f refl; few = g refl; ranked = h refl; all = x }
-
--- ---- the answer and the lent memory by the cause k, which the code found as c
-
-module _ (c k : ℕ) (e : c ≡ k) where
-  pub refused-answer : (n : ℕ) → (c ≡ 0 → ⊥) → Refused c ≡ codedBy k n
-  refused-answer n h = go k e
-    where
-      go : (k : ℕ) → c ≡ k → Refused c ≡ codedBy k n
-      go zero e = absurd (h e)
-      go (suc k) e = ap Refused e
-
-  pub refused-lent : (done was : List ℕ) → (c ≡ 0 → ⊥) → was ≡ lentBy k done was
-  refused-lent done was h = go k e
-    where
-      go : (k : ℕ) → c ≡ k → was ≡ lentBy k done was
-      go zero e = absurd (h e)
-      go (suc k) e = refl
-
-  pub done-answer : (n : ℕ) → c ≡ 0 → Done n ≡ codedBy k n
-  done-answer n h = ap (λ (x : ℕ). codedBy x n) (sym h ∙ e)
-
-  pub done-lent : (done was : List ℕ) → c ≡ 0 → done ≡ lentBy k done was
-  done-lent done was h = ap (λ (x : ℕ). lentBy x done was) (sym h ∙ e)

@@ -8,7 +8,7 @@ ghost use Rattle.coding.specs.Bits.{odd, bitOf, plus, digits, areBits};
 ghost use Rattle.coding.specs.Crc.{crcOf};
 ghost use Rattle.coding.specs.Register.{run};
 ghost use Rattle.coding.specs.Convolution.{tap, fresh, stateOf, convolved, deconvolved};
-ghost use Rattle.coding.specs.Answers.{codingCause, codingAnswer, convolveOut, deconvolveOut};
+ghost use Rattle.coding.specs.Answers.{said, codingCause, codingAnswer, convolveOut, deconvolveOut};
 
 // The CRC's divisor after x^16: x^12, x^5 and 1.
 const X12: u16 = 4096;
@@ -132,7 +132,7 @@ fn code_into(bits: &[u8], rank: u8, undo: bool, out: &mut [u8])
 
 // The bits as a repetition sends them (frame.rs convolve).
 pub fn convolve(bits: &[u8], rank: u8, out: &mut [u8]) -> Coded
-    ensures { λ r. ⌜ (r ≡ codingAnswer (now (bits .entry)) rank (now (out .entry)))
+    ensures { λ r. ⌜ (said r ≡ codingAnswer (now (bits .entry)) rank (now (out .entry)))
         × (now (out .exit) ≡ convolveOut (now (bits .entry)) rank (now (out .entry))) ⌝ }
 {
     let cause = coding_cause(bits, rank, out.len());
@@ -145,7 +145,7 @@ pub fn convolve(bits: &[u8], rank: u8, out: &mut [u8]) -> Coded
 
 // The bits that a repetition sent (frame.rs deconvolve).
 pub fn deconvolve(bits: &[u8], rank: u8, out: &mut [u8]) -> Coded
-    ensures { λ r. ⌜ (r ≡ codingAnswer (now (bits .entry)) rank (now (out .entry)))
+    ensures { λ r. ⌜ (said r ≡ codingAnswer (now (bits .entry)) rank (now (out .entry)))
         × (now (out .exit) ≡ deconvolveOut (now (bits .entry)) rank (now (out .entry))) ⌝ }
 {
     let cause = coding_cause(bits, rank, out.len());

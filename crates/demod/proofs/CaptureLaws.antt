@@ -1,13 +1,13 @@
 -- The loop over the bursts of a capture, which writes a record for each frame. Assumes nothing.
 use mathlib.Core.Path.{_≡_, refl, sym, ap, _∙_}
 use mathlib.Core.List.{List, [], _∷_, _++_, append-assoc, append-nil}
+use mathlib.Core.Option.{Option, none, some}
 use Prim.Native.Nat.{ℕ, _+_, _*_, _≤_, _<_}
 use native.Mathlib.Omega.{arith}
 use lib.ListN.{length, take, drop, length-append, length-take, take-append-drop}
 use lib.Seq.{sets, sets-eq, length-sets, take-at, drop-at, drop-drop}
 use lib.Ieee.{Float}
 use Rattle.limits.specs.Limits.{lowestRate, highestRate, bufferS, recordSize}
-use Rattle.frame.specs.declared.Outcome.{Outcome}
 use Rattle.frame.specs.declared.Outcome.the-variants.{Refused, Nothing, Frame}
 use Rattle.record.specs.Record.{frameRecord}
 use Rattle.record.proofs.RecordLaws.{length-frame}
@@ -19,10 +19,11 @@ use Rattle.bursts.proofs.ClusterLaws.{left-end}
 use Rattle.bursts.proofs.SearchLaws.{from-start}
 use Rattle.bursts.proofs.Rows.{Next}
 use Rattle.bursts.proofs.Count.{bursts-few}
-use Rattle.demod.specs.Decode.{decodeBurst}
+use Rattle.limits.specs.Answer.{accepted}
+use Rattle.demod.specs.Decode.{heardAs, decodeBurst, shown}
 use Rattle.demod.specs.Capture.{receptionOf, recordIf, recordOf, recordsOf, captured, joined}
 use Rattle.demod.specs.declared.DecodedFrame.{DecodedFrame}
-use Rattle.demod.proofs.DecodedFacts.{Lawful, burst-lawful}
+use Rattle.demod.proofs.DecodedFacts.{Lawful, burst-lawful, shown-as}
 use Rattle.demod.specs.declared.BurstFrame.{BurstFrame}
 
 pub joined-append : (a b : List (List ℕ)) → joined (a ++ b) ≡ joined a ++ joined b
@@ -31,45 +32,43 @@ joined-append [] b = refl
 joined-append (r ∷ a) b = ap (λ (l : List ℕ). r ++ l) (joined-append a b) ∙ sym (append-assoc r (joined a) (joined b))
 
 -- a record is 120 bytes
-sized-if : (o : Outcome) (d : DecodedFrame) (start : ℕ) → Lawful (d .frame) → length (joined (recordIf o d start)) ≡ recordSize * length (recordIf o d start)
+sized-if : (o : Option DecodedFrame) (start : ℕ) → ((d : DecodedFrame) → o ≡ some d → Lawful (d .frame)) → length (joined (recordIf o start)) ≡ recordSize * length (recordIf o start)
 unfolding joined recordIf
-sized-if (Refused n) d start f = refl
-sized-if Nothing d start f = refl
-sized-if Frame d start f =
-    rw (append-nil (frameRecord (d .frame) (receptionOf d start))) (length-frame (d .frame) (receptionOf d start) (f .payload-places) (f .auth-places))
+sized-if none start f = refl
+sized-if (some d) start f =
+    rw (append-nil (frameRecord (d .frame) (receptionOf d start))) (length-frame (d .frame) (receptionOf d start) (f d refl .payload-places) (f d refl .auth-places))
 
 module _ (dbm : List Float) (rate : ℕ) (t0 : Float) where
   sized : (b : Burst) → length (joined (recordOf dbm rate t0 b)) ≡ recordSize * length (recordOf dbm rate t0 b)
   unfolding recordOf
-  sized b = sized-if (decodeBurst dbm rate b t0 .outcome) (decodeBurst dbm rate b t0 .decoded) (b .start) (burst-lawful dbm rate b t0)
+  sized b = sized-if (decodeBurst dbm rate b t0) (b .start) (burst-lawful dbm rate b t0)
 
   -- one at most
-  one-if : (o : Outcome) (d : DecodedFrame) (start : ℕ) → length (recordIf o d start) ≤ 1
+  one-if : (o : Option DecodedFrame) (start : ℕ) → length (recordIf o start) ≤ 1
   unfolding recordIf
-  one-if (Refused n) d start = omega arith
-  one-if Nothing d start = omega arith
-  one-if Frame d start = omega arith
+  one-if none start = omega arith
+  one-if (some d) start = omega arith
 
   one : (b : Burst) → length (recordOf dbm rate t0 b) ≤ 1
   unfolding recordOf
-  one b = one-if (decodeBurst dbm rate b t0 .outcome) (decodeBurst dbm rate b t0 .decoded) (b .start)
+  one b = one-if (decodeBurst dbm rate b t0) (b .start)
 
   -- what a burst adds, by what was decoded
-  module _ (b : Burst) (x : BurstFrame) (e : x ≡ decodeBurst dbm rate b t0) (n : ℕ) (now : List ℕ) where
+  module _ (b : Burst) (x : BurstFrame) (e : x ≡ shown (accepted (decodeBurst dbm rate b t0))) (n : ℕ) (now : List ℕ) where
     abbrev pub Adds : ℕ → List ℕ → Type 0
     Adds m next = (m ≡ n + length (recordOf dbm rate t0 b)) × (next ≡ sets now (recordSize * n) (joined (recordOf dbm rate t0 b)))
 
     pub adds-none : (k : ℕ) → x .outcome ≡ Refused k → Adds n now
-    unfolding recordOf recordIf joined
-    adds-none k q = rw (← e, q) (omega arith, refl)
+    unfolding recordOf recordIf joined heardAs
+    adds-none k q = rw (shown-as x (decodeBurst dbm rate b t0) e, q) (omega arith, refl)
 
     pub adds-nothing : x .outcome ≡ Nothing → Adds n now
-    unfolding recordOf recordIf joined
-    adds-nothing q = rw (← e, q) (omega arith, refl)
+    unfolding recordOf recordIf joined heardAs
+    adds-nothing q = rw (shown-as x (decodeBurst dbm rate b t0) e, q) (omega arith, refl)
 
     pub adds-one : (next : List ℕ) → x .outcome ≡ Frame → next ≡ sets now (recordSize * n) (frameRecord (x .decoded .frame) (receptionOf (x .decoded) (b .start))) → Adds (n + 1) next
-    unfolding recordOf recordIf joined
-    adds-one next q w = rw (← e, q, append-nil (frameRecord (x .decoded .frame) (receptionOf (x .decoded) (b .start)))) (omega arith, w)
+    unfolding recordOf recordIf joined heardAs
+    adds-one next q w = rw (shown-as x (decodeBurst dbm rate b t0) e, q, append-nil (frameRecord (x .decoded .frame) (receptionOf (x .decoded) (b .start)))) (omega arith, w)
 
   module _ (floor : Float) where
     -- the records of the bursts that are left at an index

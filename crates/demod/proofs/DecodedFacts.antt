@@ -3,15 +3,15 @@
 use mathlib.Core.Path.{_≡_, refl, _∙_}
 use mathlib.Core.Bool.{Bool, true, false, cond}
 use mathlib.Core.List.{List, _∷_, map}
+use mathlib.Core.Option.{Option, none, some}
 use Prim.Native.Nat.{ℕ, zero, suc, _+_, _-_, _*_, _^_, _≤_, _<_}
 use native.Mathlib.Omega.{arith}
 use lib.Dec.{T, leb, lit≤, lit<}
 use lib.ListN.{length, take, drop, replicate, length-append, length-take, length-replicate}
-use lib.Ieee.{Float, binary32, binary64, div, fits, ofInt, round}
+use lib.Ieee.{Float, binary32, binary64, div, fits}
 use lib.Ieee.Fits.{add-fits}
 use Rattle.floats.specs.Number.{num}
 use Rattle.endian.proofs.Numbers.{number-lt}
-use Rattle.rates.specs.Rates.{nominalOf}
 use Rattle.coding.specs.Bits.{odd, value}
 use Rattle.coding.specs.Convolution.{fresh, deconvolved}
 use Rattle.frame.specs.Kinds.{syncSize, kinds, kindOf}
@@ -32,8 +32,10 @@ use Rattle.frame.proofs.SizeLaws.{payload-most, auth-most}
 use Rattle.frame.proofs.FieldLaws.{byte-lt, li-lt}
 use Rattle.bursts.specs.declared.Burst.{Burst}
 use Rattle.clock.specs.Bits as bits
-use Rattle.demod.specs.Decode.{blankDecoded, segmentOf, timeAt, heardAs, withBurst, heardIn, decodeBurst}
+use Rattle.limits.specs.Answer.{accepted}
+use Rattle.demod.specs.Decode.{segmentOf, timeAt, heardAs, withBurst, heardIn, decodeBurst, shown}
 use Rattle.demod.specs.declared.DecodedFrame.{DecodedFrame}
+use Rattle.demod.specs.declared.BurstFrame.{BurstFrame}
 
 pub record Lawful (f : UplinkFrame) : Type 0 where
   pub rank : f .rank ≤ 2
@@ -92,23 +94,30 @@ pub decoded-lawful : (l : List Bool) → Lawful (decodeUplink l .frame)
 unfolding decodeUplink
 decoded-lawful l = searched starts firstStart l
 
-heard-lawful : (o : Outcome) (d : DecodedFrame) → Lawful (d .frame) → Lawful (heardAs o d .decoded .frame)
+-- what a struct shows is its frame
+pub shown-as : (x : BurstFrame) (o : Option DecodedFrame) → x ≡ shown (accepted o) → o ≡ heardAs (x .outcome) (x .decoded)
+unfolding shown heardAs
+shown-as x none e = rw e
+shown-as x (some d) e = rw e
+
+-- of every frame that a burst gives
+heard-lawful : (o : Outcome) (d x : DecodedFrame) → heardAs o d ≡ some x → Lawful (d .frame) → Lawful (x .frame)
 unfolding heardAs
-heard-lawful (Refused n) d f = blank
-heard-lawful Nothing d f = blank
-heard-lawful Frame d f = f
+heard-lawful (Refused n) d x q f = absurd (let z : _≡_ {A = ℕ} 0 1 = cc in omega arith)
+heard-lawful Nothing d x q f = absurd (let z : _≡_ {A = ℕ} 0 1 = cc in omega arith)
+heard-lawful Frame d x q f = let z : d ≡ x = cc in rw z at f
 
-burst-in : (rate : ℕ) (t e r : Float) (o : bits.Outcome) → Lawful (heardIn rate t e r o .decoded .frame)
+burst-in : (t e r : Float) (o : bits.Outcome) (x : DecodedFrame) → heardIn t e r o ≡ some x → Lawful (x .frame)
 unfolding heardIn withBurst
-burst-in rate t e r bits.none = blank
-burst-in rate t e r (bits.some l c level) =
-    heard-lawful (decodeUplink (map odd l) .outcome)
-    (record { frame = decodeUplink (map odd l) .frame; time = t; end = e; rssi = r; «clock_error_ppm» = bits.ppmOf (c .period) (nominalOf rate) })
-    (decoded-lawful (map odd l))
+burst-in t e r none x q = absurd (let z : _≡_ {A = ℕ} 0 1 = cc in omega arith)
+burst-in t e r (some b) x q =
+    heard-lawful (decodeUplink (map odd (b .bits)) .outcome)
+    (record { frame = decodeUplink (map odd (b .bits)) .frame; time = t; end = e; rssi = r; «clock_error_ppm» = b .ppm }) x q
+    (decoded-lawful (map odd (b .bits)))
 
-pub burst-lawful : (dbm : List Float) (rate : ℕ) (b : Burst) (t0 : Float) → Lawful (decodeBurst dbm rate b t0 .decoded .frame)
+pub burst-lawful : (dbm : List Float) (rate : ℕ) (b : Burst) (t0 : Float) (x : DecodedFrame) → decodeBurst dbm rate b t0 ≡ some x → Lawful (x .frame)
 unfolding decodeBurst
-burst-lawful dbm rate b t0 = burst-in rate (timeAt t0 rate (b .start)) (timeAt t0 rate (b .end)) (b .«peak_dbm») (bits.outcome (segmentOf dbm rate b) rate)
+burst-lawful dbm rate b t0 x q = burst-in (timeAt t0 rate (b .start)) (timeAt t0 rate (b .end)) (b .«peak_dbm») (bits.outcome (segmentOf dbm rate b) rate) x q
 
 -- ---- times and levels
 
@@ -116,26 +125,22 @@ pub record Written (d : DecodedFrame) : Type 0 where
   pub time : T (fits binary64 (d .time))
   pub rssi : T (fits binary32 (d .rssi))
 
-blank-written : Written blankDecoded
-unfolding fits ofInt round
-blank-written = record { time = tt; rssi = tt }
-
-heard-written : (o : Outcome) (d : DecodedFrame) → Written d → Written (heardAs o d .decoded)
+heard-written : (o : Outcome) (d x : DecodedFrame) → heardAs o d ≡ some x → Written d → Written x
 unfolding heardAs
-heard-written (Refused n) d w = blank-written
-heard-written Nothing d w = blank-written
-heard-written Frame d w = w
+heard-written (Refused n) d x q w = absurd (let z : _≡_ {A = ℕ} 0 1 = cc in omega arith)
+heard-written Nothing d x q w = absurd (let z : _≡_ {A = ℕ} 0 1 = cc in omega arith)
+heard-written Frame d x q w = let z : d ≡ x = cc in rw z at w
 
-written-in : (rate : ℕ) (t e r : Float) (o : bits.Outcome) → T (fits binary64 t) → T (fits binary32 r) → Written (heardIn rate t e r o .decoded)
+written-in : (t e r : Float) (o : bits.Outcome) (x : DecodedFrame) → heardIn t e r o ≡ some x → T (fits binary64 t) → T (fits binary32 r) → Written x
 unfolding heardIn withBurst
-written-in rate t e r bits.none p q = blank-written
-written-in rate t e r (bits.some l c level) p q =
-    heard-written (decodeUplink (map odd l) .outcome)
-    (record { frame = decodeUplink (map odd l) .frame; time = t; end = e; rssi = r; «clock_error_ppm» = bits.ppmOf (c .period) (nominalOf rate) })
-    (record { time = p; rssi = q })
+written-in t e r none x q p s = absurd (let z : _≡_ {A = ℕ} 0 1 = cc in omega arith)
+written-in t e r (some b) x q p s =
+    heard-written (decodeUplink (map odd (b .bits)) .outcome)
+    (record { frame = decodeUplink (map odd (b .bits)) .frame; time = t; end = e; rssi = r; «clock_error_ppm» = b .ppm }) x q
+    (record { time = p; rssi = s })
 
-pub burst-written : (dbm : List Float) (rate : ℕ) (b : Burst) (t0 : Float) → T (fits binary32 (b .«peak_dbm»)) → Written (decodeBurst dbm rate b t0 .decoded)
+pub burst-written : (dbm : List Float) (rate : ℕ) (b : Burst) (t0 : Float) (x : DecodedFrame) → decodeBurst dbm rate b t0 ≡ some x → T (fits binary32 (b .«peak_dbm»)) → Written x
 unfolding decodeBurst
-burst-written dbm rate b t0 h =
-    written-in rate (timeAt t0 rate (b .start)) (timeAt t0 rate (b .end)) (b .«peak_dbm») (bits.outcome (segmentOf dbm rate b) rate)
+burst-written dbm rate b t0 x q h =
+    written-in (timeAt t0 rate (b .start)) (timeAt t0 rate (b .end)) (b .«peak_dbm») (bits.outcome (segmentOf dbm rate b) rate) x q
     (add-fits binary64 t0 (div binary64 (num (b .start)) (num rate))) h

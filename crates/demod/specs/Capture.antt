@@ -1,15 +1,14 @@
 -- `decode_capture` of demod.rs: the frames of all bursts, as event records (01's table). Assumes nothing.
 use Prim.Native.Nat.{ℕ, _*_}
-use mathlib.Core.Path.{_≡_}
-use mathlib.Core.Bool.{Bool, true, cond, _&&_, _||_}
+use mathlib.Core.Bool.{Bool, true, cond, not, _&&_, _||_}
 use mathlib.Core.List.{List, [], _∷_, _++_}
-use lib.Dec.{T, ltb}
+use mathlib.Core.Option.{Option, none, some}
+use lib.Dec.{ltb}
 use lib.ListN.{length, drop}
 use lib.Ieee.{Float}
 use Rattle.limits.specs.Limits.{badRate, short, long, badSample, badNumber, bufferS, scratch64, eventsSize, recordSize}
 use Rattle.limits.specs.Samples.{rateOk, isDbm, allDbm, timeOk}
-use Rattle.frame.specs.declared.Outcome.{Outcome}
-use Rattle.frame.specs.declared.Outcome.the-variants as outcome
+use Rattle.limits.specs.Answer.{Answer, refused, accepted, answer}
 use Rattle.record.specs.Record.{frameRecord}
 use Rattle.record.specs.declared.Reception.{Reception}
 use Rattle.bursts.specs.Levels.{noiseFloor}
@@ -32,14 +31,13 @@ abbrev pub receptionOf : DecodedFrame → ℕ → Reception
 receptionOf d start = record { «clock_error_ppm» = d .«clock_error_ppm»; rssi = d .rssi; time = d .time; end = d .end; start = start }
 
 -- the record of a burst that has a frame
-unfoldable pub recordIf : Outcome → DecodedFrame → ℕ → List (List ℕ)
-recordIf (outcome.Refused n) d start = []
-recordIf outcome.Nothing d start = []
-recordIf outcome.Frame d start = frameRecord (d .frame) (receptionOf d start) ∷ []
+unfoldable pub recordIf : Option DecodedFrame → ℕ → List (List ℕ)
+recordIf none start = []
+recordIf (some d) start = frameRecord (d .frame) (receptionOf d start) ∷ []
 
 unfoldable pub recordOf : List Float → ℕ → Float → Burst → List (List ℕ)
 unfolding recordIf
-recordOf dbm rate t0 b = recordIf (decodeBurst dbm rate b t0 .outcome) (decodeBurst dbm rate b t0 .decoded) (b .start)
+recordOf dbm rate t0 b = recordIf (decodeBurst dbm rate b t0) (b .start)
 
 unfoldable pub recordsOf : List Float → ℕ → Float → List Burst → List (List ℕ)
 unfolding recordOf
@@ -60,24 +58,26 @@ abbrev pub floorOk : Floor → Bool
 floorOk Measured = true
 floorOk (Given x) = isDbm x
 
--- what `decode_capture` answers, and what it leaves in the events: the records, the rest kept
-unfoldable pub captureAnswer : List Float → ℕ → Float → Floor → ℕ → ℕ → ℕ → Captured
-unfolding captured
+-- 01's number and values of each answer of `decode_capture`: how many records
+unfoldable pub said : Captured → Answer ℕ
+said (Refused n) = refused n
+said (Count n) = accepted n
+
+-- the first cause that applies, 0 where none does
+unfoldable pub captureCause : List Float → ℕ → Float → Floor → ℕ → ℕ → ℕ → ℕ
+captureCause dbm rate t0 floor events s32 s64 =
+    cond (not (rateOk rate)) badRate
+    (cond (ltb events eventsSize || (ltb s32 (bufferS * rate) || ltb s64 scratch64)) short
+    (cond (ltb (bufferS * rate) (length dbm)) long
+    (cond (not (allDbm dbm)) badSample
+    (cond (not (timeOk t0 && floorOk floor)) badNumber
+    0))))
+
+abbrev pub captureAnswer : List Float → ℕ → Float → Floor → ℕ → ℕ → ℕ → Answer ℕ
 captureAnswer dbm rate t0 floor events s32 s64 =
-    cond (rateOk rate)
-    (cond (ltb events eventsSize || (ltb s32 (bufferS * rate) || ltb s64 scratch64)) (Refused short)
-    (cond (ltb (bufferS * rate) (length dbm)) (Refused long)
-    (cond (allDbm dbm)
-    (cond (timeOk t0 && floorOk floor) (Count (length (captured dbm rate t0 (floorOf floor dbm)))) (Refused badNumber))
-    (Refused badSample))))
-    (Refused badRate)
+    answer (captureCause dbm rate t0 floor events s32 s64) (length (captured dbm rate t0 (floorOf floor dbm)))
 
-unfoldable pub captureLeft : Captured → List (List ℕ) → List ℕ → List ℕ
+-- records in front of the events, the rest kept
+unfoldable pub inFront : List (List ℕ) → List ℕ → List ℕ
 unfolding joined
-captureLeft (Refused n) records old = old
-captureLeft (Count n) records old = joined records ++ drop (recordSize * n) old
-
--- a scratch is free after an accepted call, and after a refused one as it was
-unfoldable pub Free : Captured → List Float → List Float → Type 0
-Free (Refused n) old now = now ≡ old
-Free (Count n) old now = T true
+inFront records old = joined records ++ drop (recordSize * length records) old

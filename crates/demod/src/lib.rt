@@ -7,14 +7,13 @@ ghost use lib.ListN.{length, drop};
 ghost use lib.Seq.{sets};
 ghost use Rattle.limits.specs.Limits.{lowestRate, highestRate, bufferS, scratch64, mostSamples, longestStream, recordSize, eventsSize};
 ghost use Rattle.limits.specs.Samples.{allDbm};
+ghost use Rattle.limits.specs.Answer.{accepted, number, leaves, Free};
 ghost use Rattle.rates.specs.Rates.{padOf};
 ghost use Rattle.record.specs.Record.{frameRecord};
 ghost use Rattle.bursts.specs.Levels.{noiseFloor};
 ghost use Rattle.clock.specs.Bits.{outcome};
-ghost use Rattle.demod.specs.Decode.{widestPad, without, timeAt, withBurst, heardIn, decodeBurst, burstOk, decodeAnswer};
-ghost use Rattle.demod.specs.Decode as decode;
-ghost use Rattle.demod.specs.Capture.{floorOf, floorOk, receptionOf, recordOf, captured, joined, captureAnswer, captureLeft};
-ghost use Rattle.demod.specs.Capture as capture;
+ghost use Rattle.demod.specs.Decode.{widestPad, without, timeAt, withBurst, heardIn, decodeBurst, burstOk, shown, decodeCause, decodeAnswer};
+ghost use Rattle.demod.specs.Capture.{floorOf, floorOk, receptionOf, recordOf, captured, joined, said, captureAnswer, inFront};
 
 pub struct DecodedFrame {
     pub frame: frame::UplinkFrame,
@@ -63,7 +62,7 @@ fn no_frame(outcome: frame::Outcome) -> BurstFrame
 
 // What was decoded, with the burst's times, its level and the clock's error.
 fn heard(d: frame::DecodedUplink, time: f64, end: f64, rssi: f32, ppm: i32) -> BurstFrame
-    ensures { λ r. ⌜ r ≡ withBurst time end rssi ppm d ⌝ }
+    ensures { λ r. ⌜ r ≡ shown (accepted (withBurst time end rssi ppm d)) ⌝ }
 {
     let outcome = d.outcome;
     let f = d.frame;
@@ -93,7 +92,7 @@ fn decode_segment(
     rssi: f32,
 ) -> BurstFrame
     requires { ⌜ (lowestRate ≤ rate) × (rate ≤ highestRate) × (length (now seg) ≤ bufferS * rate) × (allDbm (now seg) ≡ true) × (scratch64 ≤ length (now scratch)) ⌝ }
-    ensures { λ r. ⌜ r ≡ heardIn rate time end rssi (outcome (now (seg .entry)) rate) ⌝ }
+    ensures { λ r. ⌜ r ≡ shown (accepted (heardIn time end rssi (outcome (now (seg .entry)) rate))) ⌝ }
 {
     let mut bits = [0u8; 1024];
     match clock::bits_of(seg, rate, &mut bits, scratch) {
@@ -140,7 +139,7 @@ pub fn decode_within(
     scratch: &mut [f64],
 ) -> BurstFrame
     requires { ⌜ (lowestRate ≤ rate) × (rate ≤ highestRate) × (length (now dbm) ≤ bufferS * rate) × (allDbm (now dbm) ≡ true) × (burst .start ≤ longestStream) × (burst .end ≤ longestStream) × (scratch64 ≤ length (now scratch)) ⌝ }
-    ensures { λ r. ⌜ r ≡ decodeBurst (now (dbm .entry)) rate burst t0 ⌝ }
+    ensures { λ r. ⌜ r ≡ shown (accepted (decodeBurst (now (dbm .entry)) rate burst t0)) ⌝ }
 {
     let pad = margin(rate);
     let from = dips::least(dips::back(burst.start, pad), dbm.len());
@@ -171,8 +170,9 @@ pub fn decode_burst(
     scratch32: &mut [f32],
     scratch64: &mut [f64],
 ) -> BurstFrame
-    ensures { λ r. ⌜ (r ≡ decodeAnswer (now (dbm .entry)) rate burst t0 (length (now (scratch32 .entry))) (length (now (scratch64 .entry))))
-        × decode.Free (r .outcome) (now (scratch32 .entry)) (now (scratch32 .exit)) × decode.Free (r .outcome) (now (scratch64 .entry)) (now (scratch64 .exit)) ⌝ }
+    ensures { λ r. ⌜ (r ≡ shown (decodeAnswer (now (dbm .entry)) rate burst t0 (length (now (scratch32 .entry))) (length (now (scratch64 .entry)))))
+        × Free (decodeCause (now (dbm .entry)) rate burst t0 (length (now (scratch32 .entry))) (length (now (scratch64 .entry)))) (now (scratch32 .entry)) (now (scratch32 .exit))
+        × Free (decodeCause (now (dbm .entry)) rate burst t0 (length (now (scratch32 .entry))) (length (now (scratch64 .entry)))) (now (scratch64 .entry)) (now (scratch64 .exit)) ⌝ }
 {
     if !limits::rate_ok(rate) {
         return no_frame(frame::Outcome::Refused(limits::BAD_RATE));
@@ -304,9 +304,9 @@ pub fn decode_capture(
     scratch32: &mut [f32],
     scratch64: &mut [f64],
 ) -> Captured
-    ensures { λ r. ⌜ (r ≡ captureAnswer (now (dbm .entry)) rate t0 floor (length (now (events .entry))) (length (now (scratch32 .entry))) (length (now (scratch64 .entry))))
-        × (now (events .exit) ≡ captureLeft r (captured (now (dbm .entry)) rate t0 (floorOf floor (now (dbm .entry)))) (now (events .entry)))
-        × capture.Free r (now (scratch32 .entry)) (now (scratch32 .exit)) × capture.Free r (now (scratch64 .entry)) (now (scratch64 .exit)) ⌝ }
+    ensures { λ r. ⌜ (said r ≡ captureAnswer (now (dbm .entry)) rate t0 floor (length (now (events .entry))) (length (now (scratch32 .entry))) (length (now (scratch64 .entry))))
+        × (now (events .exit) ≡ leaves (number (said r)) (inFront (captured (now (dbm .entry)) rate t0 (floorOf floor (now (dbm .entry)))) (now (events .entry))) (now (events .entry)))
+        × Free (number (said r)) (now (scratch32 .entry)) (now (scratch32 .exit)) × Free (number (said r)) (now (scratch64 .entry)) (now (scratch64 .exit)) ⌝ }
 {
     if !limits::rate_ok(rate) {
         return Captured::Refused(limits::BAD_RATE);

@@ -11,6 +11,7 @@ use Rattle.floats.specs.Fold.{maxOf, maxFrom}
 use Rattle.floats.specs.Number.{num, near}
 use Rattle.limits.specs.Limits.{badRate, short, long, badSample, badNumber, bufferS, scratch64}
 use Rattle.limits.specs.Samples.{rateOk, allDbm}
+use Rattle.limits.specs.Answer.{Answer, refused, accepted, answer, leaves}
 use Rattle.rates.specs.Rates.{winOf, halfOf}
 use Rattle.dips.specs.Numbers.{dipDb, dimDb, lowestSide}
 use Rattle.dips.specs.declared.DipCount.{DipCount}
@@ -82,18 +83,27 @@ pub record Written (found old : List Float) (n : ℕ) (now : List Float) : Type 
   pub count : n ≡ length found
   pub holds : now ≡ found ++ drop n old
 
--- what `find_dips` answers, and what it leaves in the slice lent for the dips
-unfoldable pub dipAnswer : List Float → ℕ → Float → ℕ → DipCount
-unfolding dipsOf
-dipAnswer seg rate level room =
-    cond (rateOk rate)
-    (cond (ltb room scratch64) (Refused short)
-    (cond (ltb (bufferS * rate) (length seg)) (Refused long)
-    (cond (allDbm seg)
-    (cond (isNan level) (Refused badNumber) (Count (length (dipsOf seg rate level))))
-    (Refused badSample))))
-    (Refused badRate)
+-- 01's number and values of each answer: how many dips
+unfoldable pub said : DipCount → Answer ℕ
+said (Refused n) = refused n
+said (Count n) = accepted n
 
-unfoldable pub dipsAfter : DipCount → List Float → List Float → List Float
-dipsAfter (Refused n) found old = old
-dipsAfter (Count n) found old = found ++ drop n old
+-- the first cause that applies to `find_dips`, 0 where none does
+unfoldable pub dipCause : List Float → ℕ → Float → ℕ → ℕ
+dipCause seg rate level room =
+    cond (not (rateOk rate)) badRate
+    (cond (ltb room scratch64) short
+    (cond (ltb (bufferS * rate) (length seg)) long
+    (cond (not (allDbm seg)) badSample
+    (cond (isNan level) badNumber
+    0))))
+
+unfoldable pub dipAnswer : List Float → ℕ → Float → ℕ → Answer ℕ
+unfolding dipsOf dipCause
+dipAnswer seg rate level room = answer (dipCause seg rate level room) (length (dipsOf seg rate level))
+
+-- the slice lent for the dips after a call: they stand in its front, the rest is kept
+unfoldable pub dipsAfter : List Float → ℕ → Float → List Float → List Float
+unfolding dipsOf dipCause
+dipsAfter seg rate level old =
+    leaves (dipCause seg rate level (length old)) (dipsOf seg rate level ++ drop (length (dipsOf seg rate level)) old) old

@@ -10,7 +10,7 @@ ghost use Rattle.limits.specs.Limits.{lowestRate, highestRate, bufferS, mostSam
 ghost use Rattle.limits.specs.Samples.{allDbm};
 ghost use Rattle.rates.specs.Rates.{winOf, halfOf};
 ghost use Rattle.dips.specs.Numbers.{lowestSide, widestSide, widestHalf, mostDips};
-ghost use Rattle.dips.specs.Dips.{sides, against, neighbours, isDip, centre, dipsOf, Written, dipAnswer, dipsAfter};
+ghost use Rattle.dips.specs.Dips.{sides, against, neighbours, isDip, centre, dipsOf, Written, said, dipAnswer, dipsAfter};
 
 // A dip lies strictly more than DIP_DB under the lower side, and the higher side at most DIM_DB under the level.
 const DIP_DB: f64 = 6.0;
@@ -183,8 +183,8 @@ pub fn dips_into(seg: &[f32], rate: u32, level: f64, dips: &mut [f64]) -> usize
 
 // The dips of a burst, into the front of the slice lent for them (demod.rs `find_dips`).
 pub fn find_dips(seg: &[f32], rate: u32, level: f64, dips: &mut [f64]) -> DipCount
-    ensures { λ r. ⌜ (r ≡ dipAnswer (now (seg .entry)) rate level (length (now (dips .entry))))
-        × (now (dips .exit) ≡ dipsAfter r (dipsOf (now (seg .entry)) rate level) (now (dips .entry))) ⌝ }
+    ensures { λ r. ⌜ (said r ≡ dipAnswer (now (seg .entry)) rate level (length (now (dips .entry))))
+        × (now (dips .exit) ≡ dipsAfter (now (seg .entry)) rate level (now (dips .entry))) ⌝ }
 {
     if !limits::rate_ok(rate) {
         return DipCount::Refused(limits::BAD_RATE);

@@ -19,7 +19,8 @@ use Rattle.frame.specs.Header.{headerBytes}
 use Rattle.bursts.specs.Levels.{noiseFloor}
 use Rattle.bursts.specs.Bursts.{Cluster, cluster, none, loud, clusters, longEnough, threshold, gapSamples, burstOf, burstsIn, burstsOf}
 use Rattle.bursts.proofs.Runs.{one, joined, parted}
-use Rattle.cfo.specs.Cfo.{signed, mantissa, cfFs, stepOf, stepHz, roundHz}
+use Rattle.limits.specs.Answer.{answer}
+use Rattle.cfo.specs.Cfo.{signed, mantissa, cfFs, stepOf, stepCause, stepHz, roundHz}
 use Rattle.lists.specs.Lists.{lastOr}
 use Rattle.lists.specs.Marks.{retained}
 use Rattle.measure.specs.Measured.{median, frameOf, frameFrequency, direct, middle, ofRank, frame1}
@@ -76,7 +77,7 @@ heard-is =
 
 -- THE THEOREM
 pub edges : Edges
-unfolding crcOf crcBits crcRemainder remainder onto divisor digits value bytesBits deconvolved signed stepHz stepOf cfFs mantissa noiseFloor roundHalfUp floats.floor headerBytes authSize onAir readings measured frame1 ofRank direct middle frameFrequency frameOf lastOr median retained kth sorted insert key place roundHz magnitude round add sub mul div lt eq le neg ofInt ofBits toBits toUnsigned
+unfolding crcOf crcBits crcRemainder remainder onto divisor digits value bytesBits deconvolved signed answer stepCause stepHz stepOf cfFs mantissa noiseFloor roundHalfUp floats.floor headerBytes authSize onAir readings measured frame1 ofRank direct middle frameFrequency frameOf lastOr median retained kth sorted insert key place roundHz magnitude round add sub mul div lt eq le neg ofInt ofBits toBits toUnsigned
 edges =
     record {
       p1 = (refl, refl);

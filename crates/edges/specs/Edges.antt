@@ -20,8 +20,8 @@ use Rattle.bursts.specs.Numbers.{aboveDb}
 use Rattle.bursts.specs.Bursts.{threshold, loud, burstsOf, Cluster, cluster}
 use Rattle.bursts.specs.declared.Burst.{Burst}
 use Rattle.bursts.specs.declared.BurstOptions.{BurstOptions}
+use Rattle.limits.specs.Answer.{accepted}
 use Rattle.cfo.specs.Cfo.{signed, stepHz}
-use Rattle.cfo.specs.declared.StepHz.the-variants.{Hz}
 use Rattle.lists.specs.Lists.{Reading}
 use Rattle.measure.specs.Measured.{frame1}
 use Rattle.record.specs.declared.FrameSpan.{FrameSpan}
@@ -77,7 +77,7 @@ pub record Edges : Type 0 where
   -- register 7FF is 2047, 800 is −2048, FFF is −1
   pub p2 : (signed 0x7ff ≡ pos 2047) × (signed 0x800 ≡ negsuc 2047) × (signed 0xfff ≡ negsuc 0)
   -- bandwidth code 0A (hex), 100 bit/s: step 122.0703125
-  pub p3 : stepHz 0x0a 100 ≡ Hz (near 1220703125 10000000)
+  pub p3 : stepHz 0x0a 100 ≡ accepted (near 1220703125 10000000)
   -- bits 1 0 0 give 1 1 0 in rank 1, 1 0 1 in rank 2
   pub p4 : (deconvolved 1 fresh (true ∷ false ∷ false ∷ []) ≡ true ∷ true ∷ false ∷ []) × (deconvolved 2 fresh (true ∷ false ∷ false ∷ []) ≡ true ∷ false ∷ true ∷ [])
   -- at 1,000/s, 301 loud samples are a burst, 300 are not; 40 quiet ones are bridged, 41 are not

@@ -12,8 +12,9 @@ use mir.Syntax.{w32}
 use mir.Val.{toZ}
 use mir.ValLaws.{toZ-pos}
 use Rattle.floats.specs.Number.{num}
+use Rattle.limits.specs.Answer.{accepted}
 use Rattle.endian.specs.Bytes.{numberAt}
-use Rattle.frame.specs.Control.{minus, celsius, rssiOf, controlOf}
+use Rattle.frame.specs.Control.{minus, celsius, rssiOf, controlFrom, controlOf, said}
 use Rattle.frame.specs.declared.control.ControlMessage.the-variants.{Unknown, KeepAlive, DownlinkConfirmation}
 
 pub minus-is : (k : ℕ) → k < 65536 → pos 0 -ℤ toZ w32 (suc k) ≡ negsuc k
@@ -36,24 +37,24 @@ both-false true = refl
 both-false false = refl
 
 module _ (l : List ℕ) where
-  pub control-keep : (a b : ℕ) (t : Float) → length l ≡ 7 → getD l 0 0 ≡ 8 → a ≡ numberAt 2 l 1 → b ≡ numberAt 2 l 3 → t ≡ celsius (numberAt 2 l 5) → KeepAlive a b t ≡ controlOf l
-  unfolding controlOf
+  pub control-keep : (a b : ℕ) (t : Float) → length l ≡ 7 → getD l 0 0 ≡ 8 → a ≡ numberAt 2 l 1 → b ≡ numberAt 2 l 3 → t ≡ celsius (numberAt 2 l 5) → said (KeepAlive a b t) ≡ accepted (controlOf l)
+  unfolding said controlOf controlFrom
   control-keep a b t e f x y z = rw (x, y, z) (simp (eq-eqb (length l) 7 e, eq-eqb (getD l 0 0) 8 f))
 
   pub control-confirm : (a b : ℕ) (t : Float) (r : ℤ) → length l ≡ 8 → getD l 0 0 ≡ 9 → a ≡ numberAt 2 l 1 → b ≡ numberAt 2 l 3 → t ≡ celsius (numberAt 2 l 5) → r ≡ rssiOf (getD l 7 0)
-      → DownlinkConfirmation a b t r ≡ controlOf l
-  unfolding controlOf
+      → said (DownlinkConfirmation a b t r) ≡ accepted (controlOf l)
+  unfolding said controlOf controlFrom
   control-confirm a b t r e f x y z w =
       rw (x, y, z, w) (simp (ne-eqb (length l) 7 (λ g. omega (arith, e, g)), eq-eqb (length l) 8 e, eq-eqb (getD l 0 0) 9 f))
 
-  pub control-other : length l ≡ 8 → (getD l 0 0 ≡ 9 → ⊥) → Unknown ≡ controlOf l
-  unfolding controlOf
+  pub control-other : length l ≡ 8 → (getD l 0 0 ≡ 9 → ⊥) → said Unknown ≡ accepted (controlOf l)
+  unfolding said controlOf controlFrom
   control-other e f = simp (ne-eqb (length l) 7 (λ g. omega (arith, e, g)), ne-eqb (getD l 0 0) 9 f, both-false)
 
-  pub control-length : (length l ≡ 7 → ⊥) → (length l ≡ 8 → ⊥) → Unknown ≡ controlOf l
-  unfolding controlOf
+  pub control-length : (length l ≡ 7 → ⊥) → (length l ≡ 8 → ⊥) → said Unknown ≡ accepted (controlOf l)
+  unfolding said controlOf controlFrom
   control-length e f = simp (ne-eqb (length l) 7 e, ne-eqb (length l) 8 f)
 
-  pub control-seven : (getD l 0 0 ≡ 8 → ⊥) → (length l ≡ 8 → ⊥) → Unknown ≡ controlOf l
-  unfolding controlOf
+  pub control-seven : (getD l 0 0 ≡ 8 → ⊥) → (length l ≡ 8 → ⊥) → said Unknown ≡ accepted (controlOf l)
+  unfolding said controlOf controlFrom
   control-seven e f = simp (ne-eqb (getD l 0 0) 8 e, ne-eqb (length l) 8 f, both-false)

@@ -7,10 +7,11 @@ use lib.ListN.{length, take, drop, length-append}
 use lib.Seq.{sets, sets-eq, take-length}
 use borrow.Author.Tests.{lt-ltb, le-ltb}
 use Rattle.limits.specs.Limits.{short, badNumber}
+use Rattle.limits.specs.Answer.{answer, leaves}
 use Rattle.coding.specs.Bits.{bitOf}
 use Rattle.endian.specs.Bytes.{bytesOf}
 use Rattle.frame.specs.Sizes.{headerSize, mostPayload, authSize}
-use Rattle.frame.specs.Header.{sizeClass, sizeLi, classOf, liOf, headerBytes, mostHeader, headerCause, headerAnswer, headerOut}
+use Rattle.frame.specs.Header.{sizeClass, sizeLi, classOf, liOf, headerBytes, mostHeader, headerCause, said, headerAnswer, headerOut}
 use Rattle.frame.specs.declared.header.UplinkFields.{UplinkFields}
 use Rattle.frame.specs.declared.header.UplinkHeader.the-variants.{Refused, Made}
 use Rattle.frame.proofs.CopyLaws.{sets-then}
@@ -56,24 +57,24 @@ written out a b c d f payload x y ea eb ec ed ex ey =
 -- ---- the answers
 
 module _ (f : UplinkFields) (payload out : List ℕ) where
-  pub header-short : length out < mostHeader → (Refused short ≡ headerAnswer f payload out) × (out ≡ headerOut f payload out)
-  unfolding headerAnswer headerOut headerCause
+  pub header-short : length out < mostHeader → (said (Refused short) ≡ headerAnswer f payload out) × (out ≡ headerOut f payload out)
+  unfolding said answer leaves headerAnswer headerOut headerCause
   header-short h = (simp (lt-ltb _ _ h), simp (lt-ltb _ _ h))
 
   module _ (h : mostHeader ≤ length out) where
-    pub header-long : mostPayload < length payload → (Refused badNumber ≡ headerAnswer f payload out) × (out ≡ headerOut f payload out)
-    unfolding headerAnswer headerOut headerCause
+    pub header-long : mostPayload < length payload → (said (Refused badNumber) ≡ headerAnswer f payload out) × (out ≡ headerOut f payload out)
+    unfolding said answer leaves headerAnswer headerOut headerCause
     header-long k = (simp (le-ltb _ _ h, lt-ltb _ _ k), simp (le-ltb _ _ h, lt-ltb _ _ k))
 
     pub header-made : length payload ≤ mostPayload → (class auth : ℕ) → class ≡ classOf (f .bit) (length payload)
-        → auth ≡ authSize class (liOf (f .bit) (length payload)) → Made (headerSize + length payload) class auth ≡ headerAnswer f payload out
-    unfolding headerAnswer headerCause
+        → auth ≡ authSize class (liOf (f .bit) (length payload)) → said (Made (headerSize + length payload) class auth) ≡ headerAnswer f payload out
+    unfolding said answer headerAnswer headerCause
     header-made k class auth e g =
-        ap₂ (Made (headerSize + length payload)) e (g ∙ ap (λ (c : ℕ). authSize c (liOf (f .bit) (length payload))) e)
+        ap₂ (λ (c a : ℕ). said (Made (headerSize + length payload) c a)) e (g ∙ ap (λ (c : ℕ). authSize c (liOf (f .bit) (length payload))) e)
         ∙ simp (le-ltb _ _ h, le-ltb _ _ k)
 
     pub header-written : length payload ≤ mostPayload → sets out 0 (headerBytes f payload) ≡ headerOut f payload out
-    unfolding headerOut headerCause
+    unfolding leaves headerOut headerCause
     header-written k =
         sets-eq (headerBytes f payload) out 0 (omega (arith, length-header f payload))
         ∙ ap (λ (n : ℕ). headerBytes f payload ++ drop n out) (let e : 0 + length (headerBytes f payload) ≡ headerSize + length payload = omega (arith, length-header f payload) in e)

@@ -5,8 +5,8 @@ use mathlib.Core.List.{List, _∷_, _++_}
 use lib.Dec.{ltb}
 use lib.ListN.{length, drop}
 use Rattle.limits.specs.Limits.{short, badNumber}
+use Rattle.limits.specs.Answer.{Answer, refused, accepted, answer, leaves}
 use Rattle.coding.specs.Bits.{bitOf}
-use Rattle.coding.specs.Answers.{lentBy}
 use Rattle.endian.specs.Bytes.{bytesOf}
 use Rattle.frame.specs.Sizes.{headerSize, mostPayload, authSize}
 use Rattle.frame.specs.declared.SingleBit.{SingleBit}
@@ -46,25 +46,32 @@ headerBytes f payload =
 abbrev pub mostHeader : ℕ
 mostHeader = 18
 
+-- the first cause that applies, 0 where none does: 2 `out` under 18, 9 payload over 12
 unfoldable pub headerCause : List ℕ → ℕ → ℕ
 headerCause payload room = cond (ltb room mostHeader) short (cond (ltb mostPayload (length payload)) badNumber 0)
 
--- 01's number of an answer; its values are how many bytes were written, the class and the authentication's size
-abbrev pub headerNumber : UplinkHeader → ℕ
-headerNumber (Refused n) = n
-headerNumber (Made size class auth) = 0
+-- the values of an answer: how many bytes were written, the class and the authentication's size
+pub record Values : Type 0 where
+  pub size : ℕ
+  pub class : ℕ
+  pub auth : ℕ
 
-abbrev pub headerBy : ℕ → UplinkHeader → UplinkHeader
-headerBy zero made = made
-headerBy (suc c) made = Refused (suc c)
+-- 01's number and values of each answer
+unfoldable pub said : UplinkHeader → Answer Values
+said (Refused n) = refused n
+said (Made size class auth) = accepted (record { size = size; class = class; auth = auth })
 
-unfoldable pub headerAnswer : UplinkFields → List ℕ → List ℕ → UplinkHeader
+unfoldable pub headerAnswer : UplinkFields → List ℕ → List ℕ → Answer Values
 unfolding headerCause
 headerAnswer f payload out =
-    headerBy (headerCause payload (length out))
-    (Made (headerSize + length payload) (classOf (f .bit) (length payload)) (authSize (classOf (f .bit) (length payload)) (liOf (f .bit) (length payload))))
+    answer (headerCause payload (length out)) (record {
+      size = headerSize + length payload;
+      class = classOf (f .bit) (length payload);
+      auth = authSize (classOf (f .bit) (length payload)) (liOf (f .bit) (length payload));
+    })
 
+-- `out` after a call: its first places hold header and payload, the rest is kept
 unfoldable pub headerOut : UplinkFields → List ℕ → List ℕ → List ℕ
 unfolding headerCause headerBytes
 headerOut f payload out =
-    lentBy (headerCause payload (length out)) (headerBytes f payload ++ drop (headerSize + length payload) out) out
+    leaves (headerCause payload (length out)) (headerBytes f payload ++ drop (headerSize + length payload) out) out

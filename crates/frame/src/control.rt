@@ -1,7 +1,8 @@
 // The payload of a control frame (frame.rs decode_control).
 ghost use mathlib.Core.Path.{_≡_};
 ghost use Prim.Native.Nat.{_≤_, _<_};
-ghost use Rattle.frame.specs.Control.{signedBelow, minus, celsius, rssiOf, controlOf};
+ghost use Rattle.limits.specs.Answer.{accepted};
+ghost use Rattle.frame.specs.Control.{signedBelow, minus, celsius, rssiOf, controlOf, said};
 
 pub enum ControlMessage {
     Unknown,
@@ -64,7 +65,7 @@ fn rssi_of(b: u8) -> i32
 }
 
 pub fn decode_control(payload: &[u8]) -> ControlMessage
-    ensures { λ r. ⌜ r ≡ controlOf (now (payload .entry)) ⌝ }
+    ensures { λ r. ⌜ said r ≡ accepted (controlOf (now (payload .entry))) ⌝ }
 {
     if payload.len() == KEEP_ALIVE_SIZE {
         if payload[0] == KEEP_ALIVE {

@@ -4,7 +4,7 @@ ghost use Prim.Native.Nat.{_+_, _*_, _/_, _%_, _≤_, _<_};
 ghost use lib.ListN.{length};
 ghost use lib.Seq.{sets};
 ghost use Rattle.frame.specs.Sizes.{mostPayload, authSize};
-ghost use Rattle.frame.specs.Header.{classOf, liOf, mostHeader, headerBytes, headerCause, headerAnswer, headerOut};
+ghost use Rattle.frame.specs.Header.{classOf, liOf, mostHeader, headerBytes, said, headerAnswer, headerOut};
 use crate::SingleBit;
 use crate::bodies::HEADER;
 use crate::bodies::MOST_PAYLOAD;
@@ -82,7 +82,7 @@ fn write_header(f: UplinkFields, li: u8, payload: &[u8], out: &mut [u8])
 
 // The header of an uplink into a lent slice.
 pub fn uplink_header(fields: UplinkFields, payload: &[u8], out: &mut [u8]) -> UplinkHeader
-    ensures { λ r. ⌜ (r ≡ headerAnswer fields (now (payload .entry)) (now (out .entry)))
+    ensures { λ r. ⌜ (said r ≡ headerAnswer fields (now (payload .entry)) (now (out .entry)))
         × (now (out .exit) ≡ headerOut fields (now (payload .entry)) (now (out .entry))) ⌝ }
 {
     if out.len() < MOST_HEADER {

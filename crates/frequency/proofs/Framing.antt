@@ -2,14 +2,17 @@
 use mathlib.Core.Path.{_≡_, refl, sym, ap, _∙_}
 use mathlib.Core.Bool.{Bool, true, false, not, _&&_}
 use mathlib.Core.List.{List, [], _∷_}
-use Prim.Native.Nat.{ℕ}
+use Prim.Native.Nat.{ℕ, zero, suc}
 use native.Mathlib.Omega.{arith}
-use borrow.Author.Tests.{ltb-false, not-false, eq-eqb, ne-eqb}
+use borrow.Author.Tests.{ltb-false, not-false}
 use lib.Dec.{ltb}
 use lib.ListN.{length, take, getD}
 use lib.Ieee.{Float, nan}
 use Rattle.limits.specs.Samples.{rateOk}
+use Rattle.limits.specs.Answer.{accepted}
+use Rattle.limits.specs.Answer as lent
 use Rattle.limits.proofs.Samples.{and-left, and-right}
+use Rattle.limits.proofs.AnswerLaws.{refused-answer, done-answer}
 use Rattle.lists.specs.Lists.{Reading, noNan, lastOr}
 use Rattle.record.specs.declared.FrameSpan.{FrameSpan}
 use Rattle.measure.specs.declared.Frequency.{Frequency}
@@ -21,7 +24,7 @@ use Rattle.frequency.specs.declared.FrequencyTracker.{FrequencyTracker}
 use Rattle.frequency.specs.declared.Freq.the-variants as freq
 use Rattle.frequency.specs.declared.FrameFrequency.the-variants as frame
 use Rattle.frequency.specs.declared.Frame1.the-variants as first
-use Rattle.frequency.specs.Calls.{freqAnswer, frameAnswer, frame1Answer, asFrame, asFirst, heldReadings}
+use Rattle.frequency.specs.Calls.{saidFreq, freqAnswer, saidFrame, frameAnswer, saidFirst, frame1Answer, heldReadings}
 use Rattle.frequency.specs.Order.{tuningsInOrder, readingsInOrder, floatsOk, numbersOk, causeFreq, causeFrame}
 use Rattle.frequency.proofs.Choices.{not-refused}
 use Rattle.frequency.proofs.Ordered.{OrderedT, ordered-t, ordered-r}
@@ -50,31 +53,40 @@ freq-ordered s tun fre e =
 
 -- ---- the answers
 module _ (s : FrequencyTracker) (tun fre : List ℕ) (k : ℕ) (K : k ≡ causeFreq s tun fre) where
-  pub freq-refused : (k ≡ 0 → ⊥) → freq.Refused k ≡ freqAnswer s tun fre
-  unfolding freqAnswer
-  freq-refused h = ap freq.Refused K ∙ sym (rw (ne-eqb (causeFreq s tun fre) 0 (λ e. h (K ∙ e))) refl)
+  pub freq-refused : (k ≡ 0 → ⊥) → saidFreq (freq.Refused k) ≡ freqAnswer s tun fre
+  unfolding saidFreq
+  freq-refused h = refused-answer k (causeFreq s tun fre) K (lastOr (s .«base_freq») (take (s .tunings) fre)) h
 
-  pub freq-told : k ≡ 0 → (f : ℕ) → f ≡ lastOr (s .«base_freq») (take (s .tunings) fre) → freq.Hz f ≡ freqAnswer s tun fre
-  unfolding freqAnswer
-  freq-told h f e = ap freq.Hz e ∙ sym (rw (eq-eqb (causeFreq s tun fre) 0 (sym K ∙ h)) refl)
+  pub freq-told : k ≡ 0 → (f : ℕ) → f ≡ lastOr (s .«base_freq») (take (s .tunings) fre) → saidFreq (freq.Hz f) ≡ freqAnswer s tun fre
+  unfolding saidFreq
+  freq-told h f e = ap accepted e ∙ done-answer k (causeFreq s tun fre) K (lastOr (s .«base_freq») (take (s .tunings) fre)) h
 
 module _ (s : FrequencyTracker) (at lo : List ℕ) (hz : List Float) (room : ℕ) (f : FrameSpan) (k : ℕ) (K : k ≡ causeFrame s at lo hz room (spanOk f)) where
-  pub frame-refused : (k ≡ 0 → ⊥) → frame.Refused k ≡ frameAnswer s at lo hz room f
-  unfolding frameAnswer
-  frame-refused h = ap frame.Refused K ∙ sym (rw (ne-eqb (causeFrame s at lo hz room (spanOk f)) 0 (λ e. h (K ∙ e))) refl)
+  pub frame-refused : (k ≡ 0 → ⊥) → saidFrame (frame.Refused k) ≡ frameAnswer s at lo hz room f
+  unfolding saidFrame
+  frame-refused h = refused-answer k (causeFrame s at lo hz room (spanOk f)) K (frameFrequency (s .rate) (heldReadings s at lo hz) (f .time) (f .end)) h
 
-  pub frame-told : k ≡ 0 → asFrame (frameFrequency (s .rate) (heldReadings s at lo hz) (f .time) (f .end)) ≡ frameAnswer s at lo hz room f
-  unfolding frameAnswer
-  frame-told h = sym (rw (eq-eqb (causeFrame s at lo hz room (spanOk f)) 0 (sym K ∙ h)) refl)
+  pub frame-told : k ≡ 0 → accepted (frameFrequency (s .rate) (heldReadings s at lo hz) (f .time) (f .end)) ≡ frameAnswer s at lo hz room f
+  frame-told h = done-answer k (causeFrame s at lo hz room (spanOk f)) K (frameFrequency (s .rate) (heldReadings s at lo hz) (f .time) (f .end)) h
 
 module _ (s : FrequencyTracker) (at lo : List ℕ) (hz : List Float) (room : ℕ) (spans : List FrameSpan) (k : ℕ) (K : k ≡ causeFrame s at lo hz room (spansOk spans)) (d : Bool) where
-  pub first-refused : (k ≡ 0 → ⊥) → first.Refused k ≡ frame1Answer s at lo hz room spans d
-  unfolding frame1Answer
-  first-refused h = ap first.Refused K ∙ sym (rw (ne-eqb (causeFrame s at lo hz room (spansOk spans)) 0 (λ e. h (K ∙ e))) refl)
+  pub first-refused : (k ≡ 0 → ⊥) → saidFirst (first.Refused k) ≡ frame1Answer s at lo hz room spans d
+  unfolding saidFirst
+  first-refused h = refused-answer k (causeFrame s at lo hz room (spansOk spans)) K (frame1 (s .rate) (heldReadings s at lo hz) spans d) h
 
-  pub first-told : k ≡ 0 → asFirst (frame1 (s .rate) (heldReadings s at lo hz) spans d) ≡ frame1Answer s at lo hz room spans d
-  unfolding frame1Answer
-  first-told h = sym (rw (eq-eqb (causeFrame s at lo hz room (spansOk spans)) 0 (sym K ∙ h)) refl)
+  pub first-told : k ≡ 0 → accepted (frame1 (s .rate) (heldReadings s at lo hz) spans d) ≡ frame1Answer s at lo hz room spans d
+  first-told h = done-answer k (causeFrame s at lo hz room (spansOk spans)) K (frame1 (s .rate) (heldReadings s at lo hz) spans d) h
+
+-- scratch that is as it was, and scratch of an accepted call
+pub as-it-was : (k : ℕ) (l : List Float) → lent.Free k l l
+unfolding lent.Free
+as-it-was zero l = tt
+as-it-was (suc k) l = refl
+
+pub freed : (k : ℕ) (old now : List Float) → k ≡ 0 → lent.Free k old now
+unfolding lent.Free
+freed zero old now e = tt
+freed (suc k) old now e = absurd (omega arith)
 
 -- three places
 pub three : (l : List FrameSpan) (d : FrameSpan) → length l ≡ 3 → l ≡ getD l 0 d ∷ getD l 1 d ∷ getD l 2 d ∷ []

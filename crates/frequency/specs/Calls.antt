@@ -1,11 +1,11 @@
 -- What each exported call of the tracker says of its answer and of what it was lent. Assumes nothing.
 use Prim.Native.Nat.{ℕ, _≤_}
 use mathlib.Core.Path.{_≡_}
-use mathlib.Core.Bool.{Bool, true, false}
+use mathlib.Core.Bool.{Bool, false}
 use mathlib.Core.List.{List}
-use lib.Dec.{eqb}
 use lib.ListN.{length, take}
 use lib.Ieee.{Float}
+use Rattle.limits.specs.Answer.{Answer, refused, accepted, answer, Free}
 use Rattle.signal.specs.declared.Floor.the-variants.{Unknown}
 use Rattle.signal.specs.declared.Sample.the-variants.{Never}
 use Rattle.lists.specs.Lists.{Reading, lastOr}
@@ -64,52 +64,42 @@ pub record NextEnd (s : FrequencyTracker) (l : Lists) (out : List Float) (r : �
   pub no-answer : (r ≡ 0 → ⊥) → tune ≡ Nothing
   pub same-scratch : (r ≡ 0 → ⊥) → out′ ≡ out
 
--- freq: the number, or the receiver frequency
-abbrev pub pickFreq : Bool → Freq → Freq → Freq
-pickFreq true a b = a
-pickFreq false a b = b
+-- freq: 01's number and values of each answer, the receiver frequency
+unfoldable pub saidFreq : Freq → Answer ℕ
+saidFreq (freq.Refused n) = refused n
+saidFreq (freq.Hz f) = accepted f
 
-unfoldable pub freqAnswer : FrequencyTracker → List ℕ → List ℕ → Freq
-freqAnswer s tun fre = pickFreq (eqb (causeFreq s tun fre) 0) (freq.Hz (lastOr (s .«base_freq») (take (s .tunings) fre))) (freq.Refused (causeFreq s tun fre))
+abbrev pub freqAnswer : FrequencyTracker → List ℕ → List ℕ → Answer ℕ
+freqAnswer s tun fre = answer (causeFreq s tun fre) (lastOr (s .«base_freq») (take (s .tunings) fre))
 
--- frame_frequency: the number, or the frequency and the receiver's, or none
-abbrev pub pickFrame : Bool → FrameFrequency → FrameFrequency → FrameFrequency
-pickFrame true a b = a
-pickFrame false a b = b
-
-abbrev pub asFrame : Measured → FrameFrequency
-asFrame Unmeasured = frame.Unknown
-asFrame (Found h lo) = frame.Found h lo
+-- frame_frequency: 01's number and values of each answer, the frequency and the receiver's, or none
+unfoldable pub saidFrame : FrameFrequency → Answer Measured
+saidFrame (frame.Refused n) = refused n
+saidFrame frame.Unknown = accepted Unmeasured
+saidFrame (frame.Found h lo) = accepted (Found h lo)
 
 abbrev pub heldReadings : FrequencyTracker → List ℕ → List ℕ → List Float → List Reading
 heldReadings s at lo hz = readingsOf (take (s .readings) at) (take (s .readings) lo) (take (s .readings) hz)
 
-unfoldable pub frameAnswer : FrequencyTracker → List ℕ → List ℕ → List Float → ℕ → FrameSpan → FrameFrequency
-frameAnswer s at lo hz room f =
-    let k = causeFrame s at lo hz room (spanOk f) in
-    pickFrame (eqb k 0) (asFrame (frameFrequency (s .rate) (heldReadings s at lo hz) (f .time) (f .end))) (frame.Refused k)
+abbrev pub frameAnswer : FrequencyTracker → List ℕ → List ℕ → List Float → ℕ → FrameSpan → Answer Measured
+frameAnswer s at lo hz room f = answer (causeFrame s at lo hz room (spanOk f)) (frameFrequency (s .rate) (heldReadings s at lo hz) (f .time) (f .end))
 
 pub record FrameEnd (s : FrequencyTracker) (f : FrameSpan) (at lo : List ℕ) (hz out : List Float) (r : FrameFrequency) (out′ : List Float) : Type 0 where
-  pub answer : r ≡ frameAnswer s at lo hz (length out) f
-  pub same-scratch : (causeFrame s at lo hz (length out) (spanOk f) ≡ 0 → ⊥) → out′ ≡ out
+  pub says : saidFrame r ≡ frameAnswer s at lo hz (length out) f
+  pub scratch : Free (causeFrame s at lo hz (length out) (spanOk f)) out out′
 
--- frame1: the number, or the frequency in Hz, or none
-abbrev pub pickFirst : Bool → Frame1 → Frame1 → Frame1
-pickFirst true a b = a
-pickFirst false a b = b
+-- frame1: 01's number and values of each answer, the frequency in Hz, or none
+unfoldable pub saidFirst : Frame1 → Answer Frequency
+saidFirst (first.Refused n) = refused n
+saidFirst first.Unknown = accepted Nothing
+saidFirst (first.Hz f) = accepted (Hz f)
 
-abbrev pub asFirst : Frequency → Frame1
-asFirst Nothing = first.Unknown
-asFirst (Hz f) = first.Hz f
-
-unfoldable pub frame1Answer : FrequencyTracker → List ℕ → List ℕ → List Float → ℕ → List FrameSpan → Bool → Frame1
-frame1Answer s at lo hz room spans downlink =
-    let k = causeFrame s at lo hz room (spansOk spans) in
-    pickFirst (eqb k 0) (asFirst (frame1 (s .rate) (heldReadings s at lo hz) spans downlink)) (first.Refused k)
+abbrev pub frame1Answer : FrequencyTracker → List ℕ → List ℕ → List Float → ℕ → List FrameSpan → Bool → Answer Frequency
+frame1Answer s at lo hz room spans downlink = answer (causeFrame s at lo hz room (spansOk spans)) (frame1 (s .rate) (heldReadings s at lo hz) spans downlink)
 
 pub record Frame1End (s : FrequencyTracker) (spans : List FrameSpan) (downlink : Bool) (at lo : List ℕ) (hz out : List Float) (r : Frame1) (out′ : List Float) : Type 0 where
-  pub answer : r ≡ frame1Answer s at lo hz (length out) spans downlink
-  pub same-scratch : (causeFrame s at lo hz (length out) (spansOk spans) ≡ 0 → ⊥) → out′ ≡ out
+  pub says : saidFirst r ≡ frame1Answer s at lo hz (length out) spans downlink
+  pub scratch : Free (causeFrame s at lo hz (length out) (spansOk spans)) out out′
 
 -- a tracker that has heard nothing
 abbrev pub fresh : ℕ → ℕ → Float → FrequencyTracker

@@ -9,7 +9,8 @@ ghost use Rattle.retain.specs.Retain.{Looked};
 ghost use Rattle.tuning.specs.Steps.{settledBy};
 ghost use Rattle.frequency.specs.Lent.{lists};
 ghost use Rattle.frequency.specs.Order.{ahead, tuningsInOrder, readingsInOrder, inOrder, floatsOk, numbersOk, causeNew, causeFreq, causeTuned, causeSamples, causeCfo, causeNext, causeFrame};
-ghost use Rattle.frequency.specs.Calls.{SamplesEnd, CfoEnd, TunedEnd, NextEnd, FrameEnd, Frame1End, freqAnswer, asFrame, asFirst, fresh};
+ghost use Rattle.limits.specs.Answer.{accepted};
+ghost use Rattle.frequency.specs.Calls.{SamplesEnd, CfoEnd, TunedEnd, NextEnd, FrameEnd, Frame1End, saidFreq, freqAnswer, saidFrame, saidFirst, fresh};
 ghost use Rattle.frequency.specs.Waiting.{Settling, settledOf, stepBy};
 
 // How far past the stream's end a line's last reading may stand.
@@ -342,7 +343,7 @@ fn step_of(t: FrequencyTracker, at: &[u64], hz: &[f64], out: &mut [f64]) -> tuni
 }
 
 fn frame_answer(m: measure::Measured) -> FrameFrequency
-    ensures { λ r. ⌜ r ≡ asFrame m ⌝ }
+    ensures { λ r. ⌜ saidFrame r ≡ accepted m ⌝ }
 {
     match m {
         measure::Measured::Unmeasured => FrameFrequency::Unknown,
@@ -351,7 +352,7 @@ fn frame_answer(m: measure::Measured) -> FrameFrequency
 }
 
 fn first_answer(f: measure::Frequency) -> Frame1
-    ensures { λ r. ⌜ r ≡ asFirst f ⌝ }
+    ensures { λ r. ⌜ saidFirst r ≡ accepted f ⌝ }
 {
     match f {
         measure::Frequency::Nothing => Frame1::Unknown,
@@ -388,7 +389,7 @@ impl FrequencyTracker {
 
     // The frequency that the receiver is tuned to; refusals 1, 5, 9.
     pub fn freq(self, tuned: &[u64], freq: &[u32]) -> Freq
-        ensures { λ r. ⌜ r ≡ freqAnswer self (now (tuned .entry)) (now (freq .entry)) ⌝ }
+        ensures { λ r. ⌜ saidFreq r ≡ freqAnswer self (now (tuned .entry)) (now (freq .entry)) ⌝ }
     {
         let cause = cause_freq(self, tuned, freq);
         if cause != 0 {

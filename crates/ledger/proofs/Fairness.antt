@@ -2,7 +2,7 @@
 use Prim.Native.Nat.{ℕ, _≤_}
 use Rattle.limits.specs.Limits.{lowestRate, highestRate}
 use Rattle.demod.proofs.DecodedFacts.{burst-lawful}
-use Rattle.ledger.specs.Demodulation.{demodOf, held-frame}
+use Rattle.ledger.specs.Demodulation.{demodOf}
 use Rattle.ledger.specs.Room.{Fair}
 use Rattle.ledger.proofs.ScanRows.{scan-row}
 
@@ -10,6 +10,6 @@ pub demod-fair : (rate : ℕ) → lowestRate ≤ rate → rate ≤ highestRate �
 demod-fair rate lo hi =
     record {
       row = scan-row rate lo hi;
-      payload = λ held t b x e. rw (held-frame rate held t b x e) at (burst-lawful held rate b t .payload);
-      auth = λ held t b x e. rw (held-frame rate held t b x e) at (burst-lawful held rate b t .auth);
+      payload = λ held t b x e. burst-lawful held rate b t x e .payload;
+      auth = λ held t b x e. burst-lawful held rate b t x e .auth;
     }

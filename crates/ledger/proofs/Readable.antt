@@ -14,7 +14,7 @@ use Rattle.demod.proofs.NumberFacts.{Singles, SinglePeaks, singles-take, single
 use Rattle.ledger.specs.Types.{Burst}
 use Rattle.ledger.specs.Frames.{Frame, rankOf, rssiOf, timeOf, startOf}
 use Rattle.ledger.specs.Scanning.{scanOptions, heldBursts}
-use Rattle.ledger.specs.Demodulation.{demodOf, held-frame}
+use Rattle.ledger.specs.Demodulation.{demodOf}
 use Rattle.ledger.specs.Ledger.{byFrames, capacity, half, seconds, Ledger, Call, halve, amount, add, scans}
 use Rattle.ledger.proofs.Basics.{either, Every}
 use Rattle.ledger.proofs.Bursts.{Proper, proper}
@@ -45,9 +45,8 @@ module _ (rate : ℕ) (lo : lowestRate ≤ rate) (hi : rate ≤ highestRate) whe
   unfolding rankOf rssiOf timeOf startOf
   one-gives held base b p s h x n e =
       let t = seconds rate base in
-      let f = held-frame rate held t b x e in
-      let l = rw f at (burst-lawful held rate b t) in
-      let w = rw f at (burst-written held rate b t s) in
+      let l = burst-lawful held rate b t x e in
+      let w = burst-written held rate b t x e s in
       record {
         rank = l .rank;
         device = l .device;

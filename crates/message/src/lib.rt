@@ -7,7 +7,7 @@ ghost use lib.Ieee.{isNan};
 ghost use Rattle.ledger.specs.Frames.{Frame};
 ghost use Rattle.ledger.specs.Merge.{noSpan, spanOf, has, place, meet, threeRanks, endAfter, louder, openEntry, merge, expires, later, lower, lowestLater, endBefore, estimate, orElse, finished};
 ghost use Rattle.ledger.specs.Causes.{spansFit, entryFits, spanNan, endNan, entryNan};
-ghost use Rattle.message.specs.Messages.{frameOf, spanIn, estimateAnswer};
+ghost use Rattle.message.specs.Messages.{frameOf, spanIn, said, estimateAnswer};
 use frame::UplinkFrame;
 use ledger::Pending;
 use record::FirstFrameEnd;
@@ -384,7 +384,7 @@ pub fn has_nan(p: Pending) -> bool
 
 // The end of frame 1 from a later repetition (receiver.rs `estimate_first_frame_end`); a place of rank 255 holds no span.
 pub fn estimate_first_frame_end(spans: [FrameSpan; 3]) -> Estimated
-    ensures { λ r. ⌜ r ≡ estimateAnswer spans ⌝ }
+    ensures { λ r. ⌜ said r ≡ estimateAnswer spans ⌝ }
 {
     if record::spans::spans_ok(spans[0], spans[1], spans[2]) {
         return Estimated::End(estimate(spans));

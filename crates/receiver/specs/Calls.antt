@@ -3,9 +3,8 @@ use mathlib.Core.Path.{_≡_}
 use mathlib.Core.List.{List, map}
 use Prim.Native.Nat.{ℕ, zero, suc}
 use lib.ListN.{length}
-use lib.Dec.{T}
-use mathlib.Core.Bool.{true}
 use lib.Ieee.{Float}
+unfoldable pub use Rattle.limits.specs.Answer.{Free}
 use Rattle.ledger.specs.Ledger.{Call, push, flush, byEntry, closed, scans}
 use Rattle.ledger.specs.Causes.{Lent, cause, callEvents}
 use Rattle.ledger.specs.Demodulation.{demodOf}
@@ -44,11 +43,6 @@ unfoldable pub samplesAfter : SigfoxReceiver → Call → List Float → ℕ →
 samplesAfter s (push xs) samples zero = allFilled (s .rate) (length xs) (record { held = s .held; places = samples }) xs .places
 samplesAfter s flush samples zero = samples
 samplesAfter s c samples (suc n) = samples
-
--- "Scratch after an accepted call is free"; after a refused one it is as it was
-unfoldable pub Free : ℕ → List Float → List Float → Type 0
-Free zero old now = T true
-Free (suc n) old now = now ≡ old
 
 -- a call c on the state s, with what was lent before and after it
 pub record Answered (s : SigfoxReceiver) (c : Call) (before after : Memory) (r : Received) : Type 0 where

@@ -9,7 +9,8 @@ use lib.ListN.{length}
 use lib.Ieee.{Float}
 use Rattle.bursts.specs.declared.Burst.{Burst}
 use Rattle.bursts.specs.Levels.{noiseFloor}
-use Rattle.bursts.specs.Bursts.{threshold, gapSamples, burstsIn, firstFrom}
+use Rattle.limits.specs.Answer.{accepted}
+use Rattle.bursts.specs.Bursts.{threshold, gapSamples, burstsIn, firstFrom, said}
 use Rattle.bursts.specs.declared.BurstOptions.{BurstOptions}
 use Rattle.bursts.specs.declared.NextBurst.{NextBurst}
 use Rattle.bursts.specs.Found.{burstsFrom}
@@ -72,7 +73,7 @@ module _ (rate wait base : ℕ) (held : List Float) where
 
   -- what the code's search answers is the next burst of the scan
   pub searched : (o : BurstOptions) (floor : Float) (r : NextBurst) (at : ℕ) → o ≡ scanOptions → floor ≡ noiseFloor held
-      → r ≡ firstFrom 0 (burstsFrom held rate o floor at) → r ≡ firstFrom 0 (burstsLeft at)
+      → said r ≡ accepted (firstFrom 0 (burstsFrom held rate o floor at)) → said r ≡ accepted (firstFrom 0 (burstsLeft at))
   searched o floor r at p q e = rw (p, q) at e
 
   -- the ledger on the way: what is left to be done with it is what is left to be done with l

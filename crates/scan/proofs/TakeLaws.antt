@@ -12,15 +12,16 @@ use lib.Ieee.{Float}
 use borrow.Author.Tests.{ltb-true}
 use Rattle.limits.specs.Limits.{recordSize}
 use Rattle.bursts.specs.declared.Burst.{Burst}
-use Rattle.demod.specs.Decode.{decodeBurst}
+use Rattle.limits.specs.Answer.{accepted}
+use Rattle.demod.specs.Decode.{heardAs, decodeBurst, shown}
 use Rattle.demod.specs.declared.BurstFrame.{BurstFrame}
 use Rattle.demod.specs.declared.DecodedFrame.{DecodedFrame}
-use Rattle.demod.proofs.DecodedFacts.{Lawful, burst-lawful}
+use Rattle.demod.proofs.DecodedFacts.{Lawful, burst-lawful, shown-as}
 use Rattle.ledger.specs.Frames.{frameAt, rightCrc}
 use Rattle.ledger.specs.Ledger.{Ledger, byEntry, ofFrame, seconds, join, hear, remember, takes, takeOne}
 use Rattle.ledger.specs.Room.{openPlaces, eventPlaces, room, takeOneIf}
 use Rattle.ledger.specs.Causes.{mostStarts}
-use Rattle.ledger.specs.Demodulation.{frameIn, heldFrame, demodOf}
+use Rattle.ledger.specs.Demodulation.{heldFrame, demodOf}
 use Rattle.ledger.specs.Records.{recordOf}
 use Rattle.starts.specs.Starts.{remembered}
 use Rattle.starts.specs.declared.Starts.{Starts}
@@ -71,16 +72,15 @@ module _ (l : Ledger byEntry) (old : List ℕ) (s : Starts) (w : Waiting) (n : �
       }
 
 module _ (rate : ℕ) (b : Burst) (held : List Float) (base : ℕ) (s : Scanned) (e : List ℕ) (t : Starts) (x : BurstFrame)
-    (q : remembered t ≡ remembered (s .starts) ++ ((base + b .start) ∷ [])) (d : x ≡ decodeBurst held rate b (seconds rate base)) where
+    (q : remembered t ≡ remembered (s .starts) ++ ((base + b .start) ∷ [])) (d : x ≡ shown (accepted (decodeBurst held rate b (seconds rate base)))) where
   decoded-is : (l : Ledger byEntry) → l .held ≡ held → l .base ≡ base
-      → heldFrame rate (l .held) (seconds rate (l .base)) b ≡ frameIn (x .outcome) (x .decoded)
-  unfolding heldFrame
-  decoded-is l h p = let z : decodeBurst (l .held) rate b (seconds rate (l .base)) ≡ x = cc in rw z
+      → heldFrame rate (l .held) (seconds rate (l .base)) b ≡ heardAs (x .outcome) (x .decoded)
+  decoded-is l h p = rw (h, p) (shown-as x (decodeBurst held rate b (seconds rate base)) d)
 
   start-is : (l : Ledger byEntry) → l .base ≡ base → remembered t ≡ remembered (s .starts) ++ ((l .base + b .start) ∷ [])
   start-is l p = q ∙ ap (λ (k : ℕ). remembered (s .starts) ++ ((k + b .start) ∷ [])) (sym p)
 
-  pub does-without : frameIn (x .outcome) (x .decoded) ≡ none → Within (record { starts = t; waiting = s .waiting; count = s .count })
+  pub does-without : heardAs (x .outcome) (x .decoded) ≡ none → Within (record { starts = t; waiting = s .waiting; count = s .count })
       → Does (taken rate b) held base s e (record { starts = t; waiting = s .waiting; count = s .count }) e
   does-without o inside =
       record {
@@ -91,13 +91,13 @@ module _ (rate : ℕ) (b : Burst) (held : List Float) (base : ℕ) (s : Scanned)
         within = inside;
       }
 
-  pub does-frame : (v : Waiting) (f : List ℕ) → frameIn (x .outcome) (x .decoded) ≡ some (x .decoded) → Within (record { starts = t; waiting = v; count = s .count + 1 })
+  pub does-frame : (v : Waiting) (f : List ℕ) → heardAs (x .outcome) (x .decoded) ≡ some (x .decoded) → Within (record { starts = t; waiting = v; count = s .count + 1 })
       → recordSize * (s .count + 1) ≤ length e
       → waitingOf v ≡ cond (x .decoded .frame .«crc_ok») (join byEntry (frameAt (base + b .start) (x .decoded)) (waitingOf (s .waiting))) (waitingOf (s .waiting))
       → f ≡ sets e (recordSize * s .count) (recordOf (ofFrame (frameAt (base + b .start) (x .decoded))))
       → Does (taken rate b) held base s e (record { starts = t; waiting = v; count = s .count + 1 }) f
   does-frame v f o inside place j k =
-      let lawful : Lawful (x .decoded .frame) = rw d (burst-lawful held rate b (seconds rate base)) in
+      let lawful : Lawful (x .decoded .frame) = burst-lawful held rate b (seconds rate base) (x .decoded) (shown-as x (decodeBurst held rate b (seconds rate base)) d ∙ o) in
       record {
         midway = λ l old h p m.
             rw (decoded-is l h p ∙ o)

@@ -1,7 +1,9 @@
 -- `bench::bench_burst_bits` meets its contract. Assumes nothing.
 use mathlib.Core.Path.{sym, ap}
+use Rattle.clock.specs.Bits.{said}
+use Rattle.clock.specs.declared.BurstBits.{BurstBits}
 use Rattle.bench.specs.Demod.{bitCountOf}
-use Rattle.bench.proofs.Told.{bits-told}
+use Rattle.bench.proofs.Told.{lent-told}
 use borrow.Author.Needs.{needs}
 use Rattle.bench.proofs.bench_burst_bits.Statement.{statement}
 use Rattle.bench.proofs.bench_burst_bits.Tie as tie
@@ -28,7 +30,8 @@ same-length-3 : tie.Need-same-length-3
 same-length-3 c = search needs
 
 returns : tie.Need-returns
-returns c = bits-told _ _ _ _ _ _ _ _ _ _ (c .before .before .before .before .before .before .before .before .burst-bits .ensures) (ap bitCountOf (sym (c .enum-told .given .1)))
+unfolding said
+returns c = lent-told bitCountOf _ _ _ _ _ _ _ _ _ _ (c .before .before .before .before .before .before .before .before .burst-bits .ensures) (ap (λ (r : BurstBits). bitCountOf (said r)) (sym (c .enum-told .given .1)))
 
 same-length-4 : tie.Need-same-length-4
 same-length-4 c = search needs
@@ -40,7 +43,8 @@ same-length-6 : tie.Need-same-length-6
 same-length-6 c = search needs
 
 returns-2 : tie.Need-returns-2
-returns-2 c = bits-told _ _ _ _ _ _ _ _ _ _ (c .before .before .before .before .before .before .before .before .burst-bits .ensures) (ap bitCountOf (sym (c .enum-told2 .given .1)))
+unfolding said
+returns-2 c = lent-told bitCountOf _ _ _ _ _ _ _ _ _ _ (c .before .before .before .before .before .before .before .before .burst-bits .ensures) (ap (λ (r : BurstBits). bitCountOf (said r)) (sym (c .enum-told2 .given .1)))
 
 same-length-7 : tie.Need-same-length-7
 same-length-7 c = search needs
@@ -52,7 +56,8 @@ same-length-9 : tie.Need-same-length-9
 same-length-9 c = search needs
 
 returns-3 : tie.Need-returns-3
-returns-3 c = bits-told _ _ _ _ _ _ _ _ _ _ (c .before .before .before .before .before .before .before .before .before .burst-bits .ensures) (ap bitCountOf (sym (c .before .count .given .1)))
+unfolding said
+returns-3 c = lent-told bitCountOf _ _ _ _ _ _ _ _ _ _ (c .before .before .before .before .before .before .before .before .before .burst-bits .ensures) (ap (λ (r : BurstBits). bitCountOf (said r)) (sym (c .before .count .given .1)))
 
 pub bench-burst-bits-spec : {M : Type 1} → statement M
 bench-burst-bits-spec =

@@ -1,7 +1,9 @@
 -- `bench::bench_capture` meets its contract. Assumes nothing.
 use mathlib.Core.Path.{sym, ap}
-use Rattle.bench.specs.Demod.{recordCountOf}
-use Rattle.bench.proofs.Told.{capture-told}
+use Rattle.demod.specs.Capture.{said}
+use Rattle.demod.specs.declared.Captured.{Captured}
+use Rattle.bench.specs.Demod.{countOf}
+use Rattle.bench.proofs.Told.{lent-told}
 use borrow.Author.Needs.{needs}
 use Rattle.bench.proofs.bench_capture.Statement.{statement}
 use Rattle.bench.proofs.bench_capture.Tie as tie
@@ -25,7 +27,8 @@ same-length-3 : tie.Need-same-length-3
 same-length-3 c = search needs
 
 returns : tie.Need-returns
-returns c = capture-told _ _ _ _ _ _ _ _ _ _ (c .before .before .before .before .before .before .before .before .decode-capture .ensures) (ap recordCountOf (sym (c .enum-told .given .1)))
+unfolding said
+returns c = lent-told countOf _ _ _ _ _ _ _ _ _ _ (c .before .before .before .before .before .before .before .before .decode-capture .ensures) (ap (λ (r : Captured). countOf (said r)) (sym (c .enum-told .given .1)))
 
 same-length-4 : tie.Need-same-length-4
 same-length-4 c = search needs
@@ -37,7 +40,8 @@ same-length-6 : tie.Need-same-length-6
 same-length-6 c = search needs
 
 returns-2 : tie.Need-returns-2
-returns-2 c = capture-told _ _ _ _ _ _ _ _ _ _ (c .before .before .before .before .before .before .before .before .before .decode-capture .ensures) (ap recordCountOf (sym (c .before .n .given .1)))
+unfolding said
+returns-2 c = lent-told countOf _ _ _ _ _ _ _ _ _ _ (c .before .before .before .before .before .before .before .before .before .decode-capture .ensures) (ap (λ (r : Captured). countOf (said r)) (sym (c .before .n .given .1)))
 
 pub bench-capture-spec : {M : Type 1} → statement M
 bench-capture-spec =

@@ -1,4 +1,5 @@
 -- `bench::bench_next_burst` meets its contract. Assumes nothing.
+use Rattle.bursts.specs.Bursts.{said}
 use Rattle.bench.specs.Demod.{endOf}
 use Rattle.bench.proofs.Told.{number-of, asked}
 use borrow.Author.Needs.{needs}
@@ -21,13 +22,16 @@ enum-known-b : tie.Need-enum-known-b
 enum-known-b c = search needs
 
 returns : tie.Need-returns
-returns c = number-of endOf (asked _ _ _ _ (c .before .before .find-bursts .ensures) (c .before .before .before .new .ensures)) (c .enum-told .given .1)
+unfolding said
+returns c = number-of said endOf (asked _ _ _ _ (c .before .before .find-bursts .ensures) (c .before .before .before .new .ensures)) (c .enum-told .given .1)
 
 returns-2 : tie.Need-returns-2
-returns-2 c = number-of endOf (asked _ _ _ _ (c .before .before .find-bursts .ensures) (c .before .before .before .new .ensures)) (c .enum-told2 .given .1)
+unfolding said
+returns-2 c = number-of said endOf (asked _ _ _ _ (c .before .before .find-bursts .ensures) (c .before .before .before .new .ensures)) (c .enum-told2 .given .1)
 
 returns-3 : tie.Need-returns-3
-returns-3 c = number-of endOf (asked _ _ _ _ (c .before .before .before .find-bursts .ensures) (c .before .before .before .before .new .ensures)) (c .before .b .given .1)
+unfolding said
+returns-3 c = number-of said endOf (asked _ _ _ _ (c .before .before .before .find-bursts .ensures) (c .before .before .before .before .new .ensures)) (c .before .b .given .1)
 
 pub bench-next-burst-spec : {M : Type 1} → statement M
 bench-next-burst-spec =

@@ -1,4 +1,5 @@
 -- `bench::bench_noise_floor` meets its contract. Assumes nothing.
+use Rattle.bursts.specs.Levels.{said}
 use Rattle.bench.specs.Demod.{levelOf}
 use Rattle.bench.proofs.Told.{number-of}
 use borrow.Author.Needs.{needs}
@@ -18,13 +19,15 @@ same-length : tie.Need-same-length
 same-length c = search needs
 
 returns : tie.Need-returns
-returns c = let e = c .before .before .before .before .noise-floor .ensures in (number-of levelOf (e .0) (c .enum-told .given .1), e .1)
+unfolding said
+returns c = let e = c .before .before .before .before .noise-floor .ensures in (number-of said levelOf (e .0) (c .enum-told .given .1), e .1)
 
 same-length-2 : tie.Need-same-length-2
 same-length-2 c = search needs
 
 returns-2 : tie.Need-returns-2
-returns-2 c = let e = c .before .before .before .before .before .noise-floor .ensures in (number-of levelOf (e .0) (c .before .x .given .1), e .1)
+unfolding said
+returns-2 c = let e = c .before .before .before .before .before .noise-floor .ensures in (number-of said levelOf (e .0) (c .before .x .given .1), e .1)
 
 pub bench-noise-floor-spec : {M : Type 1} → statement M
 bench-noise-floor-spec =

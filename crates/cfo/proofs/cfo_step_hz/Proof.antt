@@ -5,7 +5,8 @@ use mathlib.Core.Path.{_≡_}
 use mathlib.Core.Bool.{false}
 use Prim.Native.Nat.{_%_}
 use lib.Dec.{eqb}
-use Rattle.cfo.specs.Cfo.{cfFs, stepOf, stepHz}
+use Rattle.limits.specs.Answer.{answer}
+use Rattle.cfo.specs.Cfo.{cfFs, stepOf, said, stepCause, stepHz}
 use Rattle.cfo.proofs.Constants.{xtal, bits12}
 use Rattle.cfo.proofs.Signs.{shifted}
 use borrow.Author.Needs.{needs}
@@ -13,7 +14,7 @@ use Rattle.cfo.proofs.cfo_step_hz.Statement.{statement}
 use Rattle.cfo.proofs.cfo_step_hz.Tie as tie
 
 returns : tie.Need-returns
-unfolding stepHz
+unfolding said answer stepCause stepHz
 returns c = simp (eq-eqb _ _ (c .if1 .taken))
 
 mant-requires : tie.Need-mant-requires
@@ -44,7 +45,7 @@ interp-requires : tie.Need-interp-requires
 interp-requires c κs = search needs
 
 returns-2 : tie.Need-returns-2
-unfolding stepHz stepOf cfFs
+unfolding said answer stepCause stepHz stepOf cfFs
 returns-2 c =
     let a = c .before .before .before .before .before .before .before .args in
     let t : eqb (a .bit-rate) 0 ≡ false = ne-eqb _ _ (c .before .before .before .before .before .before .if1 .left) in

@@ -6,16 +6,17 @@ use native.Mathlib.Omega.{arith}
 use lib.ListN.{length, getD}
 use lib.Seq.{slice}
 use lib.Ieee.{Float, nan}
+use Rattle.floats.specs.Trig.{sine, cosine}
 use Rattle.floats.proofs.Trigs.{zero-is, tau-is}
-use Rattle.clock.specs.Clock.{sineSum, cosineSum, turned}
-use Rattle.clock.proofs.ClockLaws.{sine-turn, sine-end, cosine-turn, cosine-end, anchor-is}
+use Rattle.clock.specs.Clock.{sumFrom, turned}
+use Rattle.clock.proofs.ClockLaws.{sum-turn, sum-end, sineOf, cosineOf, anchor-is}
 use Rattle.clock.proofs.anchor_of.Statement.{statement}
 use Rattle.clock.proofs.anchor_of.Tie as tie
 
 abbrev Inv-loop : tie.InvT-loop
 Inv-loop dips n nominal d0 end s₀ c₀ i₀ s c i =
-    (i ≤ end) × (end ≤ length dips) × (sineSum nominal d0 s (slice i end dips) ≡ sineSum nominal d0 s₀ (slice 0 end dips))
-    × (cosineSum nominal d0 c (slice i end dips) ≡ cosineSum nominal d0 c₀ (slice 0 end dips))
+    (i ≤ end) × (end ≤ length dips) × (sumFrom (sineOf nominal d0) s (slice i end dips) ≡ sumFrom (sineOf nominal d0) s₀ (slice 0 end dips))
+    × (sumFrom (cosineOf nominal d0) c (slice i end dips) ≡ sumFrom (cosineOf nominal d0) c₀ (slice 0 end dips))
 
 abbrev μ-loop : tie.MeasureT-loop
 μ-loop dips n nominal d0 end s₀ c₀ i₀ s c i = end - i
@@ -58,10 +59,10 @@ loop-again c =
     let e = l .before .least .result in (
       omega arith,
       l .loop .inv .1,
-      sine-turn (a .nominal) d (a .dips .now) (l .loop .i) e _ (l .loop .s) (c .before .before .angle-of .result) (c .before .sin64 .result) (c .before .before .before .before .loop-test .taken) (l .loop .inv .1)
-          (c .before .before .angle-of .ensures) (c .before .sin64 .ensures) (l .loop .inv .2),
-      cosine-turn (a .nominal) d (a .dips .now) (l .loop .i) e _ (l .loop .c) (c .before .before .angle-of .result) (c .cos64 .result) (c .before .before .before .before .loop-test .taken) (l .loop .inv .1)
-          (c .before .before .angle-of .ensures) (c .cos64 .ensures) (l .loop .inv .3),
+      sum-turn (sineOf (a .nominal) d) (a .dips .now) (l .loop .i) e _ (l .loop .s) (c .before .sin64 .result) (c .before .before .before .before .loop-test .taken) (l .loop .inv .1)
+          (c .before .sin64 .ensures ∙ ap sine (c .before .before .angle-of .ensures)) (l .loop .inv .2),
+      sum-turn (cosineOf (a .nominal) d) (a .dips .now) (l .loop .i) e _ (l .loop .c) (c .cos64 .result) (c .before .before .before .before .loop-test .taken) (l .loop .inv .1)
+          (c .cos64 .ensures ∙ ap cosine (c .before .before .angle-of .ensures)) (l .loop .inv .3),
     )
 
 atan2-64-requires : tie.Need-atan2-64-requires Inv-loop μ-loop
@@ -78,8 +79,8 @@ returns c =
     let t : l .loop .i ≡ e = omega (arith, l .loop .inv .0, c .before .loop-test .left) in
     rw (c .atan2-64 .ensures, tau-is)
     (anchor-is (a .nominal) d (a .dips .now) (a .n) e (l .loop .s) (l .loop .c) (l .before .least .ensures)
-    (sine-end (a .nominal) d (a .dips .now) (l .loop .i) e _ (l .loop .s) t (l .loop .inv .2) ∙ ap (λ (x : Float). sineSum (a .nominal) d x q) zero-is)
-    (cosine-end (a .nominal) d (a .dips .now) (l .loop .i) e _ (l .loop .c) t (l .loop .inv .3) ∙ ap (λ (x : Float). cosineSum (a .nominal) d x q) zero-is))
+    (sum-end (sineOf (a .nominal) d) (a .dips .now) (l .loop .i) e _ (l .loop .s) t (l .loop .inv .2) ∙ ap (λ (x : Float). sumFrom (sineOf (a .nominal) d) x q) zero-is)
+    (sum-end (cosineOf (a .nominal) d) (a .dips .now) (l .loop .i) e _ (l .loop .c) t (l .loop .inv .3) ∙ ap (λ (x : Float). sumFrom (cosineOf (a .nominal) d) x q) zero-is))
 
 pub anchor-of-spec : {M : Type 1} → statement M
 anchor-of-spec =

@@ -5,7 +5,8 @@ use Rattle.clock.specs.Tracked.{Tracked}
 use mathlib.Core.Path.{sym, ap, _∙_}
 use native.Mathlib.Omega.{arith}
 use lib.ListN.{take}
-use Rattle.clock.specs.Bits.{Outcome, told, handed}
+use Rattle.limits.specs.Answer.{accepted}
+use Rattle.clock.specs.Bits.{Outcome, valuesOf, handed}
 use Rattle.clock.proofs.BitLaws.{tells-none, no-samples, samples-few, samples-clock, dips-room, lost-clock, kept-clock, kept-room, kept-ready}
 use borrow.Author.Needs.{needs}
 use Rattle.clock.proofs.bits_of.Statement.{statement}
@@ -14,7 +15,7 @@ use Rattle.clock.proofs.bits_of.Tie as tie
 returns : tie.Need-returns
 returns c =
     let a = c .before .before .before .before .args in
-    tells-none (a .rate) _ (a .bits .now) (no-samples (a .seg .now) (a .rate) (c .if1 .taken))
+    tells-none _ (a .bits .now) (no-samples (a .seg .now) (a .rate) (c .if1 .taken))
 
 level-of-requires : tie.Need-level-of-requires
 level-of-requires c κs = search needs
@@ -31,7 +32,7 @@ same-length c = search needs
 returns-2 : tie.Need-returns-2
 returns-2 c =
     let a = c .before .before .before .before .before .before .before .before .before .before .before .args in
-    tells-none (a .rate) _ (a .bits .now)
+    tells-none _ (a .bits .now)
     (samples-few (a .seg .now) (a .rate) (c .before .before .before .before .before .before .level-of .result) (c .before .before .before .before .before .f32-to-f64-with-nan .result) (a .scratch .now) (c .before .before .before .dips-into .last .1 .1 .1 .0) (c .before .before .before .dips-into .result)
     (omega (arith, c .before .before .before .before .before .before .before .if1 .left)) (c .before .before .before .before .before .before .level-of .ensures) (c .before .before .before .before .before .f32-to-f64-with-nan .ensures) (c .before .before .before .dips-into .ensures .0) (c .if2 .taken))
 
@@ -93,7 +94,7 @@ returns-3 c =
     let now = c .before .before .before .before .fit-clock .last .0 in
     let level = c .before .before .before .before .before .before .before .before .before .before .before .before .before .before .before .before .level-of .result in
     let t = subst (λ (r : Fit). Tracked start (take n dips) r now) (c .enum-told .given .1) (c .before .before .before .before .fit-clock .ensures) in
-    tells-none (a .rate) _ (a .bits .now)
+    tells-none _ (a .bits .now)
     (samples-clock (a .seg .now) (a .rate) level (c .before .before .before .before .before .before .before .before .before .before .before .before .before .before .before .f32-to-f64-with-nan .result) (a .scratch .now) dips n (omega (arith, c .before .before .before .before .before .before .before .before .before .before .before .before .before .before .before .before .before .if1 .left)) (c .before .before .before .before .before .before .before .before .before .before .before .before .before .before .before .before .level-of .ensures)
     (c .before .before .before .before .before .before .before .before .before .before .before .before .before .before .before .f32-to-f64-with-nan .ensures) (c .before .before .before .before .before .before .before .before .before .before .before .before .before .dips-into .ensures .0) (c .before .before .before .before .before .before .before .before .before .nominal-of .result) (c .before .before .before .before .before .before .before .anchor-of .result) start (c .before .before .before .before .before .before .before .before .before .before .if2 .left) (c .before .before .before .before .before .before .before .before .before .nominal-of .ensures)
     (c .before .before .before .before .before .before .before .anchor-of .ensures) (c .before .before .before .before .before .before .start-clock .ensures .0) ∙ lost-clock (a .seg .now) (a .rate) level (take n dips) start now t)
@@ -117,7 +118,7 @@ returns-4 c =
     let e = samples-clock (a .seg .now) (a .rate) level (c .before .before .before .before .before .before .before .before .before .before .before .before .before .before .before .before .before .before .before .before .before .f32-to-f64-with-nan .result) (a .scratch .now) dips n (omega (arith, c .before .before .before .before .before .before .before .before .before .before .before .before .before .before .before .before .before .before .before .before .before .before .before .if1 .left)) (c .before .before .before .before .before .before .before .before .before .before .before .before .before .before .before .before .before .before .before .before .before .before .level-of .ensures)
     (c .before .before .before .before .before .before .before .before .before .before .before .before .before .before .before .before .before .before .before .before .before .f32-to-f64-with-nan .ensures) (c .before .before .before .before .before .before .before .before .before .before .before .before .before .before .before .before .before .before .before .dips-into .ensures .0) (c .before .before .before .before .before .before .before .before .before .before .before .before .before .before .before .nominal-of .result) (c .before .before .before .before .before .before .before .before .before .before .before .before .before .anchor-of .result) start (c .before .before .before .before .before .before .before .before .before .before .before .before .before .before .before .before .if2 .left) (c .before .before .before .before .before .before .before .before .before .before .before .before .before .before .before .nominal-of .ensures)
     (c .before .before .before .before .before .before .before .before .before .before .before .before .before .anchor-of .ensures) (c .before .before .before .before .before .before .before .before .before .before .before .before .start-clock .ensures .0) ∙ kept-clock (a .seg .now) (a .rate) level (take n dips) start k now (c .before .before .before .before .before .before .before .before .before .before .before .before .start-clock .ensures .1) t in
-    (c .before .before .clocked-bits .ensures .0 ∙ sym (ap (told (a .rate)) e), c .before .before .clocked-bits .ensures .1 ∙ sym (ap (λ (o : Outcome). handed o (a .bits .now)) e))
+    (c .before .before .clocked-bits .ensures .0 ∙ sym (ap (λ (o : Outcome). accepted (valuesOf o)) e), c .before .before .clocked-bits .ensures .1 ∙ sym (ap (λ (o : Outcome). handed o (a .bits .now)) e))
 
 pub bits-of-spec : {M : Type 1} → statement M
 bits-of-spec =

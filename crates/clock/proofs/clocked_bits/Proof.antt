@@ -19,7 +19,7 @@ use Rattle.clock.proofs.clocked_bits.Tie as tie
 returns : tie.Need-returns
 returns c =
     let a = c .before .before .before .before .args in
-    tells-none (a .rate) _ (a .bits .now) (clock-few (a .rate) (a .seg .now) (a .level) (places (a .points .now) (a .c .count)) (a .c) (c .if1 .taken))
+    tells-none _ (a .bits .now) (clock-few (a .rate) (a .seg .now) (a .level) (places (a .points .now) (a .c .count)) (a .c) (c .if1 .taken))
 
 end-index-requires : tie.Need-end-index-requires
 end-index-requires c κs = search needs
@@ -30,7 +30,7 @@ is-lost-requires c κs = search needs
 returns-2 : tie.Need-returns-2
 returns-2 c =
     let a = c .before .before .before .before .before .before .before .args in
-    tells-none (a .rate) _ (a .bits .now) (clock-lost (a .rate) (a .seg .now) (a .level) (places (a .points .now) (a .c .count)) (a .c) (c .before .before .before .if1 .left)
+    tells-none _ (a .bits .now) (clock-lost (a .rate) (a .seg .now) (a .level) (places (a .points .now) (a .c .count)) (a .c) (c .before .before .before .if1 .left)
     (ap lost (sym (c .before .before .end-index .ensures)) ∙ sym (c .before .is-lost .ensures) ∙ c .if2 .taken))
 
 place-of-requires : tie.Need-place-of-requires

@@ -1,5 +1,5 @@
 -- `clock::det_of` meets its contract. Assumes nothing.
-use Rattle.clock.specs.Clock.{det}
+use Rattle.clock.specs.Running.{det}
 use borrow.Author.Needs.{needs}
 use Rattle.clock.proofs.det_of.Statement.{statement}
 use Rattle.clock.proofs.det_of.Tie as tie

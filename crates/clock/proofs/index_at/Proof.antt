@@ -1,5 +1,5 @@
 -- `clock::index_at` meets its contract. Assumes nothing.
-use Rattle.clock.specs.Clock.{indexAt}
+use Rattle.clock.specs.Running.{indexAt}
 use borrow.Author.Needs.{needs}
 use Rattle.clock.proofs.index_at.Statement.{statement}
 use Rattle.clock.proofs.index_at.Tie as tie

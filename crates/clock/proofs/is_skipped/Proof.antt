@@ -1,5 +1,5 @@
 -- `clock::is_skipped` meets its contract. Assumes nothing.
-use Rattle.clock.specs.Clock.{skips}
+use Rattle.clock.specs.Running.{skips}
 use mathlib.Core.Path.{refl}
 use lib.Ieee.{ofBits, round}
 use borrow.Author.Needs.{needs}

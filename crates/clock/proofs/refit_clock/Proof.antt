@@ -3,7 +3,7 @@ use mathlib.Core.Path.{_≡_, sym, ap, _∙_}
 use lib.Ieee.{Float, lt}
 use Rattle.floats.specs.Number.{num}
 use Rattle.floats.proofs.Trigs.{zero-is}
-use Rattle.clock.specs.Clock.{det, slope, refitted}
+use Rattle.clock.specs.Running.{det, slope, refitted}
 use Rattle.clock.proofs.ClockLaws.{refit-few, refit-none, refit-done}
 use borrow.Author.Needs.{needs}
 use Rattle.clock.proofs.refit_clock.Statement.{statement}

@@ -1,7 +1,7 @@
 -- `clock::start_clock` meets its contract. Assumes nothing.
 use mathlib.Core.Path.{refl}
 use Rattle.floats.proofs.Trigs.{zero-is}
-use Rattle.clock.specs.Clock.{startClock}
+use Rattle.clock.specs.Running.{startClock}
 use Rattle.clock.proofs.start_clock.Statement.{statement}
 use Rattle.clock.proofs.start_clock.Tie as tie
 

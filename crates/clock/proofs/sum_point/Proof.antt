@@ -1,5 +1,5 @@
 -- `clock::sum_point` meets its contract. Assumes nothing.
-use Rattle.clock.specs.Clock.{summed}
+use Rattle.clock.specs.Running.{summed}
 use borrow.Author.Needs.{needs}
 use Rattle.clock.proofs.sum_point.Statement.{statement}
 use Rattle.clock.proofs.sum_point.Tie as tie

@@ -2,7 +2,8 @@
 use mathlib.Core.Path.{sym, ap, _∙_}
 use native.Mathlib.Omega.{arith}
 use Rattle.clock.specs.declared.Clock.{Clock}
-use Rattle.clock.specs.Clock.{lost, skips, summed, refit}
+use Rattle.clock.specs.Clock.{lost}
+use Rattle.clock.specs.Running.{skips, summed, refit}
 use Rattle.clock.proofs.ClockLaws.{step-lost, step-skipped, step-joined}
 use borrow.Author.Needs.{needs}
 use Rattle.clock.proofs.track.Statement.{statement}

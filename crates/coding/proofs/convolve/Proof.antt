@@ -2,10 +2,11 @@
 use mathlib.Core.Path.{sym, _∙_}
 use mathlib.Core.List.{_++_, map}
 use lib.ListN.{length, drop}
+use Rattle.limits.proofs.AnswerLaws.{refused-answer, refused-lent, done-answer, done-lent}
 use Rattle.coding.specs.Bits.{odd, bitOf}
 use Rattle.coding.specs.Convolution.{fresh, convolved}
-use Rattle.coding.specs.Answers.{codingCause, codingAnswer, convolveOut}
-use Rattle.coding.proofs.Causes.{none, refused-answer, refused-lent, done-answer, done-lent}
+use Rattle.coding.specs.Answers.{said, codingCause, codingAnswer, convolveOut}
+use Rattle.coding.proofs.Causes.{none}
 use borrow.Author.Needs.{needs}
 use Rattle.coding.proofs.convolve.Statement.{statement}
 use Rattle.coding.proofs.convolve.Tie as tie
@@ -14,7 +15,7 @@ coding-cause-requires : tie.Need-coding-cause-requires
 coding-cause-requires c κs = search needs
 
 returns : tie.Need-returns
-unfolding codingAnswer convolveOut
+unfolding said codingAnswer convolveOut
 returns c = let a = c .before .before .before .before .args in
     let b = a .bits .now in
     let o = a .out .now in
@@ -33,7 +34,7 @@ same-length : tie.Need-same-length
 same-length c = search needs
 
 returns-2 : tie.Need-returns-2
-unfolding codingAnswer convolveOut
+unfolding said codingAnswer convolveOut
 returns-2 c = let d = c .before .before .before .before in
     let a = d .before .before .before .before .args in
     let b = a .bits .now in

@@ -5,7 +5,8 @@ use Prim.Native.Nat.{_+_, _-_, _*_, _≤_, _<_}
 use native.Mathlib.Omega.{arith}
 use lib.ListN.{length}
 use Rattle.limits.specs.Limits.{longestStream, scratch64, recordSize}
-use Rattle.bursts.specs.Bursts.{defaultOptions, firstFrom}
+use Rattle.limits.specs.Answer.{accepted}
+use Rattle.bursts.specs.Bursts.{defaultOptions, firstFrom, said}
 use Rattle.bursts.specs.Found.{burstsFrom}
 use Rattle.bursts.specs.declared.BurstOptions.{BurstOptions}
 use Rattle.bursts.proofs.Rows.{Next, found-next, found-none, found-refused}
@@ -48,7 +49,7 @@ returns c =
     let l = c .before .before .before .before in
     let s = l .before .before .before .before .before in
     let a = s .args in
-    absurd (found-refused (a .dbm .now) (a .rate) defaultOptions (a .floor) _ 0 (l .loop .at) (sym (c .enum-told .given .1) ∙ (c .before .before .search-bursts .ensures ∙ ap (λ (o : BurstOptions). firstFrom 0 (burstsFrom (a .dbm .now) (a .rate) o (a .floor) (l .loop .at))) (l .before .new .ensures))))
+    absurd (found-refused (a .dbm .now) (a .rate) defaultOptions (a .floor) _ 0 (l .loop .at) (sym (ap said (c .enum-told .given .1)) ∙ (c .before .before .search-bursts .ensures ∙ ap (λ (o : BurstOptions). accepted (firstFrom 0 (burstsFrom (a .dbm .now) (a .rate) o (a .floor) (l .loop .at)))) (l .before .new .ensures))))
 
 enum-told-2 : tie.Need-enum-told-2 Inv-loop μ-loop
 enum-told-2 c = search needs
@@ -64,7 +65,7 @@ returns-2 c =
     let l = c .before .before .before .before in
     let s = l .before .before .before .before .before in
     let a = s .args in
-    capture-end (a .dbm .now) (a .rate) (a .t0) (a .floor) (a .events .now) (l .loop .at) (l .loop .n) (l .loop .events) (l .loop .inv .1) (found-none (a .dbm .now) (a .rate) defaultOptions (a .floor) (l .loop .at) (sym (c .enum-told2 .given .1) ∙ (c .before .before .search-bursts .ensures ∙ ap (λ (o : BurstOptions). firstFrom 0 (burstsFrom (a .dbm .now) (a .rate) o (a .floor) (l .loop .at))) (l .before .new .ensures))))
+    capture-end (a .dbm .now) (a .rate) (a .t0) (a .floor) (a .events .now) (l .loop .at) (l .loop .n) (l .loop .events) (l .loop .inv .1) (found-none (a .dbm .now) (a .rate) defaultOptions (a .floor) (l .loop .at) (sym (ap said (c .enum-told2 .given .1)) ∙ (c .before .before .search-bursts .ensures ∙ ap (λ (o : BurstOptions). accepted (firstFrom 0 (burstsFrom (a .dbm .now) (a .rate) o (a .floor) (l .loop .at)))) (l .before .new .ensures))))
 
 enum-known-b : tie.Need-enum-known-b Inv-loop μ-loop
 enum-known-b c = search needs
@@ -77,7 +78,7 @@ capture-burst-requires c κs =
     let b = c .before .before .before .b .given .0 .0 in
     let f : Next (a .dbm .now) (a .rate) defaultOptions (a .floor) (l .loop .at) b =
     found-next (a .dbm .now) (a .rate) defaultOptions (a .floor) (l .loop .at) b (l .loop .inv .1 .inside)
-    (sym (c .before .before .before .b .given .1) ∙ c .before .before .before .before .before .search-bursts .ensures ∙ ap (λ (o : BurstOptions). firstFrom 0 (burstsFrom (a .dbm .now) (a .rate) o (a .floor) (l .loop .at))) (l .before .new .ensures)) in
+    (sym (ap said (c .before .before .before .b .given .1)) ∙ c .before .before .before .before .before .search-bursts .ensures ∙ ap (λ (o : BurstOptions). accepted (firstFrom 0 (burstsFrom (a .dbm .now) (a .rate) o (a .floor) (l .loop .at)))) (l .before .new .ensures)) in
     let r = capture-room (a .dbm .now) (a .rate) (a .t0) (a .floor) (a .events .now) (l .loop .at) (l .loop .n) (l .loop .events) (l .loop .inv .1) b f in
     let low : b .start ≤ longestStream = omega (arith, f .order, f .inside, s .pre .1, s .pre .2) in
     let high : b .end ≤ longestStream = omega (arith, f .inside, s .pre .1, s .pre .2) in
@@ -93,7 +94,7 @@ loop-less c =
     let b = c .before .before .before .before .before .before .before .before .b .given .0 .0 in
     let f : Next (a .dbm .now) (a .rate) defaultOptions (a .floor) (l .loop .at) b =
     found-next (a .dbm .now) (a .rate) defaultOptions (a .floor) (l .loop .at) b (l .loop .inv .1 .inside)
-    (sym (c .before .before .before .before .before .before .before .before .b .given .1) ∙ c .before .before .before .before .before .before .before .before .before .before .search-bursts .ensures ∙ ap (λ (o : BurstOptions). firstFrom 0 (burstsFrom (a .dbm .now) (a .rate) o (a .floor) (l .loop .at))) (l .before .new .ensures)) in
+    (sym (ap said (c .before .before .before .before .before .before .before .before .b .given .1)) ∙ c .before .before .before .before .before .before .before .before .before .before .search-bursts .ensures ∙ ap (λ (o : BurstOptions). accepted (firstFrom 0 (burstsFrom (a .dbm .now) (a .rate) o (a .floor) (l .loop .at)))) (l .before .new .ensures)) in
     let z : length (a .dbm .now) - b .end < length (a .dbm .now) - l .loop .at = omega (arith, f .after, f .order, f .inside) in
     z
 
@@ -105,7 +106,7 @@ loop-again c =
     let b = c .before .before .before .before .before .before .before .before .b .given .0 .0 in
     let f : Next (a .dbm .now) (a .rate) defaultOptions (a .floor) (l .loop .at) b =
     found-next (a .dbm .now) (a .rate) defaultOptions (a .floor) (l .loop .at) b (l .loop .inv .1 .inside)
-    (sym (c .before .before .before .before .before .before .before .before .b .given .1) ∙ c .before .before .before .before .before .before .before .before .before .before .search-bursts .ensures ∙ ap (λ (o : BurstOptions). firstFrom 0 (burstsFrom (a .dbm .now) (a .rate) o (a .floor) (l .loop .at))) (l .before .new .ensures)) in
+    (sym (ap said (c .before .before .before .before .before .before .before .before .b .given .1)) ∙ c .before .before .before .before .before .before .before .before .before .before .search-bursts .ensures ∙ ap (λ (o : BurstOptions). accepted (firstFrom 0 (burstsFrom (a .dbm .now) (a .rate) o (a .floor) (l .loop .at)))) (l .before .new .ensures)) in
     let r = capture-room (a .dbm .now) (a .rate) (a .t0) (a .floor) (a .events .now) (l .loop .at) (l .loop .n) (l .loop .events) (l .loop .inv .1) b f in
     let place : recordSize * (l .loop .n + 1) ≤ length (l .loop .events) = omega (arith, r, s .pre .5, l .loop .inv .1 .size) in
     (c .before .before .before .before .capture-burst .kept .1 .1 .1 .1 .1 .1 .0 ∙ l .loop .inv .0, capture-more (a .dbm .now) (a .rate) (a .t0) (a .floor) (a .events .now) (l .loop .at) (l .loop .n) (l .loop .events) (l .loop .inv .1) b f (c .before .before .before .before .capture-burst .result) _ (c .before .before .before .before .capture-burst .ensures .0) (c .before .before .before .before .capture-burst .ensures .1) place)

@@ -1,5 +1,6 @@
 -- `demod::decode_segment` meets its contract. Assumes nothing.
-use mathlib.Core.Path.{sym, _∙_}
+use mathlib.Core.Path.{sym, ap, _∙_}
+use Rattle.clock.specs.Bits.{said}
 use Rattle.demod.proofs.FrameLaws.{never-refused, told-nothing, sent-length, sent-short, sent-bits, heard-frame}
 use borrow.Author.Needs.{needs}
 use Rattle.demod.proofs.decode_segment.Statement.{statement}
@@ -35,12 +36,12 @@ array-share-prefix-bits c = search needs
 slice-aggregate-decode-bits : tie.Need-slice-aggregate-decode-bits
 slice-aggregate-decode-bits c =
     let a = c .before .before .before .before .before .before .before .before .before .before .before .before .before .args in
-    sent-length (a .seg .now) (a .rate) _ _ _ _ _ (sym (c .before .before .before .before .before .before .before .before .bits-of .ensures .0) ∙ c .before .before .before .count .given .1) _ (c .before .before .before .before .before .before .before .before .bits-of .last .1 .1 .0) (c .before .before .before .before .before .before .before .before .bits-of .ensures .1) (c .before .least .result) (c .before .least .ensures)
+    sent-length (a .seg .now) (a .rate) _ _ _ _ _ (sym (ap said (c .before .before .before .count .given .1)) ∙ c .before .before .before .before .before .before .before .before .bits-of .ensures .0) _ (c .before .before .before .before .before .before .before .before .bits-of .last .1 .1 .0) (c .before .before .before .before .before .before .before .before .bits-of .ensures .1) (c .before .least .result) (c .before .least .ensures)
 
 decode-bits-requires : tie.Need-decode-bits-requires
 decode-bits-requires c κs =
     let a = c .before .before .before .before .before .before .before .before .before .before .before .before .before .args in
-    (sent-bits (a .seg .now) (a .rate) _ _ _ _ _ (sym (c .before .before .before .before .before .before .before .before .bits-of .ensures .0) ∙ c .before .before .before .count .given .1) _ (c .before .before .before .before .before .before .before .before .bits-of .last .1 .1 .0) (c .before .before .before .before .before .before .before .before .bits-of .ensures .1) (c .before .least .result) (c .before .least .ensures), sent-short (a .seg .now) (a .rate) _ _ _ _ _ (sym (c .before .before .before .before .before .before .before .before .bits-of .ensures .0) ∙ c .before .before .before .count .given .1) _ (c .before .before .before .before .before .before .before .before .bits-of .last .1 .1 .0) (c .before .before .before .before .before .before .before .before .bits-of .ensures .1) (c .before .least .result) (c .before .least .ensures))
+    (sent-bits (a .seg .now) (a .rate) _ _ _ _ _ (sym (ap said (c .before .before .before .count .given .1)) ∙ c .before .before .before .before .before .before .before .before .bits-of .ensures .0) _ (c .before .before .before .before .before .before .before .before .bits-of .last .1 .1 .0) (c .before .before .before .before .before .before .before .before .bits-of .ensures .1) (c .before .least .result) (c .before .least .ensures), sent-short (a .seg .now) (a .rate) _ _ _ _ _ (sym (ap said (c .before .before .before .count .given .1)) ∙ c .before .before .before .before .before .before .before .before .bits-of .ensures .0) _ (c .before .before .before .before .before .before .before .before .bits-of .last .1 .1 .0) (c .before .before .before .before .before .before .before .before .bits-of .ensures .1) (c .before .least .result) (c .before .least .ensures))
 
 heard-requires : tie.Need-heard-requires
 heard-requires c κs = search needs
@@ -51,7 +52,7 @@ same-length c = search needs
 returns : tie.Need-returns
 returns c =
     let a = c .before .before .before .before .before .before .before .before .before .before .before .args in
-    c .no-frame .ensures ∙ never-refused (a .rate) _ _ (a .time) (a .end) (a .rssi) (sym (c .before .before .before .before .before .before .bits-of .ensures .0) ∙ c .before .enum-told .given .1)
+    c .no-frame .ensures ∙ never-refused _ _ (a .time) (a .end) (a .rssi) (sym (ap said (c .before .enum-told .given .1)) ∙ c .before .before .before .before .before .before .bits-of .ensures .0)
 
 same-length-2 : tie.Need-same-length-2
 same-length-2 c = search needs
@@ -59,7 +60,7 @@ same-length-2 c = search needs
 returns-2 : tie.Need-returns-2
 returns-2 c =
     let a = c .before .before .before .before .before .before .before .before .before .before .before .args in
-    c .no-frame2 .ensures ∙ told-nothing (a .rate) _ (a .time) (a .end) (a .rssi) (sym (c .before .before .before .before .before .before .bits-of .ensures .0) ∙ c .before .enum-told2 .given .1)
+    c .no-frame2 .ensures ∙ told-nothing _ (a .time) (a .end) (a .rssi) (sym (ap said (c .before .enum-told2 .given .1)) ∙ c .before .before .before .before .before .before .bits-of .ensures .0)
 
 same-length-3 : tie.Need-same-length-3
 same-length-3 c = search needs
@@ -67,7 +68,7 @@ same-length-3 c = search needs
 returns-3 : tie.Need-returns-3
 returns-3 c =
     let a = c .before .before .before .before .before .before .before .before .before .before .before .before .before .before .before .args in
-    heard-frame (a .seg .now) (a .rate) _ _ _ _ _ (sym (c .before .before .before .before .before .before .before .before .before .before .bits-of .ensures .0) ∙ c .before .before .before .before .before .count .given .1) _ (c .before .before .before .before .before .before .before .before .before .before .bits-of .last .1 .1 .0) (c .before .before .before .before .before .before .before .before .before .before .bits-of .ensures .1) (c .before .before .before .least .result) (c .before .before .before .least .ensures) (a .time) (a .end) (a .rssi) (c .before .decode-bits .result) (c .heard .result) (c .before .decode-bits .ensures) (c .heard .ensures)
+    heard-frame (a .seg .now) (a .rate) _ _ _ _ _ (sym (ap said (c .before .before .before .before .before .count .given .1)) ∙ c .before .before .before .before .before .before .before .before .before .before .bits-of .ensures .0) _ (c .before .before .before .before .before .before .before .before .before .before .bits-of .last .1 .1 .0) (c .before .before .before .before .before .before .before .before .before .before .bits-of .ensures .1) (c .before .before .before .least .result) (c .before .before .before .least .ensures) (a .time) (a .end) (a .rssi) (c .before .decode-bits .result) (c .heard .result) (c .before .decode-bits .ensures) (c .heard .ensures)
 
 pub decode-segment-spec : {M : Type 1} → statement M
 decode-segment-spec =

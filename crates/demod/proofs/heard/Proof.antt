@@ -2,7 +2,7 @@
 use mathlib.Core.Path.{_∙_}
 use mir.Syntax.{w32}
 use mir.ValLaws.{toZ-ofZ}
-use Rattle.demod.specs.Decode.{heardAs, withBurst}
+use Rattle.demod.specs.Decode.{heardAs, withBurst, shown}
 use borrow.Author.Needs.{needs}
 use Rattle.demod.proofs.heard.Statement.{statement}
 use Rattle.demod.proofs.heard.Tie as tie
@@ -23,15 +23,15 @@ enum-told-3 : tie.Need-enum-told-3
 enum-told-3 c = search needs
 
 returns : tie.Need-returns
-unfolding heardAs withBurst
+unfolding heardAs withBurst shown
 returns c = c .no-frame .ensures ∙ rw (c .before .enum-told .given .1)
 
 returns-2 : tie.Need-returns-2
-unfolding heardAs withBurst
+unfolding heardAs withBurst shown
 returns-2 c = c .no-frame2 .ensures ∙ rw (c .before .enum-told2 .given .1)
 
 returns-3 : tie.Need-returns-3
-unfolding heardAs withBurst
+unfolding heardAs withBurst shown
 returns-3 c =
     let s = c .before .before .before in
     rw (toZ-ofZ w32 (s .args .ppm) (s .fits .ppm), c .enum-told3 .given .1)

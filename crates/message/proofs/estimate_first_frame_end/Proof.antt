@@ -3,7 +3,8 @@ use mathlib.Core.Path.{_∙_, _≡_, refl, sym}
 use lib.ListN.{length}
 use borrow.Author.Needs.{needs}
 use Rattle.message.proofs.SpanLaws.{ok-is, length-mapped}
-use Rattle.message.specs.Messages.{estimateAnswer}
+use Rattle.limits.specs.Answer.{answer}
+use Rattle.message.specs.Messages.{said, estimateCause, estimateAnswer}
 use Rattle.message.proofs.estimate_first_frame_end.Statement.{statement}
 use Rattle.message.proofs.estimate_first_frame_end.Tie as tie
 
@@ -23,14 +24,14 @@ estimate-requires : tie.Need-estimate-requires
 estimate-requires c κs = search needs
 
 returns : tie.Need-returns
-unfolding estimateAnswer
+unfolding said answer estimateCause estimateAnswer
 returns c =
     let l = c .before .before .before .before .before .before .args .t1 in
     let h : length l ≡ 3 = search (needs, length-mapped) in
     rw (sym (ok-is l (c .before .before .spans-ok .result) h (c .before .before .spans-ok .ensures)) ∙ c .before .if1 .taken, c .estimate .ensures) refl
 
 returns-2 : tie.Need-returns-2
-unfolding estimateAnswer
+unfolding said answer estimateCause estimateAnswer
 returns-2 c =
     let l = c .before .before .before .before .before .args .t1 in
     let h : length l ≡ 3 = search (needs, length-mapped) in

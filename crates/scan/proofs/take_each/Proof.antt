@@ -1,9 +1,10 @@
 -- `scan::take_each` meets its contract. The invariant: what is left to be done is what was to be done, less the bursts passed. Assumes nothing.
 use borrow.Author.Needs.{needs}
-use mathlib.Core.Path.{_≡_, refl, sym, _∙_}
+use mathlib.Core.Path.{_≡_, refl, sym, _∙_, ap}
 use Prim.Native.Nat.{_-_, _<_}
 use native.Mathlib.Omega.{arith}
 use lib.ListN.{length}
+use Rattle.bursts.specs.Bursts.{said}
 use Rattle.bursts.specs.Levels.{noiseFloor}
 use Rattle.bursts.proofs.Rows.{Next, found-next, found-none, found-refused}
 use Rattle.ledger.specs.Scanning.{scanOptions}
@@ -50,7 +51,7 @@ returns c =
     let l = c .before .before .before .before in
     let s = l .before .before .before .before .before .before in
     let a = s .args in
-    absurd (found-refused (a .held .now) (a .rate) scanOptions (noiseFloor (a .held .now)) _ 0 (l .loop .at) (sym (c .enum-told .given .1) ∙ searched (a .rate) (a .wait) (a .base) (a .held .now) (l .before .before .options .result) (l .before .measured-floor .result) (c .before .before .search-bursts .result) (l .loop .at) (l .before .before .options .ensures) (l .before .measured-floor .ensures) (c .before .before .search-bursts .ensures)))
+    absurd (found-refused (a .held .now) (a .rate) scanOptions (noiseFloor (a .held .now)) _ 0 (l .loop .at) (sym (ap said (c .enum-told .given .1)) ∙ searched (a .rate) (a .wait) (a .base) (a .held .now) (l .before .before .options .result) (l .before .measured-floor .result) (c .before .before .search-bursts .result) (l .loop .at) (l .before .before .options .ensures) (l .before .measured-floor .ensures) (c .before .before .search-bursts .ensures)))
 
 enum-told-2 : tie.Need-enum-told-2 Inv-loop μ-loop
 enum-told-2 c = search needs
@@ -67,7 +68,7 @@ returns-2 c =
     let s = l .before .before .before .before .before .before in
     let a = s .args in
     each-end (a .rate) (a .wait) (a .base) (a .held .now) (a .s) (a .events .now) (l .loop .t) (l .loop .events) (l .loop .at) (l .loop .inv .1)
-    (found-none (a .held .now) (a .rate) scanOptions (noiseFloor (a .held .now)) (l .loop .at) (sym (c .enum-told2 .given .1) ∙ searched (a .rate) (a .wait) (a .base) (a .held .now) (l .before .before .options .result) (l .before .measured-floor .result) (c .before .before .search-bursts .result) (l .loop .at) (l .before .before .options .ensures) (l .before .measured-floor .ensures) (c .before .before .search-bursts .ensures)))
+    (found-none (a .held .now) (a .rate) scanOptions (noiseFloor (a .held .now)) (l .loop .at) (sym (ap said (c .enum-told2 .given .1)) ∙ searched (a .rate) (a .wait) (a .base) (a .held .now) (l .before .before .options .result) (l .before .measured-floor .result) (c .before .before .search-bursts .result) (l .loop .at) (l .before .before .options .ensures) (l .before .measured-floor .ensures) (c .before .before .search-bursts .ensures)))
 
 enum-known-b : tie.Need-enum-known-b Inv-loop μ-loop
 enum-known-b c = search needs
@@ -79,7 +80,7 @@ take-one-requires c κs =
     let a = s .args in
     let b = c .before .before .before .b .given .0 .0 in
     let f : Next (a .held .now) (a .rate) scanOptions (noiseFloor (a .held .now)) (l .loop .at) b =
-    found-next (a .held .now) (a .rate) scanOptions (noiseFloor (a .held .now)) (l .loop .at) b (l .loop .inv .1 .inside) (sym (c .before .before .before .b .given .1) ∙ searched (a .rate) (a .wait) (a .base) (a .held .now) (l .before .before .options .result) (l .before .measured-floor .result) (c .before .before .before .before .before .search-bursts .result) (l .loop .at) (l .before .before .options .ensures) (l .before .measured-floor .ensures) (c .before .before .before .before .before .search-bursts .ensures)) in
+    found-next (a .held .now) (a .rate) scanOptions (noiseFloor (a .held .now)) (l .loop .at) b (l .loop .inv .1 .inside) (sym (ap said (c .before .before .before .b .given .1)) ∙ searched (a .rate) (a .wait) (a .base) (a .held .now) (l .before .before .options .result) (l .before .measured-floor .result) (c .before .before .before .before .before .search-bursts .result) (l .loop .at) (l .before .before .options .ensures) (l .before .measured-floor .ensures) (c .before .before .before .before .before .search-bursts .ensures)) in
     let n = s .pre .0 in
     (record { lowest = n .lowest; highest = n .highest; fits = n .fits; valid = n .valid; stream = n .stream; waits = n .waits; events = omega (arith, n .events, l .loop .inv .1 .size); scratch = omega (arith, n .scratch, l .loop .inv .0) }, omega (arith, f .order, f .inside), f .inside, l .loop .inv .1 .within)
 
@@ -90,7 +91,7 @@ loop-less c =
     let a = s .args in
     let b = c .before .before .before .before .before .before .before .before .b .given .0 .0 in
     let f : Next (a .held .now) (a .rate) scanOptions (noiseFloor (a .held .now)) (l .loop .at) b =
-    found-next (a .held .now) (a .rate) scanOptions (noiseFloor (a .held .now)) (l .loop .at) b (l .loop .inv .1 .inside) (sym (c .before .before .before .before .before .before .before .before .b .given .1) ∙ searched (a .rate) (a .wait) (a .base) (a .held .now) (l .before .before .options .result) (l .before .measured-floor .result) (c .before .before .before .before .before .before .before .before .before .before .search-bursts .result) (l .loop .at) (l .before .before .options .ensures) (l .before .measured-floor .ensures) (c .before .before .before .before .before .before .before .before .before .before .search-bursts .ensures)) in
+    found-next (a .held .now) (a .rate) scanOptions (noiseFloor (a .held .now)) (l .loop .at) b (l .loop .inv .1 .inside) (sym (ap said (c .before .before .before .before .before .before .before .before .b .given .1)) ∙ searched (a .rate) (a .wait) (a .base) (a .held .now) (l .before .before .options .result) (l .before .measured-floor .result) (c .before .before .before .before .before .before .before .before .before .before .search-bursts .result) (l .loop .at) (l .before .before .options .ensures) (l .before .measured-floor .ensures) (c .before .before .before .before .before .before .before .before .before .before .search-bursts .ensures)) in
     let z : length (a .held .now) - b .end < length (a .held .now) - l .loop .at = omega (arith, f .after, f .order, f .inside) in
     z
 
@@ -101,7 +102,7 @@ loop-again c =
     let a = s .args in
     let b = c .before .before .before .before .before .before .before .before .b .given .0 .0 in
     let f : Next (a .held .now) (a .rate) scanOptions (noiseFloor (a .held .now)) (l .loop .at) b =
-    found-next (a .held .now) (a .rate) scanOptions (noiseFloor (a .held .now)) (l .loop .at) b (l .loop .inv .1 .inside) (sym (c .before .before .before .before .before .before .before .before .b .given .1) ∙ searched (a .rate) (a .wait) (a .base) (a .held .now) (l .before .before .options .result) (l .before .measured-floor .result) (c .before .before .before .before .before .before .before .before .before .before .search-bursts .result) (l .loop .at) (l .before .before .options .ensures) (l .before .measured-floor .ensures) (c .before .before .before .before .before .before .before .before .before .before .search-bursts .ensures)) in
+    found-next (a .held .now) (a .rate) scanOptions (noiseFloor (a .held .now)) (l .loop .at) b (l .loop .inv .1 .inside) (sym (ap said (c .before .before .before .before .before .before .before .before .b .given .1)) ∙ searched (a .rate) (a .wait) (a .base) (a .held .now) (l .before .before .options .result) (l .before .measured-floor .result) (c .before .before .before .before .before .before .before .before .before .before .search-bursts .result) (l .loop .at) (l .before .before .options .ensures) (l .before .measured-floor .ensures) (c .before .before .before .before .before .before .before .before .before .before .search-bursts .ensures)) in
     (c .before .before .before .before .take-one .kept .1 .1 .1 .1 .1 .1 .1 .0 ∙ l .loop .inv .0, each-more (a .rate) (a .wait) (a .base) (a .held .now) (a .s) (a .events .now) (l .loop .t) (l .loop .events) (l .loop .at) (l .loop .inv .1) b f (c .before .before .before .before .take-one .result) _ (c .before .before .before .before .take-one .kept .1 .1 .1 .1 .1 .1 .0) (c .before .before .before .before .take-one .ensures))
 
 same-length-5 : tie.Need-same-length-5 Inv-loop μ-loop

@@ -1,7 +1,8 @@
 -- `frequency::FrequencyTracker::frame1` meets its contract. Assumes nothing.
-use Rattle.frequency.proofs.Framing.{free-of, free-again, blank, three, first-refused, first-told, one-is, mid-is}
+use Rattle.frequency.proofs.Framing.{free-of, free-again, blank, three, first-refused, first-told, one-is, mid-is, as-it-was, freed}
 use Rattle.frequency.specs.Order.{causeFrame}
-use Rattle.frequency.specs.Calls.{asFirst, heldReadings}
+use Rattle.limits.specs.Answer.{accepted}
+use Rattle.frequency.specs.Calls.{heldReadings}
 use Rattle.record.specs.Spans.{spansOk}
 use lib.ListN.{length, getD}
 use mathlib.Core.List.{[], _∷_}
@@ -36,7 +37,7 @@ returns c =
     let n = sized (c .before .before .before .before .before .before .before .before .before .before) in
     let e = three (a .t2) blank n in
     let k = c .before .cause-frame .ensures ∙ ap (causeFrame (a .self) (a .at .now) (a .lo .now) (a .hz .now) (length (a .out .now))) (c .before .before .spans-ok .ensures ∙ ap spansOk (sym e)) in
-    record { answer = first-refused (a .self) (a .at .now) (a .lo .now) (a .hz .now) (length (a .out .now)) (a .t2) (c .before .cause-frame .result) k (a .downlink) (c .if1 .taken); same-scratch = λ x. refl }
+    record { says = first-refused (a .self) (a .at .now) (a .lo .now) (a .hz .now) (length (a .out .now)) (a .t2) (c .before .cause-frame .result) k (a .downlink) (c .if1 .taken); scratch = as-it-was _ _ }
 
 of-rank-requires : tie.Need-of-rank-requires
 of-rank-requires c κs = let a = c .before .before .before .before .before .before .before .before .before .before .before .args in free-of (a .self) (a .at .now) (a .lo .now) (a .hz .now) (a .out .now) (c .before .before .before .spans-ok .result) (sym (c .before .before .cause-frame .ensures) ∙ c .before .if1 .left)
@@ -57,10 +58,10 @@ returns-2 c =
     let e = three (a .t2) blank n in
     let k = c .before .before .before .before .before .before .before .before .cause-frame .ensures ∙ ap (causeFrame (a .self) (a .at .now) (a .lo .now) (a .hz .now) (length (a .out .now))) (c .before .before .before .before .before .before .before .before .before .spans-ok .ensures ∙ ap spansOk (sym e)) in
     record {
-      answer = c .first-answer .ensures
-          ∙ ap asFirst (one-is (a .self .rate) (heldReadings (a .self) (a .at .now) (a .lo .now) (a .hz .now)) (a .t2) (getD (a .t2) 0 blank ∷ getD (a .t2) 1 blank ∷ getD (a .t2) 2 blank ∷ []) e (a .downlink) (c .before .before .before .before .before .of-rank .result) (c .before .before .direct-hz .result) (c .before .before .before .before .before .of-rank .ensures .0) (c .before .before .direct-hz .ensures) (not-true (a .downlink) (c .before .if2 .taken)))
+      says = c .first-answer .ensures
+          ∙ ap accepted (one-is (a .self .rate) (heldReadings (a .self) (a .at .now) (a .lo .now) (a .hz .now)) (a .t2) (getD (a .t2) 0 blank ∷ getD (a .t2) 1 blank ∷ getD (a .t2) 2 blank ∷ []) e (a .downlink) (c .before .before .before .before .before .of-rank .result) (c .before .before .direct-hz .result) (c .before .before .before .before .before .of-rank .ensures .0) (c .before .before .direct-hz .ensures) (not-true (a .downlink) (c .before .if2 .taken)))
           ∙ first-told (a .self) (a .at .now) (a .lo .now) (a .hz .now) (length (a .out .now)) (a .t2) (c .before .before .before .before .before .before .before .before .cause-frame .result) k (a .downlink) (c .before .before .before .before .before .before .before .if1 .left);
-      same-scratch = λ x. absurd (x (sym k ∙ c .before .before .before .before .before .before .before .if1 .left));
+      scratch = freed _ _ _ (sym k ∙ c .before .before .before .before .before .before .before .if1 .left);
     }
 
 of-rank-requires-2 : tie.Need-of-rank-requires-2
@@ -89,11 +90,11 @@ returns-3 c =
     let e = three (a .t2) blank n in
     let k = c .before .before .before .before .before .before .before .before .before .before .before .before .before .before .before .before .before .cause-frame .ensures ∙ ap (causeFrame (a .self) (a .at .now) (a .lo .now) (a .hz .now) (length (a .out .now))) (c .before .before .before .before .before .before .before .before .before .before .before .before .before .before .before .before .before .before .spans-ok .ensures ∙ ap spansOk (sym e)) in
     record {
-      answer = c .first-answer2 .ensures
-          ∙ ap asFirst (mid-is (a .self .rate) (heldReadings (a .self) (a .at .now) (a .lo .now) (a .hz .now)) (a .t2) (getD (a .t2) 0 blank ∷ getD (a .t2) 1 blank ∷ getD (a .t2) 2 blank ∷ []) e (a .downlink) (c .before .before .before .before .before .before .before .before .before .before .before .before .before .before .of-rank .result) (c .before .before .before .before .before .before .before .before .before .before .before .direct-hz .result) (c .before .before .before .before .before .before .before .before .before .before .before .before .before .before .of-rank .ensures .0) (c .before .before .before .before .before .before .before .before .before .before .before .direct-hz .ensures) (not-false (a .downlink) (c .before .before .before .before .before .before .before .before .before .before .if2 .left))
+      says = c .first-answer2 .ensures
+          ∙ ap accepted (mid-is (a .self .rate) (heldReadings (a .self) (a .at .now) (a .lo .now) (a .hz .now)) (a .t2) (getD (a .t2) 0 blank ∷ getD (a .t2) 1 blank ∷ getD (a .t2) 2 blank ∷ []) e (a .downlink) (c .before .before .before .before .before .before .before .before .before .before .before .before .before .before .of-rank .result) (c .before .before .before .before .before .before .before .before .before .before .before .direct-hz .result) (c .before .before .before .before .before .before .before .before .before .before .before .before .before .before .of-rank .ensures .0) (c .before .before .before .before .before .before .before .before .before .before .before .direct-hz .ensures) (not-false (a .downlink) (c .before .before .before .before .before .before .before .before .before .before .if2 .left))
           (c .before .before .before .before .before .before .before .before .of-rank2 .result) (c .before .before .before .before .of-rank3 .result) (c .before .middle-hz .result) (c .before .before .before .before .before .before .before .before .of-rank2 .ensures .0) (c .before .before .before .before .of-rank3 .ensures .0) (c .before .middle-hz .ensures))
           ∙ first-told (a .self) (a .at .now) (a .lo .now) (a .hz .now) (length (a .out .now)) (a .t2) (c .before .before .before .before .before .before .before .before .before .before .before .before .before .before .before .before .before .cause-frame .result) k (a .downlink) (c .before .before .before .before .before .before .before .before .before .before .before .before .before .before .before .before .if1 .left);
-      same-scratch = λ x. absurd (x (sym k ∙ c .before .before .before .before .before .before .before .before .before .before .before .before .before .before .before .before .if1 .left));
+      scratch = freed _ _ _ (sym k ∙ c .before .before .before .before .before .before .before .before .before .before .before .before .before .before .before .before .if1 .left);
     }
 
 pub frame1-spec : {M : Type 1} → statement M

@@ -1,7 +1,7 @@
 -- `frequency::FrequencyTracker::frame_frequency` meets its contract. Assumes nothing.
-use Rattle.frequency.proofs.Framing.{free-of, frame-refused, frame-told}
+use Rattle.frequency.proofs.Framing.{free-of, frame-refused, frame-told, as-it-was, freed}
 use Rattle.frequency.specs.Order.{causeFrame}
-use Rattle.frequency.specs.Calls.{asFrame}
+use Rattle.limits.specs.Answer.{accepted}
 use lib.ListN.{length}
 use mathlib.Core.Path.{refl, sym, ap, _∙_}
 use borrow.Author.Needs.{needs}
@@ -18,7 +18,7 @@ returns : tie.Need-returns
 returns c =
     let a = c .before .before .before .before .before .before .before .args in
     let k = c .before .cause-frame .ensures ∙ ap (causeFrame (a .self) (a .at .now) (a .lo .now) (a .hz .now) (length (a .out .now))) (c .before .before .span-ok .ensures) in
-    record { answer = frame-refused (a .self) (a .at .now) (a .lo .now) (a .hz .now) (length (a .out .now)) (a .f) (c .before .cause-frame .result) k (c .if1 .taken); same-scratch = λ e. refl }
+    record { says = frame-refused (a .self) (a .at .now) (a .lo .now) (a .hz .now) (length (a .out .now)) (a .f) (c .before .cause-frame .result) k (c .if1 .taken); scratch = as-it-was _ _ }
 
 frame-of-requires : tie.Need-frame-of-requires
 frame-of-requires c κs = let a = c .before .before .before .before .before .before .before .before .args in free-of (a .self) (a .at .now) (a .lo .now) (a .hz .now) (a .out .now) (c .before .before .before .span-ok .result) (sym (c .before .before .cause-frame .ensures) ∙ c .before .if1 .left)
@@ -34,8 +34,8 @@ returns-2 c =
     let a = c .before .before .before .before .before .before .before .before .before .before .before .before .args in
     let k = c .before .before .before .before .before .before .cause-frame .ensures ∙ ap (causeFrame (a .self) (a .at .now) (a .lo .now) (a .hz .now) (length (a .out .now))) (c .before .before .before .before .before .before .before .span-ok .ensures) in
     record {
-      answer = c .frame-answer .ensures ∙ ap asFrame (c .before .before .before .frame-of .ensures .0) ∙ frame-told (a .self) (a .at .now) (a .lo .now) (a .hz .now) (length (a .out .now)) (a .f) (c .before .before .before .before .before .before .cause-frame .result) k (c .before .before .before .before .before .if1 .left);
-      same-scratch = λ e. absurd (e (sym k ∙ c .before .before .before .before .before .if1 .left));
+      says = c .frame-answer .ensures ∙ ap accepted (c .before .before .before .frame-of .ensures .0) ∙ frame-told (a .self) (a .at .now) (a .lo .now) (a .hz .now) (length (a .out .now)) (a .f) (c .before .before .before .before .before .before .cause-frame .result) k (c .before .before .before .before .before .if1 .left);
+      scratch = freed _ _ _ (sym k ∙ c .before .before .before .before .before .if1 .left);
     }
 
 pub frame-frequency-spec : {M : Type 1} → statement M
