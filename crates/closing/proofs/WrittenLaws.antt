@@ -117,14 +117,13 @@ module _ (all : Bool) (t : Float) where
           }
 
     -- every place is looked at
-    pub written-all : (i k : ℕ) (now : List ℕ) → WrittenAt i k now → n ≤ i → recordSize * (count + length (written all t (take n ms))) ≤ length old
-        → (rs : List (List ℕ)) (was : List ℕ) → Sized rs → count ≡ length rs → old ≡ withRecords rs was
-        → (k ≡ length (rs ++ written all t (take n ms))) × (now ≡ withRecords (rs ++ written all t (take n ms)) was)
-    written-all i k now w h room rs was a e o =
-        let q : i ≡ n = omega (arith, w .inside) in
-        let ws = written all t (take n ms) in
-        let f : k ≡ count + length ws = rw q at (w .few) in
-        let g : now ≡ sets old (recordSize * count) (joined ws) = rw q at (w .here) in (
-          f ∙ omega (arith, length-append rs ws),
-          g ∙ rw (e, o) (with-more rs ws was a (rw q at (w .sized)) (rw (← e, ← o) room)),
-        )
+    pub written-all : (i k : ℕ) (now : List ℕ) → WrittenAt i k now → n ≤ i
+        → (k ≡ count + length (written all t (take n ms))) × (now ≡ sets old (recordSize * count) (joined (written all t (take n ms)))) × Sized (written all t (take n ms))
+    written-all i k now w h = let q : i ≡ n = omega (arith, w .inside) in (rw q at (w .few), rw q at (w .here), rw q at (w .sized))
+
+-- records ws behind the records rs of an event buffer
+pub records-behind : (rs ws : List (List ℕ)) (was bytes now : List ℕ) (count k : ℕ) → Sized rs → Sized ws → count ≡ length rs → bytes ≡ withRecords rs was
+    → recordSize * (count + length ws) ≤ length bytes → k ≡ count + length ws → now ≡ sets bytes (recordSize * count) (joined ws)
+    → (k ≡ length (rs ++ ws)) × (now ≡ withRecords (rs ++ ws) was)
+records-behind rs ws was bytes now count k a b e o room f g =
+    (omega (arith, length-append rs ws), g ∙ rw (e, o) (with-more rs ws was a b (rw (← e, ← o) room)))

@@ -1,14 +1,14 @@
 // The end of a call (receiver.rs `expire`): the records of the messages that leave, behind those of the call's frames.
 ghost use mathlib.Core.Path.{_≡_};
 ghost use mathlib.Core.Bool.{true, cond};
-ghost use mathlib.Core.List.{List, _++_};
-ghost use Prim.Native.Nat.{ℕ, _+_, _*_, _≤_};
+ghost use Prim.Native.Nat.{_+_, _*_, _≤_};
 ghost use lib.ListN.{length};
 ghost use lib.Seq.{sets};
 ghost use Rattle.limits.specs.Limits.{recordSize};
 ghost use Rattle.record.specs.Record.{messageRecord};
+ghost use Rattle.demod.specs.Capture.{joined};
 ghost use Rattle.ledger.specs.Merge.{finished};
-ghost use Rattle.ledger.specs.Records.{Sized, withRecords};
+ghost use Rattle.ledger.specs.Records.{Sized};
 ghost use Rattle.ledger.specs.Room.{openPlaces};
 ghost use Rattle.waiting.specs.Waiting.{waitingOf, leaves};
 ghost use Rattle.closing.specs.Written.{written, putIf};
@@ -33,8 +33,9 @@ fn write_message(p: Pending, all: bool, time: f64, events: &mut [u8], count: usi
 // The records of the messages that leave, all or those that are complete at a time, after `count` others; how many there are then.
 pub fn write_messages(w: Waiting, all: bool, time: f64, events: &mut [u8], count: usize) -> usize
     requires { ⌜ (w .count ≤ openPlaces) × (recordSize * (count + length (written all time (waitingOf w))) ≤ length (now events)) ⌝ }
-    ensures { λ r. ⌜ ((rs : List (List ℕ)) (old : List ℕ) → Sized rs → count ≡ length rs → now (events .entry) ≡ withRecords rs old
-        → (r ≡ length (rs ++ written all time (waitingOf w))) × (now (events .exit) ≡ withRecords (rs ++ written all time (waitingOf w)) old)) ⌝ }
+    ensures { λ r. ⌜ (r ≡ count + length (written all time (waitingOf w)))
+        × (now (events .exit) ≡ sets (now (events .entry)) (recordSize * count) (joined (written all time (waitingOf w))))
+        × Sized (written all time (waitingOf w)) ⌝ }
 {
     let n = w.count;
     let mut k = count;

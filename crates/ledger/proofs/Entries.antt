@@ -12,9 +12,9 @@ use Rattle.ledger.specs.Types.{Pending}
 use Rattle.ledger.specs.Frames.{Frame, keyOf, rankOf, rssiOf, timeOf, startOf}
 use Rattle.ledger.specs.Merge.{entryKey, has, threeRanks, louder, openEntry, merge, mergeAll, expires}
 use Rattle.ledger.specs.Ledger.{Message, frames, messageKey, summary, ranked, latest, complete}
-use Rattle.ledger.specs.Causes.{mostPayload, mostAuth, spansFit, entryFits}
+use Rattle.ledger.specs.Causes.{mostPayload, mostAuth, spansFit, inFront, entryFits}
 use Rattle.ledger.proofs.Basics.{and-true, Every}
-use Rattle.ledger.proofs.Spans.{meet-length, meet-fit, has-meet, open-has, open-spans, any-kept}
+use Rattle.ledger.proofs.Spans.{meet-length, meet-fit, meet-front, has-meet, open-has, open-spans, open-front, any-kept}
 
 -- ---- frames that fit: rank 0 to 2, payload at most 12 and auth at most 5 bytes
 
@@ -25,25 +25,26 @@ pub record FrameFits (f : Frame) : Type 0 where
 
 fits-parts : (e : Pending) → entryFits e ≡ true
     → (has 0 (e .message .spans) || (has 1 (e .message .spans) || has 2 (e .message .spans)) ≡ true) × (spansFit (e .message .spans) ≡ true)
-    × (leb (e .message .«payload_len») mostPayload ≡ true) × (leb (e .message .«auth_len») mostAuth ≡ true)
+    × (inFront (e .message .spans) ≡ true) × (leb (e .message .«payload_len») mostPayload ≡ true) × (leb (e .message .«auth_len») mostAuth ≡ true)
 unfolding entryFits
 fits-parts e h =
     let a = and-true (has 0 (e .message .spans) || (has 1 (e .message .spans) || has 2 (e .message .spans))) _ h in
     let b = and-true (spansFit (e .message .spans)) _ (a .1) in
-    let c = and-true (leb (e .message .«payload_len») mostPayload) (leb (e .message .«auth_len») mostAuth) (b .1) in
-    (a .0, b .0, c .0, c .1)
+    let c = and-true (inFront (e .message .spans)) _ (b .1) in
+    let d = and-true (leb (e .message .«payload_len») mostPayload) (leb (e .message .«auth_len») mostAuth) (c .1) in
+    (a .0, b .0, c .0, d .0, d .1)
 
 parts-fit : (e : Pending) → has 0 (e .message .spans) || (has 1 (e .message .spans) || has 2 (e .message .spans)) ≡ true → spansFit (e .message .spans) ≡ true
-    → leb (e .message .«payload_len») mostPayload ≡ true → leb (e .message .«auth_len») mostAuth ≡ true → entryFits e ≡ true
+    → inFront (e .message .spans) ≡ true → leb (e .message .«payload_len») mostPayload ≡ true → leb (e .message .«auth_len») mostAuth ≡ true → entryFits e ≡ true
 unfolding entryFits
-parts-fit e p q r s = rw (p, q, r) s
+parts-fit e p q o r s = rw (p, q, o, r) s
 
 pub open-fits : (f : Frame) → FrameFits f → entryFits (openEntry f) ≡ true
 unfolding openEntry
 open-fits f h =
     parts-fit (openEntry f)
     (rw (open-has 0 f (omega arith), open-has 1 f (omega arith), open-has 2 f (omega arith)) (some-rank (rankOf f) (h .rank)))
-    (open-spans f (h .rank)) (le-leb (f .uplink .«payload_len») mostPayload (h .payload)) (le-leb (f .uplink .«auth_len») mostAuth (h .auth))
+    (open-spans f (h .rank)) (open-front f) (le-leb (f .uplink .«payload_len») mostPayload (h .payload)) (le-leb (f .uplink .«auth_len») mostAuth (h .auth))
   where
     some-rank : (r : ℕ) → r ≤ 2 → eqb r 0 || (eqb r 1 || eqb r 2) ≡ true
     some-rank zero h = refl
@@ -55,7 +56,7 @@ pub merge-fits : (e : Pending) (f : Frame) → FrameFits f → entryFits e ≡ t
 unfolding merge
 merge-fits e f h w =
     let p = fits-parts e w in
-    parts-fit (merge e f) (any-kept (e .message .spans) f (p .0)) (meet-fit (e .message .spans) f (h .rank) (p .1)) (p .2) (p .3)
+    parts-fit (merge e f) (any-kept (e .message .spans) f (p .0)) (meet-fit (e .message .spans) f (h .rank) (p .1)) (meet-front (e .message .spans) f (h .rank) (p .2)) (p .3) (p .4)
 
 -- ---- the entry of a list of frames
 

@@ -7,11 +7,11 @@ use Prim.Native.Nat.{ℕ, zero, suc, _+_, _≤_}
 use native.Mathlib.Omega.{arith}
 use lib.ListN.{length}
 use lib.Dec.{leb, eqb}
-use borrow.Author.Tests.{le-leb, eqb-true, eq-eqb, leb-true, not-true}
+use borrow.Author.Tests.{le-leb, eqb-true, eq-eqb, ne-eqb, leb-true, not-true}
 use Rattle.ledger.specs.Types.{FrameSpan}
 use Rattle.ledger.specs.Frames.{Frame, rankOf}
 use Rattle.ledger.specs.Merge.{noSpan, emptySpan, spanOf, has, place, meet}
-use Rattle.ledger.specs.Causes.{spansFit}
+use Rattle.ledger.specs.Causes.{spansFit, inFront}
 use Rattle.ledger.proofs.Basics.{either, clash, or-false, and-true}
 
 -- a rank 0 to 2 is not that of an empty place
@@ -113,6 +113,32 @@ pub meet-fit : (l : List FrameSpan) (f : Frame) → rankOf f ≤ 2 → spansFit 
 unfolding meet
 meet-fit l f h e = ⊎-elim (λ g. rw g e) (λ g. rw g (place-fit f l h g e)) (either (has (rankOf f) l))
 
+-- ---- spans in front
+
+front-tail : (s : FrameSpan) (l : List FrameSpan) → inFront (s ∷ l) ≡ true → inFront l ≡ true
+unfolding inFront
+front-tail s [] e = refl
+front-tail s (t ∷ l) e = and-true (eqb (t .rank) noSpan || not (eqb (s .rank) noSpan)) (inFront (t ∷ l)) e .1
+
+front-cons : (s : FrameSpan) (l : List FrameSpan) → eqb (s .rank) noSpan ≡ false → inFront l ≡ true → inFront (s ∷ l) ≡ true
+unfolding inFront
+front-cons s [] g e = refl
+front-cons s (t ∷ l) g e = rw (g, or-true (eqb (t .rank) noSpan)) e
+
+place-front : (f : Frame) (l : List FrameSpan) → rankOf f ≤ 2 → inFront l ≡ true → inFront (place f l) ≡ true
+unfolding place spanOf
+place-front f [] h e = e
+place-front f (s ∷ l) h e =
+    let t = front-tail s l e in
+    ⊎-elim
+    (λ g. rw (place-yes f s l g) (front-cons (spanOf f) l (ne-eqb (rankOf f) noSpan (λ q. omega arith)) t))
+    (λ g. rw (place-no f s l g) (front-cons s (place f l) g (place-front f l h t)))
+    (either (eqb (s .rank) noSpan))
+
+pub meet-front : (l : List FrameSpan) (f : Frame) → rankOf f ≤ 2 → inFront l ≡ true → inFront (meet l f) ≡ true
+unfolding meet
+meet-front l f h e = ⊎-elim (λ g. rw g e) (λ g. rw g (place-front f l h e)) (either (has (rankOf f) l))
+
 meet-kept : (r : ℕ) (l : List FrameSpan) (f : Frame) → r ≤ 2 → has r l ≡ true → has r (meet l f) ≡ true
 unfolding meet
 meet-kept r l f h e = ⊎-elim (λ g. rw g e) (λ g. rw g (has-place-kept r f l h e)) (either (has (rankOf f) l))
@@ -207,6 +233,10 @@ open-has r f h = rw (not-empty noSpan r refl h) (or-comm (eqb (rankOf f) r) fals
 pub open-spans : (f : Frame) → rankOf f ≤ 2 → spansFit (spanOf f ∷ emptySpan ∷ emptySpan ∷ []) ≡ true
 unfolding spansFit spanOf
 open-spans f h = fit-cons (spanOf f) (emptySpan ∷ emptySpan ∷ []) (le-leb (rankOf f) 2 h) (empty-none (rankOf f) h) refl
+
+pub open-front : (f : Frame) → inFront (spanOf f ∷ emptySpan ∷ emptySpan ∷ []) ≡ true
+unfolding inFront
+open-front f = refl
 
 -- a message keeps some rank
 pub any-kept : (l : List FrameSpan) (f : Frame) → has 0 l || (has 1 l || has 2 l) ≡ true → has 0 (meet l f) || (has 1 (meet l f) || has 2 (meet l f)) ≡ true

@@ -55,11 +55,18 @@ unfoldable pub spansFit : List FrameSpan → Bool
 spansFit [] = true
 spansFit (s ∷ l) = (eqb (s .rank) noSpan || (leb (s .rank) 2 && not (has (s .rank) l))) && spansFit l
 
+-- 1 to 3 spans are a list in receiver.rs: they stand in front, so none comes after a place that holds none
+unfoldable pub inFront : List FrameSpan → Bool
+inFront [] = true
+inFront (s ∷ []) = true
+inFront (s ∷ t ∷ l) = (eqb (t .rank) noSpan || not (eqb (s .rank) noSpan)) && inFront (t ∷ l)
+
 -- "each with 1 to 3 spans of different ranks 0 to 2, payload at most 12 and auth at most 5 bytes"
 unfoldable pub entryFits : Pending → Bool
 entryFits e =
     (has 0 (e .message .spans) || (has 1 (e .message .spans) || has 2 (e .message .spans)))
-    && (spansFit (e .message .spans) && (leb (e .message .«payload_len») mostPayload && leb (e .message .«auth_len») mostAuth))
+    && (spansFit (e .message .spans)
+    && (inFront (e .message .spans) && (leb (e .message .«payload_len») mostPayload && leb (e .message .«auth_len») mostAuth)))
 
 module _ (K : Kind) where
   -- a message with the key k waits

@@ -94,7 +94,7 @@ accepted c rs = record { call = c; refusal = 0; records = rs }
 pub worked-out : (runOf 200 demo (ok three ∷ record { call = eight; lent = tooLittle } ∷ ok eight ∷ [])
     ≡ accepted three (frame theFrame ∷ []) ∷ record { call = eight; refusal = 2; records = [] } ∷ accepted eight (message theMessage ∷ []) ∷ [])
     × (runOf 200 demo (ok three ∷ ok flush ∷ []) ≡ accepted three (frame theFrame ∷ []) ∷ accepted flush (message theMessage ∷ []) ∷ [])
-unfolding history see seeFrame seeMessage maskOf keyOf rankOf rightCrc rssiOf timeOf startOf allDbm le lt eq neg ofInt sub add mul div isNan round causes.cause causes.callCause causes.orderly causes.below causes.since causes.unlike causes.waits causes.allFit causes.entryFits causes.spansFit causes.anyNan causes.entryNan causes.endNan causes.spanNan causes.callEvents causes.afterCall ledger.fresh ledger.scans ledger.startCall ledger.fills ledger.fill ledger.halve ledger.amount ledger.add ledger.due ledger.scanned ledger.scan ledger.takeEach ledger.takeOne ledger.takes ledger.near ledger.spaced ledger.hear ledger.remember ledger.join ledger.forget ledger.startsFrom ledger.closed ledger.messages ledger.now ledger.seconds ledger.ready ledger.complete ledger.ranked ledger.latest ledger.chosen ledger.others merge.openEntry merge.mergeAll merge.merge merge.meet merge.has merge.spanOf merge.endAfter merge.finished merge.orElse merge.lowestLater merge.knownOf merge.entryKey
+unfolding history see seeFrame seeMessage maskOf keyOf rankOf rightCrc rssiOf timeOf startOf allDbm le lt eq neg ofInt sub add mul div isNan round causes.cause causes.callCause causes.orderly causes.below causes.since causes.unlike causes.waits causes.allFit causes.entryFits causes.spansFit causes.inFront causes.anyNan causes.entryNan causes.endNan causes.spanNan causes.callEvents causes.afterCall ledger.fresh ledger.scans ledger.startCall ledger.fills ledger.fill ledger.halve ledger.amount ledger.add ledger.due ledger.scanned ledger.scan ledger.takeEach ledger.takeOne ledger.takes ledger.near ledger.spaced ledger.hear ledger.remember ledger.join ledger.forget ledger.startsFrom ledger.closed ledger.messages ledger.now ledger.seconds ledger.ready ledger.complete ledger.ranked ledger.latest ledger.chosen ledger.others merge.openEntry merge.mergeAll merge.merge merge.meet merge.has merge.spanOf merge.endAfter merge.finished merge.orElse merge.lowestLater merge.knownOf merge.entryKey
 worked-out = (refl, refl)
 
 -- what the bounds need of a demodulation can be had too

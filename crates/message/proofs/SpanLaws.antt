@@ -12,7 +12,7 @@ use lib.IntN.{ℤ}
 use lib.ListN.{getD, length, length-map, set}
 use borrow.Author.Tests.{eq-eqb, le-leb, le-ltb, lt-leb, lt-ltb, ne-eqb}
 use Rattle.floats.specs.Number.{num}
-use Rattle.ledger.specs.Causes.{endNan, spanNan, spansFit}
+use Rattle.ledger.specs.Causes.{endNan, spanNan, spansFit, inFront}
 use Rattle.ledger.specs.Demand3.{message}
 use Rattle.ledger.specs.Frames.{Frame, rankOf, rssiOf, timeOf}
 use Rattle.ledger.specs.Merge.{endAfter, estimate, finished, frameGapS, has, knownOf, later, louder, lower, lowestLater, meet, merge, noSpan, openEntry, orElse, place, spanOf, threeRanks}
@@ -269,6 +269,15 @@ pub fit-is : (l : List FrameSpan) (x y z : Bool) → length l ≡ 3
     → y ≡ one-fits (getD l 1 outside .rank) (eqb (getD l 2 outside .rank) (getD l 1 outside .rank)) → z ≡ one-fits (getD l 2 outside .rank) false
     → x && (y && z) ≡ spansFit l
 fit-is l x y z e hx hy hz = rw (hx, hy, hz) (fit-of (getD l 0 outside) (getD l 1 outside) (getD l 2 outside) ∙ ap spansFit (sym (three l outside e)))
+
+front-of : (a b c : FrameSpan) → (eqb (b .rank) noSpan || not (eqb (a .rank) noSpan)) && (eqb (c .rank) noSpan || not (eqb (b .rank) noSpan)) ≡ inFront (a ∷ b ∷ c ∷ [])
+unfolding inFront
+front-of a b c = rw (and-true (eqb (c .rank) noSpan || not (eqb (b .rank) noSpan))) refl
+
+pub front-is : (l : List FrameSpan) → length l ≡ 3
+    → (eqb (getD l 1 outside .rank) noSpan || not (eqb (getD l 0 outside .rank) noSpan)) && (eqb (getD l 2 outside .rank) noSpan || not (eqb (getD l 1 outside .rank) noSpan))
+    ≡ inFront l
+front-is l e = front-of (getD l 0 outside) (getD l 1 outside) (getD l 2 outside) ∙ ap inFront (sym (three l outside e))
 
 abbrev one-nan : FrameSpan → Bool
 one-nan s = not (eqb (s .rank) noSpan) && (isNan (s .time) || isNan (s .end))

@@ -6,7 +6,7 @@ ghost use lib.Dec.{eqb, leb};
 ghost use lib.Ieee.{isNan};
 ghost use Rattle.ledger.specs.Frames.{Frame};
 ghost use Rattle.ledger.specs.Merge.{noSpan, spanOf, has, place, meet, threeRanks, endAfter, louder, openEntry, merge, expires, later, lower, lowestLater, endBefore, estimate, orElse, finished};
-ghost use Rattle.ledger.specs.Causes.{spansFit, entryFits, spanNan, endNan, entryNan};
+ghost use Rattle.ledger.specs.Causes.{spansFit, inFront, entryFits, spanNan, endNan, entryNan};
 ghost use Rattle.message.specs.Messages.{frameOf, spanIn, said, estimateAnswer};
 use frame::UplinkFrame;
 use ledger::Pending;
@@ -321,7 +321,17 @@ fn spans_fit(spans: [FrameSpan; 3]) -> bool
     span_fits(a, second | third) & (span_fits(b, last) & span_fits(c, false))
 }
 
-// Whether a message is in order: 1 to 3 spans of different ranks, payload and authentication code not too long.
+// Whether no span comes after a place that holds none.
+fn in_front(spans: [FrameSpan; 3]) -> bool
+    ensures { λ r. ⌜ r ≡ inFront spans ⌝ }
+{
+    let first = spans[0].rank == NO_RANK;
+    let second = spans[1].rank == NO_RANK;
+    let third = spans[2].rank == NO_RANK;
+    (second | !first) & (third | !second)
+}
+
+// Whether a message is in order: 1 to 3 spans of different ranks, in front, payload and authentication code not too long.
 pub fn fits(p: Pending) -> bool
     ensures { λ r. ⌜ r ≡ entryFits p ⌝ }
 {
@@ -329,7 +339,8 @@ pub fn fits(p: Pending) -> bool
     let spans = m.spans;
     let payload = m.payload_len <= MOST_PAYLOAD;
     let auth = m.auth_len <= MOST_AUTH;
-    (has(spans, 0) | (has(spans, 1) | has(spans, 2))) & (spans_fit(spans) & (payload & auth))
+    (has(spans, 0) | (has(spans, 1) | has(spans, 2)))
+        & (spans_fit(spans) & (in_front(spans) & (payload & auth)))
 }
 
 fn nan64(x: f64) -> bool

@@ -11,8 +11,7 @@ use borrow.Author.Tests.{ne-eqb}
 use Rattle.ledger.specs.Ledger.{capacity, push, seconds}
 use Rattle.ledger.specs.Causes as causes
 use Rattle.samples.specs.Buffer.{leftHeld, leftPlaces, room}
-use Rattle.starts.specs.Starts as starts
-use Rattle.starts.specs.declared.Starts.{Starts}
+use Rattle.starts.proofs.StartLaws.{starts-same}
 use Rattle.waiting.specs.Waiting as waiting
 use Rattle.waiting.specs.Waiting.{waitingOf}
 use Rattle.waiting.specs.declared.Waiting.{Waiting}
@@ -34,11 +33,7 @@ left-places : (rate held : ℕ) (samples : List Float) → held < capacity rate 
 unfolding leftPlaces
 left-places rate held samples h = rw (ne-eqb held (capacity rate) (λ e. omega arith)) refl
 
--- ---- what is written over itself stays as it is
-
-starts-same : (s : Starts) → s .count ≡ length (starts.remembered s) → s ≡ starts.over s (starts.remembered s)
-unfolding starts.over
-starts-same s e = rw (← e, take-append-drop (s .count) (s .at)) refl
+-- messages that are written over themselves stay as they are
 
 waiting-same : (w : Waiting) → w .count ≡ length (waitingOf w) → w ≡ waiting.over w (waitingOf w)
 unfolding waiting.over

@@ -6,12 +6,12 @@ use mathlib.Core.Path.{_∙_, _≡_, refl, sym}
 use Prim.Native.Nat.{_+_, _<_, _≤_, suc, ℕ}
 use native.Mathlib.Nat.{not-suc-le-zero}
 use native.Mathlib.Omega.{arith}
-use lib.Dec.{ltb}
+use lib.Dec.{leb, ltb}
 use lib.Ieee.{Float}
 use lib.ListN.{getD, length}
 use borrow.Author.Tests.{le-ltb, lt-ltb, ltb-false}
-use Rattle.ledger.specs.Causes.{Lent, allFit, anyNan, callCause, cause, orderly, tooShort, unlike, waitingAtPush}
-use Rattle.ledger.proofs.Basics.{either}
+use Rattle.ledger.specs.Causes.{Lent, allFit, anyNan, callCause, cause, mostWaiting, orderly, tooShort, unlike, waitingAtPush}
+use Rattle.ledger.proofs.Basics.{and-true, either}
 use Rattle.ledger.specs.Ledger.{byEntry, capacity, flush, push}
 use Rattle.ledger.specs.Room.{Below}
 use Rattle.limits.specs.Limits.{badNumber, badRate, badSample, badState, eventsSize, long, longestStream, scratch64, short, stream}
@@ -136,7 +136,10 @@ module _ (w : Waiting) (r : Condition) (k : waiting.Checked w r) where
 
   pub messages-nan : r .ok ≡ true → (x : ℕ) → x ≡ cond (r .nan) badNumber 0 → x ≡ messagesCause w
   unfolding messagesCause
-  messages-nan f x g = g ∙ rw (sym (k .ok) ∙ f, k .nan f) refl
+  messages-nan f x g =
+      let o = sym (k .ok) ∙ f in
+      let few = and-true (leb (w .count) mostWaiting) _ o .0 in
+      g ∙ rw (o, k .nan, few) refl
 
 module _ (s : SigfoxReceiver) (buf : List Float) where
   abbrev ok : Bool

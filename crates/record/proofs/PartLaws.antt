@@ -1,20 +1,21 @@
 -- A record's bytes are written one after the other: runs that follow each other make one run. Assumes nothing.
 use mathlib.Core.Path.{_≡_, refl, sym, ap, ap₂, _∙_}
 use mathlib.Core.Bool.{Bool, true, false, cond}
-use mathlib.Core.List.{List, [], _∷_, _++_, append-assoc}
+use mathlib.Core.List.{List, [], _∷_, _++_, append-assoc, append-nil}
 use Prim.Native.Nat.{ℕ, suc, _+_, _-_, _/_, _%_, _≤_, _<_}
-use native.Mathlib.Nat.{sub-zero}
+use native.Mathlib.Nat.{sub-zero, min-le-right}
 use native.Mathlib.Omega.{arith}
 use lib.Dec.{eqb}
-use lib.ListN.{length, take, drop, set, length-append}
-use lib.Seq.{sets, length-sets, take-all}
+use lib.ListN.{length, take, set, length-append, length-replicate, length-take}
+use lib.Seq.{sets, length-sets, take-all, length-take-le}
 use borrow.Author.Tests.{eq-eqb, ne-eqb}
 use lib.IntN.{ℤ}
 use lib.Ieee.{Float, binary32, binary64}
 use Rattle.endian.specs.Bytes.{bytesOf, bitsOf, signedBits}
 use Rattle.endian.proofs.Numbers.{bytes-length}
+use Rattle.frame.specs.Fields.{padded}
 use Rattle.frame.proofs.CopyLaws.{sets-then}
-use Rattle.record.specs.Record.{spare, rankBit, noRank, headBytes, identityBytes, levelBytes, rankBytes, timeBytes, spanBytes}
+use Rattle.record.specs.Record.{spare, upTo, rankBit, noRank, headBytes, identityBytes, levelBytes, rankBytes, timeBytes, spanBytes}
 use Rattle.record.specs.declared.FrameSpan.{FrameSpan}
 use Rattle.record.specs.declared.parts.Head.{Head}
 
@@ -43,23 +44,45 @@ module _ (l : List ℕ) (at n i : ℕ) where
 pub spare-start : (l : List ℕ) (at n : ℕ) → sets l (at + 0) (spare (n - 0)) ≡ sets l at (spare n)
 spare-start l at n = ap (λ (k : ℕ). sets l k (spare (n - 0))) (let e : at + 0 ≡ at = omega arith in e) ∙ ap (λ (k : ℕ). sets l at (spare k)) (sub-zero n)
 
+-- ---- an array of which the first bytes count
+
+pub up-to-all : (len : ℕ) (l : List ℕ) → length l ≤ len → l ≡ upTo len l
+unfolding upTo
+up-to-all len l h =
+    sym (ap (padded (length l)) (take-all len l h) ∙ ap (λ (k : ℕ). l ++ spare k) (let e : length l - length l ≡ 0 = omega arith in e) ∙ append-nil l)
+
+pub up-to-some : (len : ℕ) (l : List ℕ) → len < length l → take len l ++ spare (length l - len) ≡ upTo len l
+unfolding upTo
+up-to-some len l h = ap (λ (k : ℕ). take len l ++ spare (length l - k)) (sym (length-take-le len l (omega arith)))
+
+-- all its places are written
+pub length-up-to : (len : ℕ) (l : List ℕ) → length (upTo len l) ≡ length l
+unfolding upTo
+length-up-to len l =
+    let n = length l - length (take len l) in
+    omega (arith, length-append (take len l) (spare n), length-replicate {A = ℕ} n 0, length-take len l, min-le-right len (length l))
+
 -- ---- lengths of the parts
 
 pub length-head : (h : Head) → length (headBytes h) ≡ 8
 unfolding headBytes
 length-head h = omega (arith, bytes-length 2 (h .place))
 
-pub length-identity : (d c : ℕ) (p a : List ℕ) → length p ≡ 12 → length a ≡ 5 → length (identityBytes d c p a) ≡ 28
+pub length-identity : (d c i : ℕ) (p : List ℕ) (j : ℕ) (a : List ℕ) → length p ≡ 12 → length a ≡ 5 → length (identityBytes d c i p j a) ≡ 28
 unfolding identityBytes
-length-identity d c p a h k =
+length-identity d c i p j a h k =
+    let q = upTo i p in
+    let b = upTo j a in
     omega (
       arith,
-      length-append (bytesOf 4 d) (bytesOf 2 c ++ (spare 2 ++ (p ++ (a ++ spare 3)))),
-      length-append (bytesOf 2 c) (spare 2 ++ (p ++ (a ++ spare 3))),
-      length-append p (a ++ spare 3),
-      length-append a (spare 3),
+      length-append (bytesOf 4 d) (bytesOf 2 c ++ (spare 2 ++ (q ++ (b ++ spare 3)))),
+      length-append (bytesOf 2 c) (spare 2 ++ (q ++ (b ++ spare 3))),
+      length-append q (b ++ spare 3),
+      length-append b (spare 3),
       bytes-length 4 d,
       bytes-length 2 c,
+      length-up-to i p,
+      length-up-to j a,
     )
 
 pub length-levels : (z : ℤ) (x : Float) → length (levelBytes z x) ≡ 8
@@ -105,11 +128,14 @@ rank-none r a b c = simp (ne-eqb r 0 a, ne-eqb r 1 b, ne-eqb r 2 c)
 
 -- ---- device, counter, payload and auth
 
-module _ (l : List ℕ) (at d c : ℕ) (p a o1 o2 o3 o4 o5 o6 : List ℕ) where
-  pub identity-written : length p ≡ 12 → length a ≡ 5 → o1 ≡ sets l at (bytesOf 4 d) → o2 ≡ sets o1 (at + 4) (bytesOf 2 c) → o3 ≡ sets o2 (at + 6) (spare 2)
-      → o4 ≡ sets o3 (at + 8) (take 12 (drop 0 p)) → o5 ≡ sets o4 (at + 20) (take 5 (drop 0 a)) → o6 ≡ sets o5 (at + 25) (spare 3) → o6 ≡ sets l at (identityBytes d c p a)
+module _ (l : List ℕ) (at d c i j : ℕ) (payload auth o1 o2 o3 o4 o5 o6 : List ℕ) where
+  pub identity-written : length payload ≡ 12 → length auth ≡ 5 → o1 ≡ sets l at (bytesOf 4 d) → o2 ≡ sets o1 (at + 4) (bytesOf 2 c) → o3 ≡ sets o2 (at + 6) (spare 2)
+      → o4 ≡ sets o3 (at + 8) (upTo i payload) → o5 ≡ sets o4 (at + 20) (upTo j auth) → o6 ≡ sets o5 (at + 25) (spare 3)
+      → o6 ≡ sets l at (identityBytes d c i payload j auth)
   unfolding identityBytes
   identity-written n m e1 e2 e3 e4 e5 e6 =
+      let p = upTo i payload in
+      let a = upTo j auth in
       let q1 = bytesOf 4 d in
       let q2 = q1 ++ bytesOf 2 c in
       let q3 = q2 ++ spare 2 in
@@ -118,12 +144,12 @@ module _ (l : List ℕ) (at d c : ℕ) (p a o1 o2 o3 o4 o5 o6 : List ℕ) where
       let m1 = bytes-length 4 d in
       let m2 : length q2 ≡ 6 = omega (arith, length-append q1 (bytesOf 2 c), m1, bytes-length 2 c) in
       let m3 : length q3 ≡ 8 = omega (arith, length-append q2 (spare 2), m2) in
-      let m4 : length q4 ≡ 20 = omega (arith, length-append q3 p, m3, n) in
-      let m5 : length q5 ≡ 25 = omega (arith, length-append q4 a, m4, m) in
+      let m4 : length q4 ≡ 20 = omega (arith, length-append q3 p, m3, n, length-up-to i payload) in
+      let m5 : length q5 ≡ 25 = omega (arith, length-append q4 a, m4, m, length-up-to j auth) in
       let f2 : o2 ≡ sets l at q2 = follow l at q1 o1 (bytesOf 2 c) o2 (at + 4) e1 e2 (omega (arith, m1)) in
       let f3 : o3 ≡ sets l at q3 = follow l at q2 o2 (spare 2) o3 (at + 6) f2 e3 (omega (arith, m2)) in
-      let f4 : o4 ≡ sets l at q4 = follow l at q3 o3 p o4 (at + 8) f3 (e4 ∙ ap (sets o3 (at + 8)) (take-all 12 p (omega (arith, n)))) (omega (arith, m3)) in
-      let f5 : o5 ≡ sets l at q5 = follow l at q4 o4 a o5 (at + 20) f4 (e5 ∙ ap (sets o4 (at + 20)) (take-all 5 a (omega (arith, m)))) (omega (arith, m4)) in
+      let f4 : o4 ≡ sets l at q4 = follow l at q3 o3 p o4 (at + 8) f3 e4 (omega (arith, m3)) in
+      let f5 : o5 ≡ sets l at q5 = follow l at q4 o4 a o5 (at + 20) f4 e5 (omega (arith, m4)) in
       let f6 : o6 ≡ sets l at (q5 ++ spare 3) = follow l at q5 o5 (spare 3) o6 (at + 25) f5 e6 (omega (arith, m5)) in
       let g : q5 ++ spare 3 ≡ bytesOf 4 d ++ (bytesOf 2 c ++ (spare 2 ++ (p ++ (a ++ spare 3)))) = simp append-assoc in
       f6 ∙ ap (sets l at) g

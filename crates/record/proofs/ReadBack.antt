@@ -14,7 +14,7 @@ use Rattle.endian.proofs.Numbers.{bytes-length}
 use Rattle.endian.proofs.Values.{pattern-small}
 use Rattle.frame.specs.declared.UplinkFrame.{UplinkFrame}
 use Rattle.record.specs.Record as rec
-use Rattle.record.specs.Record.{frameKind, messageKind, noRank, frameFlags, messageFlags, repairNumber, repairPlace, maskOf, spanOf, spare, timeBytes, spanBytes, rankBytes, frameHead, messageHead, frameRecord, messageRecord}
+use Rattle.record.specs.Record.{frameKind, messageKind, noRank, frameFlags, messageFlags, repairNumber, repairPlace, maskOf, spanOf, spare, upTo, timeBytes, spanBytes, rankBytes, frameHead, messageHead, frameRecord, messageRecord}
 use Rattle.record.specs.Readers.{kindOf, rankOf, flagsOf, payloadLenOf, authLenOf, repairOf, placeOf, deviceOf, counterOf, payloadOf, authOf, ppmOf, rssiOf, spanRankOf, timeOf, endOf, spanTimeOf, spanEndOf, startOf}
 use Rattle.record.specs.declared.Reception.{Reception}
 use Rattle.record.specs.declared.FrameSpan.{FrameSpan}
@@ -64,8 +64,8 @@ pub record FrameRead (f : UplinkFrame) (r : Reception) (l : List ℕ) : Type 0 w
   pub place : placeOf l ≡ repairPlace (f .repaired)
   pub device : deviceOf l ≡ f .«device_id»
   pub counter : counterOf l ≡ f .counter
-  pub payload : payloadOf l ≡ f .payload
-  pub auth : authOf l ≡ f .auth
+  pub payload : payloadOf l ≡ upTo (f .«payload_len») (f .payload)
+  pub auth : authOf l ≡ upTo (f .«auth_len») (f .auth)
   pub ppm : ppmOf l ≡ r .«clock_error_ppm»
   pub rssi : rssiOf l ≡ r .rssi
   pub time : timeOf l ≡ r .time
@@ -188,8 +188,8 @@ pub record MessageRead (m : SigfoxMessage) (l : List ℕ) : Type 0 where
   pub place : placeOf l ≡ 0
   pub device : deviceOf l ≡ m .«device_id»
   pub counter : counterOf l ≡ m .counter
-  pub payload : payloadOf l ≡ m .payload
-  pub auth : authOf l ≡ m .auth
+  pub payload : payloadOf l ≡ upTo (m .«payload_len») (m .payload)
+  pub auth : authOf l ≡ upTo (m .«auth_len») (m .auth)
   pub ppm : ppmOf l ≡ m .«clock_error_ppm»
   pub rssi : rssiOf l ≡ m .rssi
   pub time : timeOf l ≡ m .time

@@ -12,10 +12,10 @@ use lib.Ieee.Bits.{ofBits-toBits}
 use Rattle.endian.specs.Bytes.{bytesOf, bitsOf, signedBits, signedOf, numberAt}
 use Rattle.endian.proofs.Numbers.{bytes-length}
 use Rattle.endian.proofs.Values.{signed-small, signed-back, pattern-small}
-use Rattle.record.specs.Record.{spare, headBytes, identityBytes, levelBytes, rankBytes, timeBytes, startBytes}
+use Rattle.record.specs.Record.{spare, upTo, headBytes, identityBytes, levelBytes, rankBytes, timeBytes, startBytes}
 use Rattle.record.specs.Readers.{kindOf, rankOf, flagsOf, payloadLenOf, authLenOf, repairOf, placeOf, deviceOf, counterOf, payloadOf, authOf, ppmOf, rssiOf, spanRankOf, timeOf, endOf, startOf}
 use Rattle.record.specs.declared.parts.Head.{Head}
-use Rattle.record.proofs.PartLaws.{length-head, length-identity, length-levels, length-ranks, length-times}
+use Rattle.record.proofs.PartLaws.{length-up-to, length-head, length-identity, length-levels, length-ranks, length-times}
 use Rattle.record.proofs.JoinLaws.{joined, pick, before, part, number-part, whole-part, number-of-part, byte-part}
 
 -- what a record is made of
@@ -54,7 +54,7 @@ pub record Held (x : Fields) : Type 0 where
   pub start-held : x .start < 256 ^ 8
 
 abbrev pub identity : Fields → List ℕ
-identity x = identityBytes (x .device) (x .counter) (x .payload) (x .auth)
+identity x = identityBytes (x .device) (x .counter) (x .head .«payload_len») (x .payload) (x .head .«auth_len») (x .auth)
 
 -- the parts after the first
 abbrev pub parts : Fields → List (List ℕ)
@@ -95,7 +95,7 @@ module _ (x : Fields) (h : Sized x) where
   n1 = length-head (x .head)
 
   n2 : length (identity x) ≡ 28
-  n2 = length-identity (x .device) (x .counter) (x .payload) (x .auth) (h .payload-held) (h .auth-held)
+  n2 = length-identity (x .device) (x .counter) (x .head .«payload_len») (x .payload) (x .head .«auth_len») (x .auth) (h .payload-held) (h .auth-held)
 
   n3 : length (levelBytes (x .ppm) (x .rssi)) ≡ 8
   n3 = length-levels (x .ppm) (x .rssi)
@@ -123,8 +123,20 @@ module _ (x : Fields) (h : Sized x) where
       (bytesOf 2 (x .head .place) ∷ []) 1 6 2 (x .head .place) refl refl b
 
   -- the identity's fields
+  abbrev payload : List ℕ
+  payload = upTo (x .head .«payload_len») (x .payload)
+
+  abbrev auth : List ℕ
+  auth = upTo (x .head .«auth_len») (x .auth)
+
+  length-payload : length payload ≡ 12
+  length-payload = length-up-to (x .head .«payload_len») (x .payload) ∙ h .payload-held
+
+  length-auth : length auth ≡ 5
+  length-auth = length-up-to (x .head .«auth_len») (x .auth) ∙ h .auth-held
+
   abbrev later : List (List ℕ)
-  later = bytesOf 2 (x .counter) ∷ spare 2 ∷ x .payload ∷ x .auth ∷ spare 3 ∷ []
+  later = bytesOf 2 (x .counter) ∷ spare 2 ∷ payload ∷ auth ∷ spare 3 ∷ []
 
   pub read-device : x .device < 256 ^ 4 → deviceOf (made x) ≡ x .device
   unfolding identityBytes
@@ -181,17 +193,17 @@ module _ (x : Fields) (h : Sized x) where
   read-start b =
       number-of-part (headBytes (x .head)) (parts x) 6 112 8 (x .start) (omega (arith, n1, n2, n3, n4, n5, h .spans-held)) refl b
 
-  pub read-payload : payloadOf (made x) ≡ x .payload
+  pub read-payload : payloadOf (made x) ≡ upTo (x .head .«payload_len») (x .payload)
   unfolding identityBytes
   read-payload =
       part (headBytes (x .head)) (parts x) 1 12 8 16 (omega (arith, n1)) (omega (arith, n2))
-      ∙ whole-part (bytesOf 4 (x .device)) later 3 8 12 (omega (arith, bytes-length 4 (x .device), bytes-length 2 (x .counter))) (h .payload-held)
+      ∙ whole-part (bytesOf 4 (x .device)) later 3 8 12 (omega (arith, bytes-length 4 (x .device), bytes-length 2 (x .counter))) length-payload
 
-  pub read-auth : authOf (made x) ≡ x .auth
+  pub read-auth : authOf (made x) ≡ upTo (x .head .«auth_len») (x .auth)
   unfolding identityBytes
   read-auth =
       part (headBytes (x .head)) (parts x) 1 5 20 28 (omega (arith, n1)) (omega (arith, n2))
-      ∙ whole-part (bytesOf 4 (x .device)) later 4 20 5 (omega (arith, bytes-length 4 (x .device), bytes-length 2 (x .counter), h .payload-held)) (h .auth-held)
+      ∙ whole-part (bytesOf 4 (x .device)) later 4 20 5 (omega (arith, bytes-length 4 (x .device), bytes-length 2 (x .counter), length-payload)) length-auth
 
 -- ---- fields at the edges of their widths are held
 

@@ -3,10 +3,11 @@ use Prim.Native.Nat.{ℕ, _+_}
 use mathlib.Core.Bool.{Bool, cond}
 use mathlib.Core.List.{List, _∷_, _++_}
 use lib.Dec.{eqb}
-use lib.ListN.{replicate, getD}
+use lib.ListN.{length, take, replicate, getD}
 use lib.IntN.{ℤ}
 use lib.Ieee.{Float, nan, binary32, binary64, ofBits}
 use Rattle.endian.specs.Bytes.{bytesOf, bitsOf, signedBits}
+use Rattle.frame.specs.Fields.{padded}
 use Rattle.frame.specs.declared.Repair.{Repair}
 use Rattle.frame.specs.declared.Repair.the-variants.{Unchanged, Inserted, Deleted, Flipped}
 use Rattle.frame.specs.declared.SingleBit.{SingleBit}
@@ -22,6 +23,10 @@ use Rattle.record.specs.declared.parts.Head.{Head}
 -- bytes that no field has
 abbrev pub spare : ℕ → List ℕ
 spare n = replicate n 0
+
+-- an array whose first bytes count, as payload and auth: its other places are spare, whatever a state has there
+unfoldable pub upTo : ℕ → List ℕ → List ℕ
+upTo len l = padded (length l) (take len l)
 
 -- byte 0: kind 1 frame, 2 message
 abbrev pub frameKind : ℕ
@@ -84,9 +89,10 @@ maskOf m = rankBit (spanOf m 0 .rank) + rankBit (spanOf m 1 .rank) + rankBit (sp
 unfoldable pub headBytes : Head → List ℕ
 headBytes h = h .kind ∷ h .rank ∷ h .flags ∷ h .«payload_len» ∷ h .«auth_len» ∷ h .repair ∷ bytesOf 2 (h .place)
 
--- 8-35: device, counter, payload, auth
-unfoldable pub identityBytes : ℕ → ℕ → List ℕ → List ℕ → List ℕ
-identityBytes device counter payload auth = bytesOf 4 device ++ (bytesOf 2 counter ++ (spare 2 ++ (payload ++ (auth ++ spare 3))))
+-- 8-35: device, counter, payload and auth with their lengths
+unfoldable pub identityBytes : ℕ → ℕ → ℕ → List ℕ → ℕ → List ℕ → List ℕ
+unfolding upTo
+identityBytes device counter n payload m auth = bytesOf 4 device ++ (bytesOf 2 counter ++ (spare 2 ++ (upTo n payload ++ (upTo m auth ++ spare 3))))
 
 -- 36-43: clock ppm, RSSI
 unfoldable pub levelBytes : ℤ → Float → List ℕ
@@ -130,7 +136,7 @@ unfoldable pub frameRecord : UplinkFrame → Reception → List ℕ
 unfolding headBytes identityBytes levelBytes rankBytes timeBytes
 frameRecord f r =
     headBytes (frameHead f)
-    ++ (identityBytes (f .«device_id») (f .counter) (f .payload) (f .auth)
+    ++ (identityBytes (f .«device_id») (f .counter) (f .«payload_len») (f .payload) (f .«auth_len») (f .auth)
     ++ (levelBytes (r .«clock_error_ppm») (r .rssi)
     ++ (rankBytes noRank noRank noRank
     ++ (timeBytes (r .time) (r .end)
@@ -152,7 +158,7 @@ unfoldable pub messageRecord : SigfoxMessage → List ℕ
 unfolding headBytes identityBytes levelBytes rankBytes timeBytes spanBytes
 messageRecord m =
     headBytes (messageHead m)
-    ++ (identityBytes (m .«device_id») (m .counter) (m .payload) (m .auth)
+    ++ (identityBytes (m .«device_id») (m .counter) (m .«payload_len») (m .payload) (m .«auth_len») (m .auth)
     ++ (levelBytes (m .«clock_error_ppm») (m .rssi)
     ++ (rankBytes (spanOf m 0 .rank) (spanOf m 1 .rank) (spanOf m 2 .rank)
     ++ (timeBytes (m .time) (endOf (m .«first_frame_end»))

@@ -4,7 +4,7 @@ ghost use mathlib.Core.List.{_++_};
 ghost use Prim.Native.Nat.{_+_, _≤_, _<_};
 ghost use lib.ListN.{length};
 ghost use lib.Seq.{sets};
-ghost use Rattle.record.specs.Record.{spare, headBytes, identityBytes, levelBytes, rankBytes, timeBytes, spanBytes};
+ghost use Rattle.record.specs.Record.{spare, upTo, headBytes, identityBytes, levelBytes, rankBytes, timeBytes, spanBytes};
 use crate::FrameSpan;
 use frame::bodies::copy_into;
 use frame::bodies::put_byte;
@@ -31,6 +31,19 @@ pub fn put_spare(out: &mut [u8], at: usize, n: usize)
     }
 }
 
+// An array of which `len` bytes count, and 0 in its other places.
+pub fn put_up_to(out: &mut [u8], at: usize, len: usize, bytes: &[u8])
+    requires { ⌜ at + length (now bytes) ≤ length (now out) ⌝ }
+    ensures { λ _. ⌜ now (out .exit) ≡ sets (now (out .entry)) at (upTo len (now (bytes .entry))) ⌝ }
+{
+    if bytes.len() <= len {
+        copy_into(bytes, 0, bytes.len(), out, at);
+        return;
+    }
+    copy_into(bytes, 0, len, out, at);
+    put_spare(out, at + len, bytes.len() - len);
+}
+
 pub fn put_head(out: &mut [u8], at: usize, h: Head)
     requires { ⌜ at + 8 ≤ length (now out) ⌝ }
     ensures { λ _. ⌜ now (out .exit) ≡ sets (now (out .entry)) at (headBytes h) ⌝ }
@@ -49,17 +62,19 @@ pub fn put_identity(
     at: usize,
     device: u32,
     counter: u16,
+    payload_len: u8,
     payload: &[u8],
+    auth_len: u8,
     auth: &[u8],
 )
     requires { ⌜ (at + 28 ≤ length (now out)) × (length (now payload) ≡ 12) × (length (now auth) ≡ 5) ⌝ }
-    ensures { λ _. ⌜ now (out .exit) ≡ sets (now (out .entry)) at (identityBytes device counter (now (payload .entry)) (now (auth .entry))) ⌝ }
+    ensures { λ _. ⌜ now (out .exit) ≡ sets (now (out .entry)) at (identityBytes device counter «payload_len» (now (payload .entry)) «auth_len» (now (auth .entry))) ⌝ }
 {
     endian::put_u32(out, at, device);
     endian::put_u16(out, at + 4, counter);
     put_spare(out, at + 6, 2);
-    copy_into(payload, 0, 12, out, at + 8);
-    copy_into(auth, 0, 5, out, at + 20);
+    put_up_to(out, at + 8, payload_len as usize, payload);
+    put_up_to(out, at + 20, auth_len as usize, auth);
     put_spare(out, at + 25, 3);
 }
 
@@ -123,10 +138,20 @@ pub fn put_front(
 )
     requires { ⌜ (at + 44 ≤ length (now out)) × (length (now payload) ≡ 12) × (length (now auth) ≡ 5) ⌝ }
     ensures { λ _. ⌜ now (out .exit)
-        ≡ sets (now (out .entry)) at (headBytes h ++ (identityBytes device counter (now (payload .entry)) (now (auth .entry)) ++ levelBytes ppm rssi)) ⌝ }
+        ≡ sets (now (out .entry)) at (headBytes h
+        ++ (identityBytes device counter (h .«payload_len») (now (payload .entry)) (h .«auth_len») (now (auth .entry)) ++ levelBytes ppm rssi)) ⌝ }
 {
     put_head(out, at, h);
-    put_identity(out, at + 8, device, counter, payload, auth);
+    put_identity(
+        out,
+        at + 8,
+        device,
+        counter,
+        h.payload_len,
+        payload,
+        h.auth_len,
+        auth,
+    );
     put_levels(out, at + 36, ppm, rssi);
 }
 

@@ -5,6 +5,7 @@ use ledger::Pending;
 use receiver::SigfoxReceiver;
 use record::FirstFrameEnd;
 use record::FrameSpan;
+use record::NO_RANK;
 use record::SigfoxMessage;
 use record::read;
 use starts::Starts;
@@ -75,7 +76,28 @@ fn span_of(r: &[u8; 120], i: usize) -> FrameSpan
     }
 }
 
-// The message of a record.
+// The spans of a record, in front of the places that hold none.
+fn spans_of(r: &[u8; 120]) -> [FrameSpan; 3] {
+    let none = FrameSpan {
+        rank: NO_RANK,
+        time: 0.0,
+        end: 0.0,
+    };
+    let mut spans = [none; 3];
+    let mut n: usize = 0;
+    let mut i: usize = 0;
+    while i < 3 {
+        let span = span_of(r, i);
+        i += 1;
+        if span.rank != NO_RANK {
+            spans[n] = span;
+            n += 1;
+        }
+    }
+    spans
+}
+
+// The message of a record. What payload and auth hold past their lengths is handed in as it stands.
 fn message_of(r: &[u8; 120]) -> SigfoxMessage {
     let flags = read::flags_of(r);
     let payload = [
@@ -95,9 +117,7 @@ fn message_of(r: &[u8; 120]) -> SigfoxMessage {
     let bit = bit_of(flags);
     let auth = [r[28], r[29], r[30], r[31], r[32]];
     let first_frame_end = end_of(flags, read::end_of(r));
-    let first = span_of(r, 0);
-    let second = span_of(r, 1);
-    let third = span_of(r, 2);
+    let spans = spans_of(r);
     SigfoxMessage {
         device_id: read::device_of(r),
         counter: read::counter_of(r),
@@ -111,7 +131,7 @@ fn message_of(r: &[u8; 120]) -> SigfoxMessage {
         time: read::time_of(r),
         first_frame_end,
         rssi: read::rssi_of(r),
-        spans: [first, second, third],
+        spans,
         clock_error_ppm: read::ppm_of(r),
         start: read::start_of(r),
     }

@@ -52,10 +52,10 @@ pub fn near(rate: u32, starts: &[u64], n: usize, x: u64) -> bool
     false
 }
 
-// One start more.
+// One start more; the places behind it stay as they are.
 pub fn remember(s: Starts, x: u64) -> Starts
     requires { ⌜ s .count < mostStarts ⌝ }
-    ensures { λ r. ⌜ (remembered r ≡ remembered s ++ (x ∷ [])) × (r .count ≡ s .count + 1) ⌝ }
+    ensures { λ r. ⌜ r ≡ over s (remembered s ++ (x ∷ [])) ⌝ }
 {
     let mut t = s;
     let n = t.count;
@@ -67,7 +67,7 @@ pub fn remember(s: Starts, x: u64) -> Starts
 // The start x behind those of s, where it is `oldest` or later.
 fn keep(s: Starts, x: u64, oldest: u64) -> Starts
     requires { ⌜ s .count < mostStarts ⌝ }
-    ensures { λ r. ⌜ (remembered r ≡ remembered s ++ startsFrom oldest (x ∷ [])) × (r .count ≤ s .count + 1) ⌝ }
+    ensures { λ r. ⌜ r ≡ over s (remembered s ++ startsFrom oldest (x ∷ [])) ⌝ }
 {
     if x < oldest {
         return s;
@@ -75,10 +75,10 @@ fn keep(s: Starts, x: u64, oldest: u64) -> Starts
     remember(s, x)
 }
 
-// The starts before `oldest` are forgotten, the others stay in order (`retain`).
+// The starts before `oldest` are forgotten, the others stay in order (`retain`); the places behind them stay as they are.
 pub fn forget(s: Starts, oldest: u64) -> Starts
     requires { ⌜ s .count ≤ mostStarts ⌝ }
-    ensures { λ r. ⌜ (remembered r ≡ startsFrom oldest (remembered s)) × (r .count ≤ mostStarts) ⌝ }
+    ensures { λ r. ⌜ r ≡ over s (startsFrom oldest (remembered s)) ⌝ }
 {
     let old = s.at;
     let n = s.count;

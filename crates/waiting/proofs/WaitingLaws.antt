@@ -2,7 +2,7 @@
 use mathlib.Core.Bool.{Bool, _&&_, _||_, false, true}
 use mathlib.Core.List.{List, [], _++_, _∷_, append-nil, map}
 use mathlib.Core.Logic.{_⊎_, inl, inr, ⊎-elim}
-use mathlib.Core.Path.{_∙_, _≡_, ap, refl, subst, sym}
+use mathlib.Core.Path.{_∙_, _≡_, ap, ap₂, refl, subst, sym}
 use Prim.Native.Nat.{_*_, _+_, _-_, _<_, _≤_, suc, zero, ℕ}
 use native.Mathlib.Nat.{le-of-suc-le-suc, not-suc-le-zero}
 use native.Mathlib.Numerals.{add-one}
@@ -11,18 +11,19 @@ use lib.Dec.{eqb}
 use lib.Ieee.{Float, binary32, binary64, nan, ofBits, ofInt, round}
 use lib.IntN.{pos}
 use lib.ListN.{drop, getD, length, length-append, set, take}
-use lib.Seq.{getD-take, length-take-le, slice, slice-cons, slice-empty, take-set-lt, take-suc}
+use lib.Seq.{getD-take, length-take-le, slice, slice-cons, slice-empty, take-append-seam, take-set-lt, take-suc}
 use borrow.Author.Tests.{eq-eqb, eqb-false, eqb-true, le-leb, lt-leb, ne-eqb}
 use Rattle.floats.specs.Number.{num}
 use Rattle.ledger.specs.Causes.{allFit, anyNan, entryFits, entryNan, mostWaiting, unlike, waits}
 use Rattle.ledger.specs.Demand3.{message}
-use Rattle.ledger.specs.Frames.{keyOf}
+use Rattle.ledger.specs.Frames.{Frame, keyOf}
 use Rattle.ledger.specs.Ledger.{byEntry, chosen, join, messages, others}
 use Rattle.ledger.specs.Merge.{entryKey, expires, merge, openEntry}
 use Rattle.ledger.specs.Room.{openPlaces}
 use Rattle.message.specs.Messages.{frameOf}
 use Rattle.ledger.proofs.Basics as basics
-use Rattle.starts.proofs.Places.{store-next, take-store}
+use Rattle.ledger.proofs.Opens.{waiting-one}
+use Rattle.starts.proofs.Places.{laid-over, store-next, take-few, take-store}
 use Rattle.waiting.specs.Waiting.{Checked, Counters, Seen, anyExpires, distinct, findKey, keyIs, keyNumber, leaves, numberIn, over, waitingOf}
 use Rattle.ledger.specs.declared.Pending.{Pending}
 use Rattle.frame.specs.declared.UplinkFrame.{UplinkFrame}
@@ -112,6 +113,24 @@ module _ (f : UplinkFrame) (r : Reception) where
   opened-at l n v h k j =
       let m : length (take n l) ≡ n = length-take-le n l (omega arith) in
       rw (take-store l n v h, j) (sym (join-opens (take n l) (rw m k)))
+
+-- ---- the array, by what it stands for and by the places behind
+
+pub over-by : (w t : Waiting) (l : List Pending) → t .count ≤ length (t .messages) → waitingOf t ≡ l → drop (t .count) (t .messages) ≡ drop (t .count) (w .messages)
+    → t ≡ over w l
+unfolding over
+over-by w t l h e f =
+    let p = laid-over (t .messages) (w .messages) l (t .count) h e f in
+    ap₂ (λ (x : List Pending) (n : ℕ). record { messages = x; count = n }) (p .1) (p .0)
+
+pub stands : (w t : Waiting) (l : List Pending) → t ≡ over w l → (waitingOf t ≡ l) × (t .count ≡ length l)
+unfolding over
+stands w t l e = (ap waitingOf e ∙ take-append-seam l (drop (length l) (w .messages)), ap (λ (x : Waiting). x .count) e)
+
+-- a frame opens one message at most
+pub joined-few : (w t : Waiting) (f : Frame) → t ≡ over w (join byEntry f (waitingOf w)) → t .count ≤ w .count + 1
+joined-few w t f e =
+    omega (arith, stands w t (join byEntry f (waitingOf w)) e .1, waiting-one byEntry f true (waitingOf w), take-few (w .count) (w .messages))
 
 -- ---- the end of a call
 
@@ -280,12 +299,8 @@ unlike-is (m ∷ l) c = rw (waits-is m l (c .0) (c .1), unlike-is l (c .1)) refl
 
 -- ---- a state's messages
 
-pub too-many : (w : Waiting) (r : Condition) → mostWaiting < w .count → r .ok ≡ false → Checked w r
-too-many w r h e =
-    record {
-      ok = e ∙ sym (rw (lt-leb (w .count) mostWaiting h) refl);
-      nan = λ q. let z : _≡_ {A = ℕ} 0 1 = cc in absurd (omega arith);
-    }
+pub too-many : (w : Waiting) → mostWaiting < w .count → Checked w (record { ok = false; nan = false })
+too-many w h = record { ok = rw (lt-leb (w .count) mostWaiting h) refl; nan = rw (lt-leb (w .count) mostWaiting h) refl }
 
 pub checked-is : (w : Waiting) (l : Looked) (d : Bool) (r : Condition) → w .count ≤ mostWaiting → length (w .messages) ≡ openPlaces → Seen (waitingOf w) l
     → d ≡ distinct (take (w .count) (l .keys)) → r ≡ record { ok = d && l .fit; nan = l .nan } → Checked w r
@@ -294,7 +309,7 @@ checked-is w l d r h n s e q =
     let k : take (w .count) (l .keys) ≡ map keyNumber (waitingOf w) = (rw m at (s .keys)) in
     record {
       ok = rw (q, e, k, s .fit, le-leb (w .count) mostWaiting h, unlike-is (waitingOf w) (s .counters)) refl;
-      nan = λ _. rw q (s .nan);
+      nan = rw (q, le-leb (w .count) mostWaiting h) (s .nan);
     }
 
 -- ---- values of the code

@@ -109,6 +109,7 @@ pub record Seen (l : List Pending) (r : Looked) : Type 0 where
 abbrev pub waitingOk : Waiting → Bool
 waitingOk w = leb (w .count) mostWaiting && (unlike byEntry (waitingOf w) && allFit byEntry (waitingOf w))
 
+-- of more than 128 none is looked at
 pub record Checked (w : Waiting) (r : Condition) : Type 0 where
   pub ok : r .ok ≡ waitingOk w
-  pub nan : r .ok ≡ true → r .nan ≡ anyNan byEntry (waitingOf w)
+  pub nan : r .nan ≡ leb (w .count) mostWaiting && anyNan byEntry (waitingOf w)

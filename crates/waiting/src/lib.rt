@@ -70,10 +70,10 @@ fn find(w: Waiting, device_id: u32, counter: u16) -> usize
     n
 }
 
-// A frame joins the message of its device and counter, or opens one.
+// A frame joins the message of its device and counter, or opens one; the places behind them stay as they are.
 pub fn join(w: Waiting, f: UplinkFrame, r: Reception) -> Waiting
     requires { ⌜ w .count < openPlaces ⌝ }
-    ensures { λ t. ⌜ (waitingOf t ≡ join byEntry (frameOf f r) (waitingOf w)) × (t .count ≤ w .count + 1) ⌝ }
+    ensures { λ t. ⌜ t ≡ over w (join byEntry (frameOf f r) (waitingOf w)) ⌝ }
 {
     let mut t = w;
     let n = w.count;

@@ -56,7 +56,7 @@ returns c =
     let s = c .before .before .before in
     let a = s .args in
     let l = c .before .loop in
-    written-all (a .all) (a .time) (a .t1 .messages) (a .t1 .count) (a .count) (a .events .now) (l .i) (l .k) (l .events) (l .inv) (omega arith) (s .pre .1)
+    written-all (a .all) (a .time) (a .t1 .messages) (a .t1 .count) (a .count) (a .events .now) (l .i) (l .k) (l .events) (l .inv) (omega arith)
 
 pub write-messages-spec : {M : Type 1} → statement M
 write-messages-spec =

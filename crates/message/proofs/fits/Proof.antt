@@ -17,10 +17,20 @@ has-requires-3 c κs = search needs
 spans-fit-requires : tie.Need-spans-fit-requires
 spans-fit-requires c κs = search needs
 
+in-front-requires : tie.Need-in-front-requires
+in-front-requires c κs = search needs
+
 returns : tie.Need-returns
 unfolding entryFits
-returns c = rw (c .before .before .before .has .ensures, c .before .before .has2 .ensures, c .before .has3 .ensures, c .spans-fit .ensures) refl
+returns c = rw (
+  c .before .before .before .before .has .ensures,
+  c .before .before .before .has2 .ensures,
+  c .before .before .has3 .ensures,
+  c .before .spans-fit .ensures,
+  c .in-front .ensures,
+)
+    refl
 
 pub fits-spec : {M : Type 1} → statement M
 fits-spec =
-    tie.close (tie.spec has-requires has-requires-2 has-requires-3 spans-fit-requires returns)
+    tie.close (tie.spec has-requires has-requires-2 has-requires-3 spans-fit-requires in-front-requires returns)

@@ -87,7 +87,8 @@ put-u64-requires c κs =
     let m = a .t1 in
     let g = s1 .before .before .before .before in
     let ppm = toZ w32 (ofZ w32 (m .«clock_error_ppm»)) in
-    let front = headBytes (g .message-head .result) ++ (identityBytes (m .«device_id») (m .counter) (m .payload) (m .auth) ++ levelBytes ppm (m .rssi)) in
+    let h = g .message-head .result in
+    let front = headBytes h ++ (identityBytes (m .«device_id») (m .counter) (h .«payload_len») (m .payload) (h .«auth_len») (m .auth) ++ levelBytes ppm (m .rssi)) in
     let middle = rankBytes (spanOf m 0 .rank) (spanOf m 1 .rank) (spanOf m 2 .rank) ++ timeBytes (m .time) (n .end-of .result) in
     let spans = spanBytes (spanOf m 0) ++ (spanBytes (spanOf m 1) ++ spanBytes (spanOf m 2)) in
     omega (

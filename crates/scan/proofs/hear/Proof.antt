@@ -5,6 +5,7 @@ use native.Mathlib.Omega.{arith}
 use mir.Syntax.{w32}
 use mir.ValLaws.{toZ-ofZ}
 use Rattle.ledger.specs.Records.{recordOf}
+use Rattle.waiting.proofs.WaitingLaws.{joined-few, stands}
 use Rattle.scan.proofs.TakeLaws.{if-true, if-false}
 use Rattle.scan.proofs.hear.Statement.{statement}
 use Rattle.scan.proofs.hear.Tie as tie
@@ -26,7 +27,7 @@ unfolding recordOf
 returns c =
     let s = c .before .before .before .before .before .before .before .before .before in
     let ppm = toZ-ofZ w32 (s .args .d .«clock_error_ppm») (record { sfits = c .before .before .before .before .before .before .struct-told .given .1 .1 .1 .1 .0 .1 }) in
-    (if-true (s .args .d .frame .«crc_ok») _ _ _ (c .before .if1 .taken) (rw ppm at (c .join .ensures .0)), omega (arith, c .join .ensures .1, s .pre .0), rw ppm at (c .before .before .before .before .put-frame .ensures))
+    (if-true (s .args .d .frame .«crc_ok») _ _ _ (c .before .if1 .taken) (stands _ _ _ (rw ppm at (c .join .ensures)) .0), omega (arith, joined-few _ _ _ (c .join .ensures), s .pre .0), rw ppm at (c .before .before .before .before .put-frame .ensures))
 
 same-length-2 : tie.Need-same-length-2
 same-length-2 c = search needs

@@ -2,8 +2,10 @@
 use borrow.Author.Needs.{needs}
 use mathlib.Core.Path.{ap, _∙_}
 use Prim.Native.Nat.{ℕ}
+use native.Mathlib.Omega.{arith}
 use Rattle.ledger.specs.Ledger.{startsFrom}
 use Rattle.starts.specs.Starts.{remembered}
+use Rattle.starts.proofs.StartLaws.{stands, stands-from}
 use Rattle.scan.proofs.EachLaws.{does-scan}
 use Rattle.scan.proofs.scan.Statement.{statement}
 use Rattle.scan.proofs.scan.Tie as tie
@@ -28,7 +30,8 @@ returns c =
     let a = c .before .before .before .before .before .before .before .before .before .before .before .before .before .before .args in
     let t = c .before .before .before .before .before .before .before .before .take-each .result in
     does-scan (a .rate) (a .wait) (a .base) (a .held .now) (record { starts = a .starts; waiting = a .waiting; count = a .count }) (a .events .now) t _ (c .before .forget .result) (c .before .before .before .before .before .before .before .before .take-each .ensures)
-    (c .before .forget .ensures .0 ∙ ap (λ (n : ℕ). startsFrom n (remembered (t .starts))) (c .before .before .minus .ensures)) (c .before .forget .ensures .1)
+    (stands _ _ _ (c .before .forget .ensures) .0 ∙ ap (λ (n : ℕ). startsFrom n (remembered (t .starts))) (c .before .before .minus .ensures))
+    (omega (arith, stands-from _ (t .starts .count) _ _ (t .starts .at) (c .before .forget .ensures), c .before .before .before .before .before .before .before .before .take-each .ensures .within .starts))
 
 pub scan-spec : {M : Type 1} → statement M
 scan-spec = tie.close (tie.spec take-each-requires minus-requires forget-requires same-length same-length-2 returns)

@@ -6,6 +6,7 @@ use lib.Ieee.{Float}
 use Rattle.frame.specs.declared.Outcome.{Outcome}
 use Rattle.limits.specs.Answer.{accepted}
 use Rattle.demod.specs.Decode.{heardAs, decodeBurst, shown}
+use Rattle.starts.proofs.StartLaws.{stands, stands-more}
 use Rattle.scan.proofs.TakeLaws.{does-without, does-frame}
 use Rattle.scan.proofs.take_burst.Statement.{statement}
 use Rattle.scan.proofs.take_burst.Tie as tie
@@ -46,9 +47,9 @@ returns c =
     let s = c .before .before .before .before .before .before .before .before .before .before .before .before .before .before in
     let a = s .args in
     let x = c .before .before .before .before .before .decode-within .result in
-    does-without (a .rate) (a .burst) (a .held .now) (a .base) (a .s) (a .events .now) (c .before .before .before .before .before .before .before .before .before .remember .result) x (c .before .before .before .before .before .before .before .before .before .remember .ensures .0)
+    does-without (a .rate) (a .burst) (a .held .now) (a .base) (a .s) (a .events .now) (c .before .before .before .before .before .before .before .before .before .remember .result) x (stands _ _ _ (c .before .before .before .before .before .before .before .before .before .remember .ensures) .0)
     (c .before .before .before .before .before .decode-within .ensures ∙ ap (λ (t : Float). shown (accepted (decodeBurst (a .held .now) (a .rate) (a .burst) t))) (c .before .before .before .before .before .before .before .seconds .ensures)) (ap (λ (o : Outcome). heardAs o (x .decoded)) (c .enum-told .given .1))
-    (record { starts = omega (arith, c .before .before .before .before .before .before .before .before .before .remember .ensures .1, s .pre .3); waiting = omega (arith, s .pre .4); count = omega (arith, s .pre .5) })
+    (record { starts = omega (arith, stands-more _ _ _ (c .before .before .before .before .before .before .before .before .before .remember .ensures), s .pre .3); waiting = omega (arith, s .pre .4); count = omega (arith, s .pre .5) })
 
 same-length-2 : tie.Need-same-length-2
 same-length-2 c = search needs
@@ -59,9 +60,9 @@ returns-2 c =
     let s = c .before .before .before .before .before .before .before .before .before .before .before .before .before .before in
     let a = s .args in
     let x = c .before .before .before .before .before .decode-within .result in
-    does-without (a .rate) (a .burst) (a .held .now) (a .base) (a .s) (a .events .now) (c .before .before .before .before .before .before .before .before .before .remember .result) x (c .before .before .before .before .before .before .before .before .before .remember .ensures .0)
+    does-without (a .rate) (a .burst) (a .held .now) (a .base) (a .s) (a .events .now) (c .before .before .before .before .before .before .before .before .before .remember .result) x (stands _ _ _ (c .before .before .before .before .before .before .before .before .before .remember .ensures) .0)
     (c .before .before .before .before .before .decode-within .ensures ∙ ap (λ (t : Float). shown (accepted (decodeBurst (a .held .now) (a .rate) (a .burst) t))) (c .before .before .before .before .before .before .before .seconds .ensures)) (ap (λ (o : Outcome). heardAs o (x .decoded)) (c .enum-told2 .given .1))
-    (record { starts = omega (arith, c .before .before .before .before .before .before .before .before .before .remember .ensures .1, s .pre .3); waiting = omega (arith, s .pre .4); count = omega (arith, s .pre .5) })
+    (record { starts = omega (arith, stands-more _ _ _ (c .before .before .before .before .before .before .before .before .before .remember .ensures), s .pre .3); waiting = omega (arith, s .pre .4); count = omega (arith, s .pre .5) })
 
 same-length-3 : tie.Need-same-length-3
 same-length-3 c = search needs
@@ -75,10 +76,10 @@ returns-3 c =
     let s = c .before .before .before .before .before .before .before .before .before .before .before .before .before .before .before .before .before .before .before in
     let a = s .args in
     let x = c .before .before .before .before .before .before .before .before .before .before .decode-within .result in
-    does-frame (a .rate) (a .burst) (a .held .now) (a .base) (a .s) (a .events .now) (c .before .before .before .before .before .before .before .before .before .before .before .before .before .before .remember .result) x (c .before .before .before .before .before .before .before .before .before .before .before .before .before .before .remember .ensures .0)
+    does-frame (a .rate) (a .burst) (a .held .now) (a .base) (a .s) (a .events .now) (c .before .before .before .before .before .before .before .before .before .before .before .before .before .before .remember .result) x (stands _ _ _ (c .before .before .before .before .before .before .before .before .before .before .before .before .before .before .remember .ensures) .0)
     (c .before .before .before .before .before .before .before .before .before .before .decode-within .ensures ∙ ap (λ (t : Float). shown (accepted (decodeBurst (a .held .now) (a .rate) (a .burst) t))) (c .before .before .before .before .before .before .before .before .before .before .before .before .seconds .ensures)) (c .before .before .before .hear .result) _
     (ap (λ (o : Outcome). heardAs o (x .decoded)) (c .before .before .before .before .before .enum-told3 .given .1))
-    (record { starts = omega (arith, c .before .before .before .before .before .before .before .before .before .before .before .before .before .before .remember .ensures .1, s .pre .3); waiting = c .before .before .before .hear .ensures .1; count = omega (arith, s .pre .5) })
+    (record { starts = omega (arith, stands-more _ _ _ (c .before .before .before .before .before .before .before .before .before .before .before .before .before .before .remember .ensures), s .pre .3); waiting = c .before .before .before .hear .ensures .1; count = omega (arith, s .pre .5) })
     (omega (arith, s .pre .5, s .pre .0 .events)) (c .before .before .before .hear .ensures .0) (c .before .before .before .hear .ensures .2)
 
 pub take-burst-spec : {M : Type 1} → statement M

@@ -1,25 +1,24 @@
--- `starts::forget` meets its contract. The invariant: what is kept and what stays of those left is what stays of all. Assumes nothing.
-use mathlib.Core.List.{_++_, append-nil}
-use mathlib.Core.Path.{_∙_, _≡_, refl, sym}
+-- `starts::forget` meets its contract. The invariant: those of the first i that stay lie over the array. Assumes nothing.
+use mathlib.Core.Path.{_≡_, refl}
 use Prim.Native.Nat.{_-_, _≤_}
 use native.Mathlib.Omega.{arith}
 use lib.ListN.{length, take}
-use lib.Seq.{slice, slice-empty}
 use borrow.Author.Needs.{needs}
 use Rattle.ledger.specs.Ledger.{startsFrom}
-use Rattle.starts.proofs.StartLaws.{forget-turn}
-use Rattle.starts.specs.Starts.{remembered}
+use Rattle.starts.proofs.StartLaws.{forget-turn, stands-from}
+use Rattle.starts.specs.Starts.{over}
 use Rattle.starts.proofs.forget.Statement.{statement}
 use Rattle.starts.proofs.forget.Tie as tie
 
 abbrev Inv-loop : tie.InvT-loop
-Inv-loop oldest old n t₀ i₀ t i = (i ≤ n) × (t .count ≤ i) × (take (t .count) (t .at) ++ startsFrom oldest (slice i n old) ≡ startsFrom oldest (take n old))
+Inv-loop oldest old n t₀ i₀ t i = (i ≤ n) × (t ≡ over t₀ (startsFrom oldest (take i old)))
 
 abbrev μ-loop : tie.MeasureT-loop
 μ-loop oldest old n t₀ i₀ t i = n - i
 
 loop-holds : tie.Need-loop-holds Inv-loop μ-loop
-loop-holds c = (search needs, search needs, refl)
+unfolding over startsFrom
+loop-holds c = (search needs, refl)
 
 mul-keep : tie.Need-mul-keep Inv-loop μ-loop
 mul-keep c = search needs
@@ -28,7 +27,9 @@ array-read-keep : tie.Need-array-read-keep Inv-loop μ-loop
 array-read-keep c = search needs
 
 keep-requires : tie.Need-keep-requires Inv-loop μ-loop
-keep-requires c κs = omega arith
+keep-requires c κs = let a = c .before .before .before .args in
+    let l = c .before .loop in
+    omega (arith, stands-from (a .oldest) (l .i) _ (l .t) (a .s .at) (l .inv .1))
 
 add-i : tie.Need-add-i Inv-loop μ-loop
 add-i c = search needs
@@ -42,16 +43,15 @@ loop-again c = let a = c .before .before .before .before .args in
     let k = c .keep in
     let h : length (a .s .at) ≡ 96 = search needs in (
       omega arith,
-      omega (arith, k .ensures .1),
-      forget-turn (a .oldest) (remembered (l .t)) (remembered (k .result)) (startsFrom (a .oldest) (remembered (a .s))) (a .s .at) (a .s .count) (l .i) (omega arith) (omega arith) (k .ensures .0) (l .inv .2),
+      forget-turn (a .oldest) _ (l .t) (k .result) (a .s .at) (l .i) (omega arith) (l .inv .1) (k .ensures),
     )
 
 returns : tie.Need-returns Inv-loop μ-loop
-unfolding startsFrom
+unfolding over
 returns c = let a = c .before .before .before .args in
     let l = c .before .loop in
     let e : l .i ≡ a .s .count = omega arith in
-    (sym (append-nil (remembered (l .t))) ∙ rw (e, slice-empty (a .s .count) (a .s .at)) at (l .inv .2), omega arith)
+    rw e at (l .inv .1)
 
 pub forget-spec : {M : Type 1} → statement M
 forget-spec =

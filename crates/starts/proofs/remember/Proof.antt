@@ -1,9 +1,9 @@
 -- `starts::remember` meets its contract. Assumes nothing.
-use mathlib.Core.Path.{_≡_, refl}
+use mathlib.Core.Path.{_≡_}
 use native.Mathlib.Omega.{arith}
 use lib.ListN.{length}
 use borrow.Author.Needs.{needs}
-use Rattle.starts.proofs.Places.{take-store}
+use Rattle.starts.proofs.StartLaws.{over-store}
 use Rattle.starts.proofs.remember.Statement.{statement}
 use Rattle.starts.proofs.remember.Tie as tie
 
@@ -18,7 +18,7 @@ add-t c = search needs
 
 returns : tie.Need-returns
 returns c = let h : length (c .args .s .at) ≡ 96 = search needs in
-    (take-store (c .args .s .at) (c .args .s .count) (c .args .x) (omega arith), refl)
+    over-store (c .args .s) (c .args .x) (omega arith)
 
 pub remember-spec : {M : Type 1} → statement M
 remember-spec = tie.close (tie.spec mul-t element-write-t add-t returns)

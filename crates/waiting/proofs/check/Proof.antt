@@ -1,5 +1,4 @@
 -- `waiting::check` meets its contract. Assumes nothing.
-use mathlib.Core.Bool.{false}
 use mathlib.Core.Path.{_≡_, refl}
 use native.Mathlib.Omega.{arith}
 use lib.Ieee.{nan}
@@ -12,7 +11,7 @@ use Rattle.waiting.proofs.check.Tie as tie
 
 returns : tie.Need-returns
 returns c = let a = c .before .args in
-    too-many (record { messages = a .messages; count = a .n }) (record { ok = false; nan = false }) (c .if1 .taken) refl
+    too-many (record { messages = a .messages; count = a .n }) (c .if1 .taken)
 
 look-requires : tie.Need-look-requires
 look-requires c κs = search needs

@@ -1,11 +1,12 @@
 -- `waiting::join` meets its contract. Assumes nothing.
 use mathlib.Core.Path.{_≡_}
-use Prim.Native.Nat.{_≤_}
+use Prim.Native.Nat.{_+_, _≤_}
 use native.Mathlib.Omega.{arith}
-use lib.ListN.{length, take}
+use lib.ListN.{length, length-set, set, take}
+use lib.Seq.{drop-set-lt}
 use borrow.Author.Needs.{needs}
 use Rattle.message.proofs.SpanLaws.{length-mapped}
-use Rattle.waiting.proofs.WaitingLaws.{joined-at, opened-at, outside-message}
+use Rattle.waiting.proofs.WaitingLaws.{joined-at, opened-at, outside-message, over-by}
 use Rattle.waiting.specs.Waiting.{findKey}
 use Rattle.waiting.proofs.join.Statement.{statement}
 use Rattle.waiting.proofs.join.Tie as tie
@@ -31,7 +32,13 @@ element-set-from-p c = search needs
 returns : tie.Need-returns
 returns c = let a = c .before .before .before .before .args in
     let h : length (a .t1 .messages) ≡ 168 = search (needs, length-mapped) in
-    (joined-at (a .f) (a .r) (a .t1 .messages) (a .t1 .count) (c .before .before .before .find .result) (c .merged .result) outside-message (omega arith) (c .before .before .before .find .ensures) (c .before .before .if1 .taken) (c .merged .ensures), omega arith)
+    let n = a .t1 .count in
+    let k = c .before .before .before .find .result in
+    let l = a .t1 .messages in
+    let p = c .merged .result in
+    over-by (a .t1) (record { messages = set l k p; count = n }) _ (omega (arith, length-set l k p))
+    (joined-at (a .f) (a .r) l n k p outside-message (omega arith) (c .before .before .before .find .ensures) (c .before .before .if1 .taken) (c .merged .ensures))
+    (drop-set-lt n l k p (c .before .before .if1 .taken))
 
 opened-requires : tie.Need-opened-requires
 opened-requires c κs = search needs
@@ -49,7 +56,11 @@ returns-2 : tie.Need-returns-2
 returns-2 c = let a = c .before .before .before .args in
     let h : length (a .t1 .messages) ≡ 168 = search (needs, length-mapped) in
     let k : a .t1 .count ≤ findKey (a .f .«device_id») (a .f .counter) (take (a .t1 .count) (a .t1 .messages)) = omega (arith, c .before .before .find .ensures, c .before .if1 .left) in
-    (opened-at (a .f) (a .r) (a .t1 .messages) (a .t1 .count) (c .opened .result) (omega arith) k (c .opened .ensures), omega arith)
+    let n = a .t1 .count in
+    let l = a .t1 .messages in
+    let p = c .opened .result in
+    over-by (a .t1) (record { messages = set l n p; count = n + 1 }) _ (omega (arith, length-set l n p))
+    (opened-at (a .f) (a .r) l n p (omega arith) k (c .opened .ensures)) (drop-set-lt (n + 1) l n p (omega arith))
 
 pub join-spec : {M : Type 1} → statement M
 join-spec =

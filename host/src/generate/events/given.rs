@@ -54,8 +54,10 @@ impl Waiting {
         w.put(3, &[payload as u8, auth as u8]);
         w.put(8, &device.to_le_bytes());
         w.put(12, &counter.to_le_bytes());
-        w.put(16, &rng.bytes(payload));
-        w.put(28, &rng.bytes(auth));
+        // past the lengths there may be something, and between the spans places that hold none
+        let rest = rng.chance(0.5);
+        w.put(16, &rng.bytes(if rest { 12 } else { payload }));
+        w.put(28, &rng.bytes(if rest { 5 } else { auth }));
         w.put(36, &(rng.below(20_000) as i32 - 10_000).to_le_bytes());
         w.put(40, &(rng.real(-120.0, -40.0) as f32).to_le_bytes());
         w.put(44, &[255; 3]);
@@ -63,11 +65,14 @@ impl Waiting {
         if known {
             w.put_f64(56, last - 6.55);
         }
+        let mut place = 0;
         for (i, &rank) in ranks.iter().enumerate() {
             let time = last - 4.0 * (ranks.len() - 1 - i) as f64;
-            w.put(44 + i, &[rank]);
-            w.put_f64(64 + 16 * i, time);
-            w.put_f64(72 + 16 * i, time + 1.45);
+            place += rng.below(4 - (ranks.len() - i) - place);
+            w.put(44 + place, &[rank]);
+            w.put_f64(64 + 16 * place, time);
+            w.put_f64(72 + 16 * place, time + 1.45);
+            place += 1;
         }
         w.put(112, &rng.next().to_le_bytes()[..5]);
         w
@@ -239,7 +244,7 @@ pub fn directed(cases: &mut Vec<Case>) {
 
 /// States in order and every way to spoil one, each with a push and a flush; then a state that is cut short.
 pub fn sample(rate: u32, dbm: &[f32], calls: Calls) -> Calls {
-    let rng = &mut Rng::new(6);
+    let rng = &mut Rng::new(10);
     let r = rate as usize;
     let mut calls = calls;
     for i in 0..RULES {

@@ -1,4 +1,5 @@
 -- `receiver::run::finish` meets its contract. Assumes nothing.
+use Rattle.closing.proofs.WrittenLaws.{records-behind}
 use Rattle.receiver.proofs.RunLaws.{ended}
 use borrow.Author.Needs.{needs}
 use Rattle.receiver.proofs.run.finish.Statement.{statement}
@@ -24,11 +25,14 @@ same-length c = search needs
 
 returns : tie.Need-returns
 returns c k l old e u =
-    let a = c .before .before .before .before .before .before .before .before .before .before .before .before .args in
+    let s = c .before .before .before .before .before .before .before .before .before .before .before .before in
+    let a = s .args in
     let t = c .before .before .before .before .before .before .before .before .before .before .seconds in
     let w = c .before .before .before .before .before .before .before .write-messages in
     let m = c .before .before .before .keep in
-    ended (a .s) l old (a .held) (a .base) (a .unscanned) (a .t) (a .events .now) u k (a .all) e (w .result) _ (rw (t .ensures) at (w .ensures)) (c .over .result) (m .result) (c .over .ensures) (rw (t .ensures) at (m .ensures))
+    let x = rw (t .ensures) at (w .ensures) in
+    ended (a .s) l old (a .held) (a .base) (a .unscanned) (a .t) (a .events .now) u k (a .all) e (w .result) _
+    (λ rs was z q b. records-behind rs _ was (a .events .now) _ (a .t .count) (w .result) z (x .2) q b (s .pre .room) (x .0) (x .1)) (c .over .result) (m .result) (c .over .ensures) (rw (t .ensures) at (m .ensures))
 
 pub finish-spec : {M : Type 1} → statement M
 finish-spec =

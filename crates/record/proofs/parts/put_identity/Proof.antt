@@ -19,17 +19,17 @@ add-put-spare c = search needs
 put-spare-requires : tie.Need-put-spare-requires
 put-spare-requires c κs = search needs
 
-add-copy-into : tie.Need-add-copy-into
-add-copy-into c = search needs
+add-put-up-to : tie.Need-add-put-up-to
+add-put-up-to c = search needs
 
-copy-into-requires : tie.Need-copy-into-requires
-copy-into-requires c κs = search needs
+put-up-to-requires : tie.Need-put-up-to-requires
+put-up-to-requires c κs = search needs
 
-add-copy-into-2 : tie.Need-add-copy-into-2
-add-copy-into-2 c = search needs
+add-put-up-to-2 : tie.Need-add-put-up-to-2
+add-put-up-to-2 c = search needs
 
-copy-into-requires-2 : tie.Need-copy-into-requires-2
-copy-into-requires-2 c κs = search needs
+put-up-to-requires-2 : tie.Need-put-up-to-requires-2
+put-up-to-requires-2 c κs = search needs
 
 add-put-spare-2 : tie.Need-add-put-spare-2
 add-put-spare-2 c = search needs
@@ -49,9 +49,10 @@ returns c = let s6 = c .before .before in
     let s1 = s2 .before .before .before .before in
     let e = s1 .before .before .before .before .before in
     let a = e .args in
-    identity-written (a .out .now) (a .at) (a .device) (a .counter) (a .payload .now) (a .auth .now) (s1 .put-u32 .last .0) (s2 .put-u16 .last .0) (s3 .put-spare .last .0)
-    (s4 .copy-into .last .1 .1 .1 .0) (s5 .copy-into2 .last .1 .1 .1 .0) (s6 .put-spare2 .last .0) (e .pre .1) (e .pre .2)
-    (s1 .put-u32 .ensures) (s2 .put-u16 .ensures) (s3 .put-spare .ensures) (s4 .copy-into .ensures) (s5 .copy-into2 .ensures) (s6 .put-spare2 .ensures)
+    identity-written (a .out .now) (a .at) (a .device) (a .counter) (a .payload-len) (a .auth-len) (a .payload .now) (a .auth .now)
+    (s1 .put-u32 .last .0) (s2 .put-u16 .last .0) (s3 .put-spare .last .0) (s4 .put-up-to .last .0) (s5 .put-up-to2 .last .0) (s6 .put-spare2 .last .0)
+    (e .pre .1) (e .pre .2)
+    (s1 .put-u32 .ensures) (s2 .put-u16 .ensures) (s3 .put-spare .ensures) (s4 .put-up-to .ensures) (s5 .put-up-to2 .ensures) (s6 .put-spare2 .ensures)
 
 pub put-identity-spec : {M : Type 1} → statement M
 put-identity-spec =
@@ -62,10 +63,10 @@ put-identity-spec =
     put-u16-requires
     add-put-spare
     put-spare-requires
-    add-copy-into
-    copy-into-requires
-    add-copy-into-2
-    copy-into-requires-2
+    add-put-up-to
+    put-up-to-requires
+    add-put-up-to-2
+    put-up-to-requires-2
     add-put-spare-2
     put-spare-requires-2
     same-length
