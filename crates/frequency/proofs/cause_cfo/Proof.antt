@@ -33,9 +33,9 @@ add-fits-readings : tie.Need-add-fits-readings
 add-fits-readings c =
     let a = c .before .before .before .before .before .before .before .before .before .before .before .before .args in
     let o = ordered-of (a .t) (lists (a .at .now) (a .lo .now) (a .hz .now) (a .tuned .now) (a .freq .now)) (sym (c .before .before .in-order .ensures) ∙ not-false _ (c .before .if3 .left)) in
-    let h = o .r .places .most in
-    let b = c .before .before .before .before .before .before .before .before .before .before .before .before .good .1 .0 .1 in
-    record { fits = omega arith }
+    let h = o .r .places .ats in
+    let g = c .before .before .before .before .before .before .before .before .before .before .before .before .good .1 in
+    record { fits = omega (arith, h, g .0 .1, g .1 .0 .1) }
 
 fits-readings-requires : tie.Need-fits-readings-requires
 fits-readings-requires c κs = search needs
