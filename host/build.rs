@@ -79,6 +79,11 @@ const REPLACEMENTS: &[(&str, &str, &str)] = &[
         "    pub last_signal: Option<i64>,",
     ),
     ("frequency", "    retuned: bool,", "    pub retuned: bool,"),
+    (
+        "frequency",
+        "    requested: Option<u32>,",
+        "    pub requested: Option<u32>,",
+    ),
     // the start sample of a frame, and of a message's first frame
     (
         "demod",

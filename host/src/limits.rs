@@ -22,6 +22,11 @@ pub fn rate(rate: u32) -> Checked {
     check((200..=4000).contains(&rate), 1)
 }
 
+/// The scratch is long enough.
+pub fn scratch(holds: bool) -> Checked {
+    check(holds, 2)
+}
+
 pub fn at_most(n: usize, most: usize) -> Checked {
     check(n <= most, 3)
 }

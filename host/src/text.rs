@@ -63,6 +63,27 @@ impl<'a> Input<'a> {
         Some(bytes.as_chunks().0.iter().map(|&b| f32::from_le_bytes(b)).collect())
     }
 
+    /// A count, then count f64.
+    pub fn f64s(&mut self) -> Option<Vec<f64>> {
+        let n = self.u32()? as usize;
+        let bytes = self.take(8 * n)?;
+        Some(bytes.as_chunks().0.iter().map(|&b| f64::from_le_bytes(b)).collect())
+    }
+
+    /// A count, then count u64.
+    pub fn u64s(&mut self) -> Option<Vec<u64>> {
+        let n = self.u32()? as usize;
+        let bytes = self.take(8 * n)?;
+        Some(bytes.as_chunks().0.iter().map(|&b| u64::from_le_bytes(b)).collect())
+    }
+
+    /// A count, then count u32.
+    pub fn u32s(&mut self) -> Option<Vec<u32>> {
+        let n = self.u32()? as usize;
+        let bytes = self.take(4 * n)?;
+        Some(bytes.as_chunks().0.iter().map(|&b| u32::from_le_bytes(b)).collect())
+    }
+
     /// A count, then count u16.
     pub fn u16s(&mut self) -> Option<Vec<u16>> {
         let n = self.u32()? as usize;

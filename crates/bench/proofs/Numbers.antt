@@ -2,7 +2,7 @@
 use mathlib.Core.Path.{_≡_, refl, sym, _∙_, subst}
 use mathlib.Core.Bool.{Bool, true, false, not, _&&_}
 use mathlib.Core.List.{List, [], _∷_}
-use Prim.Native.Nat.{ℕ, zero, suc, _+_, _≤_, _<_, _^_}
+use Prim.Native.Nat.{ℕ, zero, suc, _+_, _≤_, _<_}
 use native.Mathlib.Numerals.{add-one}
 use native.Mathlib.Omega.{arith}
 use lib.Dec.{T}
@@ -50,12 +50,8 @@ module _ (f : Format) (l : List Float) (k : ℕ) where
   past h = simp (le-leb _ _ h)
 
   module _ (h : k < length l) where
-    pub too-long : 2 ^ 32 ≤ length l → ofBits f 0 ≡ selected f l k
-    too-long g = simp (lt-leb _ _ h, le-leb _ _ g)
+    pub no-number : numbers l ≡ false → ofBits f 0 ≡ selected f l k
+    no-number e = simp (lt-leb _ _ h, e)
 
-    module _ (g : length l < 2 ^ 32) where
-      pub no-number : numbers l ≡ false → ofBits f 0 ≡ selected f l k
-      no-number e = simp (lt-leb _ _ h, lt-leb _ _ g, e)
-
-      pub answered : numbers l ≡ true → kth f l k ≡ selected f l k
-      answered e = simp (lt-leb _ _ h, lt-leb _ _ g, e)
+    pub answered : numbers l ≡ true → kth f l k ≡ selected f l k
+    answered e = simp (lt-leb _ _ h, e)

@@ -1,5 +1,5 @@
--- What the benchmark's selections answer: order's, or 0 where the index is past the list, the list is too long or a NaN is in it.
-use Prim.Native.Nat.{ℕ, _^_}
+-- What the benchmark's selections answer: order's, or 0 where the index is past the list or a NaN is in it.
+use Prim.Native.Nat.{ℕ}
 use mathlib.Core.Bool.{Bool, true, cond, _&&_}
 use mathlib.Core.List.{List, [], _∷_}
 use lib.Dec.{leb}
@@ -13,4 +13,4 @@ numbers [] = true
 numbers (x ∷ l) = eq x x && numbers l
 
 abbrev pub selected : Format → List Float → ℕ → Float
-selected f l k = cond (leb (length l) k) (ofBits f 0) (cond (leb (2 ^ 32) (length l)) (ofBits f 0) (cond (numbers l) (kth f l k) (ofBits f 0)))
+selected f l k = cond (leb (length l) k) (ofBits f 0) (cond (numbers l) (kth f l k) (ofBits f 0))

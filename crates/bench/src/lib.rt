@@ -40,9 +40,6 @@ pub extern "C" fn bench_select32(xs: &[f32], k: usize) -> f32
     if xs.len() <= k {
         return 0.0;
     }
-    if 0xffff_ffff < xs.len() {
-        return 0.0;
-    }
     if all_numbers32(xs) {
         return order::select32(xs, k);
     }
@@ -69,9 +66,6 @@ pub extern "C" fn bench_select64(xs: &[f64], k: usize) -> f64
     ensures { λ r. ⌜ r ≡ selected binary64 (now (xs .entry)) k ⌝ }
 {
     if xs.len() <= k {
-        return 0.0;
-    }
-    if 0xffff_ffff < xs.len() {
         return 0.0;
     }
     if all_numbers64(xs) {

@@ -37,10 +37,8 @@ free-of s at lo hz out ok e =
     let c = not-refused 4 _ (not (readingsInOrder s at lo hz)) (b .1) in
     let d = not-refused 8 _ (not (numbersOk s hz && ok)) (c .1) in
     let o = ordered-r s at lo hz (not-false (readingsInOrder s at lo hz) (c .0)) in
-    let m = o .places .most in
     record {
       rows = record { ats = o .places .ats; los = o .places .los; hzs = o .places .hzs; outs = ltb-false (length out) (s .readings) (b .0) };
-      few = omega arith;
       numbers = and-right (floatsOk s) (noNan (take (s .readings) hz)) (and-left (numbersOk s hz) ok (not-false (numbersOk s hz && ok) (d .0)));
     }
 
@@ -116,7 +114,7 @@ module _ (rate : ℕ) (rs : List Reading) (spans abc : List FrameSpan) (S : span
 pub free-again : (n : ℕ) (at lo : List ℕ) (hz out out′ : List Float) → Free n at lo hz out → length out′ ≡ length out → Free n at lo hz out′
 free-again n at lo hz out out′ f e =
     let o = f .rows .outs in
-    record { rows = record { ats = f .rows .ats; los = f .rows .los; hzs = f .rows .hzs; outs = omega arith }; few = f .few; numbers = f .numbers }
+    record { rows = record { ats = f .rows .ats; los = f .rows .los; hzs = f .rows .hzs; outs = omega arith }; numbers = f .numbers }
 
 -- what stands at a place that is not there
 abbrev pub blank : FrameSpan

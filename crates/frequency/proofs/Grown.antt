@@ -18,7 +18,7 @@ use Rattle.signal.specs.Order.{Index, indexOk, signalOk}
 use Rattle.signal.specs.Heard.{heard}
 use Rattle.signal.specs.Seconds.{kept}
 use Rattle.retain.specs.Retain.{stays}
-use Rattle.lists.specs.Lists.{Reading, Tuning, mostPlaces, every, upTo, noNan, lastOr, readingsFrom}
+use Rattle.lists.specs.Lists.{Reading, Tuning, every, upTo, noNan, lastOr, readingsFrom}
 use Rattle.lists.specs.Marks.{retained}
 use Rattle.measure.specs.Measured.{readingsOf}
 use Rattle.tuning.specs.Ranges.{stepOk}
@@ -82,7 +82,6 @@ packed-sound u l g r t =
     record {
       good = subst Good (sym (unpack u l)) g;
       readings = record {
-        most = r .most;
         ats = subst (λ (n : ℕ). length (u .readings) ≤ n) (sym a) (r .ats);
         los = subst (λ (n : ℕ). length (u .readings) ≤ n) (sym b) (r .los);
         hzs = subst (λ (n : ℕ). length (u .readings) ≤ n) (sym c) (r .hzs);
@@ -99,11 +98,10 @@ counts-of s l h = record { beside = record { ats = h .readings .ats; los = h .re
 
 fewer : (n m : ℕ) (at lo : List ℕ) (hz : List Float) → n ≤ m → Readings m at lo hz → Readings n at lo hz
 fewer n m at lo hz h r =
-    let a = r .most in
-    let b = r .ats in
-    let c = r .los in
-    let d = r .hzs in
-    record { most = omega arith; ats = omega arith; los = omega arith; hzs = omega arith }
+    let a = r .ats in
+    let b = r .los in
+    let c = r .hzs in
+    record { ats = omega arith; los = omega arith; hzs = omega arith }
 
 fewer-tunings : (n m : ℕ) (tun fre : List ℕ) → n ≤ m → Tunings m tun fre → Tunings n tun fre
 fewer-tunings n m tun fre h r = let a = r .tuneds in let b = r .freqs in record { tuneds = omega arith; freqs = omega arith }
@@ -133,7 +131,7 @@ sound-new rate base step l b e =
         ats = refl;
         numbers = refl;
       };
-      readings = record { most = omega arith; ats = omega arith; los = omega arith; hzs = omega arith };
+      readings = record { ats = omega arith; los = omega arith; hzs = omega arith };
       tunings = record { tuneds = omega arith; freqs = omega arith };
     }
 
@@ -249,7 +247,6 @@ in-order s l o i =
       le-leb (s .tunings) (length (l .tuned)) (i .tunings .tuneds),
       le-leb (s .tunings) (length (l .freq)) (i .tunings .freqs),
       b,
-      le-leb (s .readings) mostPlaces (i .readings .most),
       le-leb (s .readings) (length (l .at)) (i .readings .ats),
       le-leb (s .readings) (length (l .lo)) (i .readings .los),
       le-leb (s .readings) (length (l .hz)) (i .readings .hzs),

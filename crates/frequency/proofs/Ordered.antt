@@ -16,7 +16,7 @@ use Rattle.signal.specs.declared.Sample.the-variants.{Never, At}
 use Rattle.signal.specs.declared.Signal.{Signal}
 use Rattle.signal.specs.Order.{Index, indexOk, signalOk}
 use Rattle.signal.specs.Seconds.{Rate}
-use Rattle.lists.specs.Lists.{upTo, mostPlaces, fitsReadings, fitsTunings}
+use Rattle.lists.specs.Lists.{upTo, fitsReadings, fitsTunings}
 use Rattle.lists.proofs.Every.{up-to-at}
 use Rattle.retain.specs.Retain.{Held, HeldTunings}
 use Rattle.frequency.specs.declared.FrequencyTracker.{FrequencyTracker}
@@ -66,24 +66,20 @@ tunings-of count tuned freq e =
 
 -- places for the readings
 pub record Readings (count : ℕ) (at lo : List ℕ) (hz : List Float) : Type 0 where
-  pub most : count ≤ mostPlaces
   pub ats : count ≤ length at
   pub los : count ≤ length lo
   pub hzs : count ≤ length hz
 
 pub readings-of : (count : ℕ) (at lo : List ℕ) (hz : List Float) → fitsReadings count at lo hz ≡ true → Readings count at lo hz
 readings-of count at lo hz e =
-    let m = leb count mostPlaces in
     let a = leb count (length at) in
     let b = leb count (length lo) in
     let c = leb count (length hz) in
-    let e₁ : (a && (b && c)) ≡ true = and-right m (a && (b && c)) e in
-    let e₂ : (b && c) ≡ true = and-right a (b && c) e₁ in
+    let e₁ : (b && c) ≡ true = and-right a (b && c) e in
     record {
-      most = leb-true count mostPlaces (and-left m (a && (b && c)) e);
-      ats = leb-true count (length at) (and-left a (b && c) e₁);
-      los = leb-true count (length lo) (and-left b c e₂);
-      hzs = leb-true count (length hz) (and-right b c e₂);
+      ats = leb-true count (length at) (and-left a (b && c) e);
+      los = leb-true count (length lo) (and-left b c e₁);
+      hzs = leb-true count (length hz) (and-right b c e₁);
     }
 
 -- a state in order

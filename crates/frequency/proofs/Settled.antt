@@ -2,7 +2,7 @@
 use mathlib.Core.Path.{_≡_, refl, sym, ap, _∙_, subst}
 use mathlib.Core.Bool.{Bool, true, false, not}
 use mathlib.Core.List.{List, map}
-use Prim.Native.Nat.{ℕ, _^_, _≤_, _<_}
+use Prim.Native.Nat.{ℕ, _≤_, _<_}
 use native.Mathlib.Omega.{arith}
 use borrow.Author.Tests.{ltb-false, not-false, le-leb, lt-leb}
 use lib.Dec.{ltb}
@@ -55,14 +55,11 @@ fine s l room e =
     }
 
 pub settling-of : (s : FrequencyTracker) (l : Lists) (out : List Float) → Fine s l (length out) → Settling s (l .at) (l .hz) out
-settling-of s l out f =
-    let m = f .ordered .r .places .most in
-    record {
-      steady = record { rates = f .rate; stream = f .ordered .t .signals .stream; last = f .ordered .t .signals .last; from = f .ordered .t .signals .from };
-      lined = record { ats = f .ordered .r .places .ats; hzs = f .ordered .r .places .hzs; outs = f .scratch; small = held-of s l (f .ordered) .small };
-      few = omega arith;
-      numbers = f .numbers;
-    }
+settling-of s l out f = record {
+  steady = record { rates = f .rate; stream = f .ordered .t .signals .stream; last = f .ordered .t .signals .last; from = f .ordered .t .signals .from };
+  lined = record { ats = f .ordered .r .places .ats; hzs = f .ordered .r .places .hzs; outs = f .scratch; small = held-of s l (f .ordered) .small };
+  numbers = f .numbers;
+}
 
 module _ (s : FrequencyTracker) (l : Lists) (o : Counts s l) where
   settled-is : settledHz (tracker s l) ≡ settledOf s (l .at) (l .hz)
@@ -123,17 +120,15 @@ module _ (s : FrequencyTracker) (at : List ℕ) (hz out : List Float) (S : Settl
   unfolding settledBy
   too-few h = let e = count-is in rw (lt-leb fewest (length (settledOf s at hz)) (omega arith)) refl
 
-  pub median-fits : fewest ≤ m → (0 < m) × (m ≤ length out′) × (m < 2 ^ 32) × (noNan (take m out′) ≡ true)
+  pub median-fits : fewest ≤ m → (0 < m) × (m ≤ length out′) × (noNan (take m out′) ≡ true)
   median-fits h =
       let bs = map (late (s .rate) (s .signal .«frame_from»)) (take (s .readings) at) in
       let n = n-bs in
       let k = marked-le bs in
       let z = S .lined .hzs in
       let o = S .lined .outs in
-      let w = S .few in
       let e : length out′ ≡ length out = ap length O ∙ length-gathered bs hz out (omega arith) (omega arith) in (
         omega arith,
-        omega (arith, M),
         omega (arith, M),
         subst (λ (x : List Float). noNan x ≡ true) (sym (front-is ∙ sym (retained-take bs (s .readings) hz (omega arith)))) (every-retained (λ (x : Float). not (isNan x)) bs (take (s .readings) hz) (S .numbers)),
       )

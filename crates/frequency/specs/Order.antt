@@ -28,11 +28,11 @@ readingsInOrder s at lo hz = signalOk (s .«line_start») (s .signal) && (fitsRe
 abbrev pub inOrder : FrequencyTracker → Lists → Bool
 inOrder s l = tuningsInOrder s (l .tuned) (l .freq) && readingsInOrder s (l .at) (l .lo) (l .hz)
 
--- number 9: the step's and the floor's range
+-- number 9: the step's and the floor's range, of every call
 abbrev pub floatsOk : FrequencyTracker → Bool
 floatsOk s = stepOk (s .«step_hz») && floorOk (s .signal .floor)
 
--- the calls with a median look at the readings' frequencies too
+-- 'any NaN': a call that is lent the readings looks at the frequencies that the count names too
 unfoldable pub numbersOk : FrequencyTracker → List Float → Bool
 numbersOk s hz = floatsOk s && noNan (take (s .readings) hz)
 
@@ -70,7 +70,7 @@ causeSamples s l dbm =
     (cond (not (allDbm dbm)) badSample
     (cond (not (inOrder s l)) badState
     (cond (ltb longestStream (s .signal .n + length dbm)) stream
-    (cond (not (floatsOk s)) badNumber 0)))))
+    (cond (not (numbersOk s (l .hz))) badNumber 0)))))
 
 -- cfo: 1, 3, 5, 8 'held + given readings over the lists', 9
 unfoldable pub causeCfo : FrequencyTracker → Lists → List ℕ → ℕ
@@ -79,7 +79,7 @@ causeCfo s l raw =
     (cond (ltb mostReadings (length raw)) long
     (cond (not (inOrder s l)) badState
     (cond (not (fitsReadings (s .readings + length raw) (l .at) (l .lo) (l .hz))) full
-    (cond (not (floatsOk s)) badNumber 0))))
+    (cond (not (numbersOk s (l .hz))) badNumber 0))))
 
 -- next_tuning: 1, 2 (f64 scratch, one for each reading held), 5, 9
 unfoldable pub causeNext : FrequencyTracker → Lists → ℕ → ℕ

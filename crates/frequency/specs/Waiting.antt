@@ -1,5 +1,5 @@
 -- `next_tuning` on the parallel slices, and what its parts ask of them. Assumes nothing.
-use Prim.Native.Nat.{ℕ, _<_, _^_}
+use Prim.Native.Nat.{ℕ}
 use mathlib.Core.Path.{_≡_}
 use mathlib.Core.Bool.{true}
 use mathlib.Core.List.{List, map}
@@ -18,7 +18,6 @@ use Rattle.tuning.specs.Steps.{Steady, isAsked, waits, settledBy, pickStep}
 pub record Settling (s : FrequencyTracker) (at : List ℕ) (hz out : List Float) : Type 0 where
   pub steady : Steady (s .rate) (s .signal)
   pub lined : Lined (s .readings) at hz out
-  pub few : s .readings < 2 ^ 32
   pub numbers : noNan (take (s .readings) hz) ≡ true
 
 -- settledHz and stepOf, of the slices

@@ -225,7 +225,7 @@ fn cause_samples(
     if signal.n + (dbm.len() as u64) > limits::LONGEST_STREAM {
         return limits::STREAM;
     }
-    if !floats_ok(t) {
+    if !numbers_ok(t, hz) {
         return limits::BAD_NUMBER;
     }
     0
@@ -255,7 +255,7 @@ fn cause_cfo(
     if !lists::fits_readings(t.readings + raw.len(), at, lo, hz) {
         return limits::FULL;
     }
-    if !floats_ok(t) {
+    if !numbers_ok(t, hz) {
         return limits::BAD_NUMBER;
     }
     0

@@ -32,13 +32,9 @@ unfoldable pub every : {A : Type 0} → (A → Bool) → List A → Bool
 every p [] = true
 every p (x ∷ l) = p x && every p l
 
--- 'tracker counts within their lists': each of the parallel lists has a place for every reading. A list's places past 2^32 - 1 are not used, since the medians
--- count in 32 bits
-abbrev pub mostPlaces : ℕ
-mostPlaces = 4294967295
-
+-- 'tracker counts within their lists': each of the parallel lists has a place for every reading
 abbrev pub fitsReadings : ℕ → List ℕ → List ℕ → List Float → Bool
-fitsReadings end at lo hz = leb end mostPlaces && (leb end (length at) && (leb end (length lo) && leb end (length hz)))
+fitsReadings end at lo hz = leb end (length at) && (leb end (length lo) && leb end (length hz))
 
 abbrev pub fitsTunings : ℕ → List ℕ → List ℕ → Bool
 fitsTunings end tuned freq = leb end (length tuned) && leb end (length freq)

@@ -15,9 +15,6 @@ ghost use Rattle.lists.specs.Columns.{PutTuning, PutReading, Appended};
 // One CFO value per 8 RSSI samples.
 const CFO_EVERY: u64 = 8;
 
-// The places of a list of readings that are used: the medians count in 32 bits.
-const MOST_PLACES: usize = 4_294_967_295;
-
 // The elements of a block. A loop over a number of elements that is known is laid out without a test between them, which takes
 // two thirds of the time.
 const BLOCK: usize = 128;
@@ -229,11 +226,10 @@ pub fn read_values(
 pub fn fits_readings(end: usize, at: &[u64], lo: &[u32], hz: &[f64]) -> bool
     ensures { λ r. ⌜ r ≡ fitsReadings end (now (at .entry)) (now (lo .entry)) (now (hz .entry)) ⌝ }
 {
-    let most = end <= MOST_PLACES;
     let a = end <= at.len();
     let b = end <= lo.len();
     let c = end <= hz.len();
-    most & (a & (b & c))
+    a & (b & c)
 }
 
 // Whether end places are there in each list of tunings.

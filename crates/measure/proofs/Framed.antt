@@ -2,7 +2,7 @@
 use mathlib.Core.Path.{_≡_, sym, ap, _∙_, subst}
 use mathlib.Core.Bool.{Bool, true, not}
 use mathlib.Core.List.{List, map}
-use Prim.Native.Nat.{ℕ, _^_, _≤_, _<_}
+use Prim.Native.Nat.{ℕ, _≤_, _<_}
 use native.Mathlib.Nat.{pos-of-ne-zero}
 use native.Mathlib.Omega.{arith}
 use lib.Dec.{eqb}
@@ -86,15 +86,13 @@ module _ (rate : ℕ) (time end : Float) (count : ℕ) (at lo : List ℕ) (hz ou
       pub few-seen : m < fewest → frameBy rate time end (take count at) (take count lo) (take count hz) ≡ Unmeasured
       few-seen h = by-few rate time end (take count at) (take count lo) (take count hz) nl nh last last-is some-seen (subst (λ (n : ℕ). n < fewest) count-is h)
 
-      pub median-fits : fewest ≤ m → (0 < m) × (m ≤ length out′) × (m < 2 ^ 32) × (noNan (take m out′) ≡ true)
+      pub median-fits : fewest ≤ m → (0 < m) × (m ≤ length out′) × (noNan (take m out′) ≡ true)
       median-fits h =
           let n = n-bs in
           let k = marked-le bs in
           let e = count-is in
           let z = out-size in
-          let o = F .rows .outs in
-          let w = F .few in (
-            omega arith,
+          let o = F .rows .outs in (
             omega arith,
             omega arith,
             subst (λ (l : List Float). noNan l ≡ true) (sym (front-is ∙ sym hzs-are)) (every-retained (λ (x : Float). not (isNan x)) bs (take count hz) (F .numbers)),

@@ -24,5 +24,4 @@ pub record Rows (count : ℕ) (at lo : List ℕ) (hz out : List Float) : Type 0 
 -- and none of their frequencies is a NaN
 pub record Free (count : ℕ) (at lo : List ℕ) (hz out : List Float) : Type 0 where
   pub rows : Rows count at lo hz out
-  pub few : count < 2 ^ 32
   pub numbers : noNan (take count hz) ≡ true

@@ -85,7 +85,7 @@ pub fn gather_late(
 
 // The median of the first m: index m / 2 of their order (median).
 pub fn median_of(xs: &[f64], m: usize) -> f64
-    requires { ⌜ (0 < m) × (m ≤ length (now xs)) × (m < 2 ^ 32) × (noNan (take m (now xs)) ≡ true) ⌝ }
+    requires { ⌜ (0 < m) × (m ≤ length (now xs)) × (noNan (take m (now xs)) ≡ true) ⌝ }
     ensures { λ r. ⌜ r ≡ median (take m (now (xs .entry))) ⌝ }
 {
     let part = &xs[..m];

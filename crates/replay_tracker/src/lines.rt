@@ -97,18 +97,81 @@ fn print_reading(at: u64, lo: u32, hz: f64) {
     replay::print_f64(hz);
 }
 
+// The reading at a place that all three lists have.
+fn print_place(i: usize, at: &[u64], lo: &[u32], hz: &[f64]) {
+    if i < at.len() {
+        if i < lo.len() {
+            if i < hz.len() {
+                print_reading(at[i], lo[i], hz[i]);
+            }
+        }
+    }
+}
+
 // The number of readings, and the last of them.
-pub fn print_readings(n: usize, at: &[u64; 8000], lo: &[u32; 8000], hz: &[f64; 8000]) -> bool {
+pub fn print_readings(n: usize, at: &[u64], lo: &[u32], hz: &[f64]) -> bool {
     replay::print(b"cfo ");
     replay::print_number(n as u64);
     if n == 0 {
         return replay::print_end();
     }
-    let i = n - 1;
-    if i < 8000 {
-        print_reading(at[i], lo[i], hz[i]);
-        return replay::print_end();
+    print_place(n - 1, at, lo, hz);
+    replay::print_end()
+}
+
+fn print_u64s(xs: &[u64]) {
+    replay::print(b" ");
+    replay::print_number(xs.len() as u64);
+    let mut i: usize = 0;
+    while i < xs.len() {
+        replay::print(b" ");
+        replay::print_number(xs[i]);
+        i += 1;
     }
+}
+
+fn wide(x: u32) -> u64 {
+    x as u64
+}
+
+fn print_u32s(xs: &[u32]) {
+    replay::print(b" ");
+    replay::print_number(xs.len() as u64);
+    let mut i: usize = 0;
+    while i < xs.len() {
+        replay::print(b" ");
+        replay::print_number(wide(xs[i]));
+        i += 1;
+    }
+}
+
+fn print_f64s(xs: &[f64]) {
+    replay::print(b" ");
+    replay::print_number(xs.len() as u64);
+    let mut i: usize = 0;
+    while i < xs.len() {
+        replay::print(b" ");
+        replay::print_f64(xs[i]);
+        i += 1;
+    }
+}
+
+// Every place of the five lists, and what is asked for.
+pub fn print_lists(
+    requested: Frequency,
+    at: &[u64],
+    lo: &[u32],
+    hz: &[f64],
+    tuned: &[u64],
+    freq: &[u32],
+) -> bool {
+    replay::print(b"lists ");
+    print_frequency(requested);
+    print_u64s(at);
+    print_u32s(lo);
+    print_f64s(hz);
+    print_u64s(tuned);
+    print_u32s(freq);
     replay::print_end()
 }
 

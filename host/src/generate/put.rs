@@ -50,6 +50,21 @@ impl Put {
         self.u32(xs.len() as u32).put(&bytes)
     }
 
+    pub fn f64s(self, xs: &[f64]) -> Self {
+        let bytes: Vec<u8> = xs.iter().flat_map(|x| x.to_le_bytes()).collect();
+        self.u32(xs.len() as u32).put(&bytes)
+    }
+
+    pub fn u64s(self, xs: &[u64]) -> Self {
+        let bytes: Vec<u8> = xs.iter().flat_map(|x| x.to_le_bytes()).collect();
+        self.u32(xs.len() as u32).put(&bytes)
+    }
+
+    pub fn u32s(self, xs: &[u32]) -> Self {
+        let bytes: Vec<u8> = xs.iter().flat_map(|x| x.to_le_bytes()).collect();
+        self.u32(xs.len() as u32).put(&bytes)
+    }
+
     pub fn u16s(self, xs: &[u16]) -> Self {
         let bytes: Vec<u8> = xs.iter().flat_map(|x| x.to_le_bytes()).collect();
         self.u32(xs.len() as u32).put(&bytes)

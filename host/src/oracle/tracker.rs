@@ -1,44 +1,114 @@
 //! `tracker`: the frequency tracker, call by call.
 
+mod given;
+
 use super::{line, spans};
-use crate::limits::{self, MOST_READINGS, READINGS_HELD, TUNINGS_HELD};
+use crate::limits::{self, Checked, MOST_READINGS};
 use crate::rust::frequency::{FrameSpan, FrequencyTracker};
 use crate::text::{Input, hex64, or_dash};
 
-/// A tracker with the programs' lists, that refuses what 01 refuses.
+/// A tracker with the lists that are lent to it, that refuses what 01 refuses.
 pub struct Tracker {
     rate: u32,
+    step_hz: f64,
     pub inner: FrequencyTracker,
+    lent: given::Lent,
 }
 
 impl Tracker {
     pub fn new(rate: u32, base_freq: u32, step_hz: f64) -> Result<Self, u8> {
         limits::rate(rate)?;
         limits::step(step_hz)?;
-        let inner = FrequencyTracker::new(rate, base_freq, step_hz);
-        Ok(Self { rate, inner })
+        Ok(Self {
+            rate,
+            step_hz,
+            inner: FrequencyTracker::new(rate, base_freq, step_hz),
+            lent: given::Lent::empty(),
+        })
     }
 
-    pub fn tuned(&mut self, freq: u32) -> Result<(), u8> {
+    /// Cause 5 of a call that is lent the tunings.
+    fn tunings_in_order(&self) -> Checked {
+        limits::order(given::tunings_in_order(&self.lent, &self.inner))
+    }
+
+    /// Cause 5 of a call that is lent the readings.
+    fn readings_in_order(&self) -> Checked {
+        limits::order(given::readings_in_order(&self.lent, &self.inner))
+    }
+
+    /// Cause 9 of every call.
+    fn ranges(&self) -> Checked {
+        limits::step(self.step_hz)?;
+        limits::number(given::floor_ok(&self.inner))
+    }
+
+    /// Cause 9 of a call that is lent the readings.
+    fn numbers(&self) -> Checked {
+        self.ranges()?;
+        limits::number(!given::any_nan(&self.inner))
+    }
+
+    pub fn tuned(&mut self, freq: u32) -> Checked {
+        limits::rate(self.rate)?;
+        self.tunings_in_order()?;
         let due = freq != self.inner.freq() || self.inner.tuning.is_empty();
-        limits::room(self.inner.tuning.len() + usize::from(due), TUNINGS_HELD)?;
+        limits::room(self.inner.tuning.len() + usize::from(due), self.lent.tuning_places())?;
+        self.ranges()?;
         self.inner.tuned(freq);
+        self.lent.store_tunings(&self.inner);
         Ok(())
     }
 
-    pub fn samples(&mut self, dbm: &[f32]) -> Result<(), u8> {
+    pub fn samples(&mut self, dbm: &[f32]) -> Checked {
+        limits::rate(self.rate)?;
         limits::sample_count(dbm.len(), self.rate)?;
         limits::samples(dbm)?;
+        self.tunings_in_order()?;
+        self.readings_in_order()?;
         limits::stream(self.inner.n as usize + dbm.len())?;
+        self.numbers()?;
         self.inner.samples(dbm);
+        self.lent.store_tunings(&self.inner);
+        self.lent.store_readings(&self.inner);
         Ok(())
     }
 
-    pub fn cfo(&mut self, raw: &[u16]) -> Result<(), u8> {
+    pub fn cfo(&mut self, raw: &[u16]) -> Checked {
+        limits::rate(self.rate)?;
         limits::at_most(raw.len(), MOST_READINGS)?;
-        limits::room(self.inner.readings.len() + raw.len(), READINGS_HELD)?;
+        self.tunings_in_order()?;
+        self.readings_in_order()?;
+        limits::room(self.inner.readings.len() + raw.len(), self.lent.reading_places())?;
+        self.numbers()?;
         self.inner.cfo(raw);
+        self.lent.store_readings(&self.inner);
         Ok(())
+    }
+
+    fn next_tuning(&mut self) -> Result<Option<u32>, u8> {
+        limits::rate(self.rate)?;
+        self.lent.scratch()?;
+        self.tunings_in_order()?;
+        self.readings_in_order()?;
+        self.numbers()?;
+        Ok(self.inner.next_tuning())
+    }
+
+    /// The causes of `frame_frequency` and `frame1`, and their spans.
+    fn frames<'a>(&self, spans: &'a Result<Vec<FrameSpan>, u8>) -> Result<&'a [FrameSpan], u8> {
+        limits::rate(self.rate)?;
+        self.lent.scratch()?;
+        self.readings_in_order()?;
+        self.numbers()?;
+        spans.as_deref().map_err(|&n| n)
+    }
+
+    fn freq(&self) -> Result<u32, u8> {
+        limits::rate(self.rate)?;
+        self.tunings_in_order()?;
+        self.ranges()?;
+        Ok(self.inner.freq())
     }
 }
 
@@ -46,7 +116,13 @@ pub fn stream(input: &mut Input, out: &mut String) -> Option<()> {
     let (rate, base_freq, step_hz) = (input.u32()?, input.u32()?, input.f64()?);
     let mut tracker = Tracker::new(rate, base_freq, step_hz);
     while !input.is_empty() {
-        let call = Call::read(input)?;
+        let call = match input.u8()? {
+            7 => {
+                tracker = Ok(given::read(input)?);
+                continue;
+            }
+            number => Call::read(number, input)?,
+        };
         let answer = tracker
             .as_mut()
             .map_err(|&mut n| n)
@@ -64,11 +140,12 @@ enum Call {
     FrameFrequency(Result<Vec<FrameSpan>, u8>),
     Frame1(bool, Result<Vec<FrameSpan>, u8>),
     Freq,
+    Lists,
 }
 
 impl Call {
-    fn read(input: &mut Input) -> Option<Self> {
-        Some(match input.u8()? {
+    fn read(number: u8, input: &mut Input) -> Option<Self> {
+        Some(match number {
             0 => Self::Tuned(input.u32()?),
             1 => Self::Samples(input.f32s()?),
             2 => Self::Cfo(input.u16s()?),
@@ -79,6 +156,7 @@ impl Call {
                 Self::Frame1(downlink != 0, spans(input, count)?)
             }
             6 => Self::Freq,
+            8 => Self::Lists,
             call => panic!("tracker has no call {call}"),
         })
     }
@@ -98,24 +176,21 @@ impl Call {
                 cfo_line(&tracker.inner)
             }
             Self::NextTuning => {
-                let next = or_dash(tracker.inner.next_tuning());
+                let next = or_dash(tracker.next_tuning()?);
                 format!("next {next} {}", u8::from(tracker.inner.retuned))
             }
             Self::FrameFrequency(span) => {
-                let answer = tracker.inner.frame_frequency(&checked(span)?[0]);
+                let answer = tracker.inner.frame_frequency(&tracker.frames(span)?[0]);
                 answer.map_or("ff -".to_string(), |f| format!("ff {} {}", hex64(f.hz), f.lo))
             }
             Self::Frame1(downlink, spans) => {
-                let answer = tracker.inner.frame1(checked(spans)?, *downlink);
+                let answer = tracker.inner.frame1(tracker.frames(spans)?, *downlink);
                 format!("frame1 {}", or_dash(answer))
             }
-            Self::Freq => format!("since_freq {}", tracker.inner.freq()),
+            Self::Freq => format!("since_freq {}", tracker.freq()?),
+            Self::Lists => given::line(&tracker.lent, &tracker.inner),
         })
     }
-}
-
-fn checked(spans: &Result<Vec<FrameSpan>, u8>) -> Result<&[FrameSpan], u8> {
-    spans.as_deref().map_err(|&n| n)
 }
 
 fn samples_line(t: &FrequencyTracker) -> String {

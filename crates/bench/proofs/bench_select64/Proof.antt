@@ -1,8 +1,7 @@
 -- `bench::bench_select64` meets its contract. Assumes nothing.
 use mathlib.Core.Path.{sym, _∙_}
-use native.Mathlib.Omega.{arith}
 use lib.Ieee.{binary64}
-use Rattle.bench.proofs.Numbers.{none-nan, past, too-long, no-number, answered}
+use Rattle.bench.proofs.Numbers.{none-nan, past, no-number, answered}
 use borrow.Author.Needs.{needs}
 use Rattle.bench.proofs.bench_select64.Statement.{statement}
 use Rattle.bench.proofs.bench_select64.Tie as tie
@@ -10,31 +9,25 @@ use Rattle.bench.proofs.bench_select64.Tie as tie
 returns : tie.Need-returns
 returns c = past binary64 (c .before .before .args .xs .now) (c .before .before .args .k) (c .if1 .taken)
 
-returns-2 : tie.Need-returns-2
-returns-2 c = too-long binary64 (c .before .before .before .args .xs .now) (c .before .before .before .args .k) (c .before .if1 .left) (c .if2 .taken)
-
 all-numbers64-requires : tie.Need-all-numbers64-requires
 all-numbers64-requires c κs = search needs
 
 select64-requires : tie.Need-select64-requires
 select64-requires c κs =
     let a = c .before .all-numbers64 in
-    (c .before .before .before .if1 .left, omega (arith, c .before .before .if2 .left), none-nan (c .before .before .before .before .before .args .xs .now) (sym (a .ensures) ∙ c .if3 .taken))
+    (c .before .before .if1 .left, none-nan (c .before .before .before .before .args .xs .now) (sym (a .ensures) ∙ c .if2 .taken))
+
+returns-2 : tie.Need-returns-2
+returns-2 c =
+    let t = c .before .before in
+    let b = t .before .before .before in
+    c .select64 .ensures ∙ answered binary64 (b .args .xs .now) (b .args .k) (t .before .if1 .left) (sym (t .all-numbers64 .ensures) ∙ c .before .if2 .taken)
 
 returns-3 : tie.Need-returns-3
 returns-3 c =
-    let t = c .before .before in
-    let b = t .before .before .before .before in
-    c .select64 .ensures
-    ∙ answered binary64 (b .args .xs .now) (b .args .k) (t .before .before .if1 .left) (omega (arith, t .before .if2 .left)) (sym (t .all-numbers64 .ensures) ∙ c .before .if3 .taken)
-
-returns-4 : tie.Need-returns-4
-returns-4 c =
     let t = c .before in
-    let b = t .before .before .before .before in
-    no-number binary64 (b .args .xs .now) (b .args .k) (t .before .before .if1 .left) (omega (arith, t .before .if2 .left)) (sym (t .all-numbers64 .ensures) ∙ c .if3 .left)
+    let b = t .before .before .before in
+    no-number binary64 (b .args .xs .now) (b .args .k) (t .before .if1 .left) (sym (t .all-numbers64 .ensures) ∙ c .if2 .left)
 
 pub bench-select64-spec : {M : Type 1} → statement M
-bench-select64-spec =
-    tie.close
-    (tie.spec returns returns-2 all-numbers64-requires select64-requires returns-3 returns-4)
+bench-select64-spec = tie.close (tie.spec returns all-numbers64-requires select64-requires returns-2 returns-3)

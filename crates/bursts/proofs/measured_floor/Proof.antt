@@ -17,7 +17,7 @@ returns c = silence-is ∙ sym (floor-none (c .before .before .args .dbm .now) (
 select32-requires : tie.Need-select32-requires
 select32-requires c κs =
     let s = c .before .before in
-    (omega (arith, c .if1 .left), omega (arith, s .pre .0), numbers (s .args .dbm .now) (s .pre .1))
+    (omega (arith, c .if1 .left), numbers (s .args .dbm .now) (s .pre .1))
 
 returns-2 : tie.Need-returns-2
 returns-2 c =

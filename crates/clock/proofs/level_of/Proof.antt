@@ -18,7 +18,7 @@ mul-select32 c = search needs
 select32-requires : tie.Need-select32-requires
 select32-requires c κs =
     let s = c .before in
-    (omega arith, omega (arith, s .pre .1), numbers (s .args .seg .now) (s .pre .2))
+    (omega arith, numbers (s .args .seg .now) (s .pre .2))
 
 returns : tie.Need-returns
 unfolding quantile nineTenthsOf

@@ -33,9 +33,9 @@ add-fits-readings : tie.Need-add-fits-readings
 add-fits-readings c =
     let a = c .before .before .before .before .before .before .before .before .before .before .before .before .args in
     let o = ordered-of (a .t) (lists (a .at .now) (a .lo .now) (a .hz .now) (a .tuned .now) (a .freq .now)) (sym (c .before .before .in-order .ensures) ∙ not-false _ (c .before .if3 .left)) in
-    let h = o .r .places .most in
-    let b = c .before .before .before .before .before .before .before .before .before .before .before .before .good .1 .0 .1 in
-    record { fits = omega arith }
+    let h = o .r .places .ats in
+    let g = c .before .before .before .before .before .before .before .before .before .before .before .before .good .1 in
+    record { fits = omega (arith, h, g .0 .1, g .1 .0 .1) }
 
 fits-readings-requires : tie.Need-fits-readings-requires
 fits-readings-requires c κs = search needs
@@ -44,16 +44,18 @@ returns-4 : tie.Need-returns-4
 unfolding causeCfo
 returns-4 c = let a = c .before .before .before .before .before .before .before .before .before .before .before .before .before .before .args in sym (passed 1 _ (ap not (sym (c .before .before .before .before .before .before .before .rate-ok .ensures)) ∙ c .before .before .before .before .before .before .if1 .left) ∙ passed 3 _ (le-ltb _ _ (c .before .before .before .before .before .if2 .left)) ∙ passed 5 _ (ap not (sym (c .before .before .before .before .in-order .ensures)) ∙ c .before .before .before .if3 .left) ∙ chosen 8 _ (ap not (sym (c .before .fits-readings .ensures)) ∙ c .if4 .taken))
 
-floats-ok-requires : tie.Need-floats-ok-requires
-floats-ok-requires c κs = search needs
+numbers-ok-requires : tie.Need-numbers-ok-requires
+numbers-ok-requires c κs =
+    let a = c .before .before .before .before .before .before .before .before .before .before .before .before .before .before .args in
+    ordered-of (a .t) (lists (a .at .now) (a .lo .now) (a .hz .now) (a .tuned .now) (a .freq .now)) (sym (c .before .before .before .before .in-order .ensures) ∙ not-false _ (c .before .before .before .if3 .left)) .r .places .hzs
 
 returns-5 : tie.Need-returns-5
 unfolding causeCfo
-returns-5 c = let a = c .before .before .before .before .before .before .before .before .before .before .before .before .before .before .before .before .args in sym (passed 1 _ (ap not (sym (c .before .before .before .before .before .before .before .before .before .rate-ok .ensures)) ∙ c .before .before .before .before .before .before .before .before .if1 .left) ∙ passed 3 _ (le-ltb _ _ (c .before .before .before .before .before .before .before .if2 .left)) ∙ passed 5 _ (ap not (sym (c .before .before .before .before .before .before .in-order .ensures)) ∙ c .before .before .before .before .before .if3 .left) ∙ passed 8 _ (ap not (sym (c .before .before .before .fits-readings .ensures)) ∙ c .before .before .if4 .left) ∙ chosen 9 _ (ap not (sym (c .before .floats-ok .ensures)) ∙ c .if5 .taken))
+returns-5 c = let a = c .before .before .before .before .before .before .before .before .before .before .before .before .before .before .before .before .args in sym (passed 1 _ (ap not (sym (c .before .before .before .before .before .before .before .before .before .rate-ok .ensures)) ∙ c .before .before .before .before .before .before .before .before .if1 .left) ∙ passed 3 _ (le-ltb _ _ (c .before .before .before .before .before .before .before .if2 .left)) ∙ passed 5 _ (ap not (sym (c .before .before .before .before .before .before .in-order .ensures)) ∙ c .before .before .before .before .before .if3 .left) ∙ passed 8 _ (ap not (sym (c .before .before .before .fits-readings .ensures)) ∙ c .before .before .if4 .left) ∙ chosen 9 _ (ap not (sym (c .before .numbers-ok .ensures)) ∙ c .if5 .taken))
 
 returns-6 : tie.Need-returns-6
 unfolding causeCfo
-returns-6 c = let a = c .before .before .before .before .before .before .before .before .before .before .before .before .before .before .before .before .args in sym (passed 1 _ (ap not (sym (c .before .before .before .before .before .before .before .before .before .rate-ok .ensures)) ∙ c .before .before .before .before .before .before .before .before .if1 .left) ∙ passed 3 _ (le-ltb _ _ (c .before .before .before .before .before .before .before .if2 .left)) ∙ passed 5 _ (ap not (sym (c .before .before .before .before .before .before .in-order .ensures)) ∙ c .before .before .before .before .before .if3 .left) ∙ passed 8 _ (ap not (sym (c .before .before .before .fits-readings .ensures)) ∙ c .before .before .if4 .left) ∙ passed 9 _ (ap not (sym (c .before .floats-ok .ensures)) ∙ c .if5 .left))
+returns-6 c = let a = c .before .before .before .before .before .before .before .before .before .before .before .before .before .before .before .before .args in sym (passed 1 _ (ap not (sym (c .before .before .before .before .before .before .before .before .before .rate-ok .ensures)) ∙ c .before .before .before .before .before .before .before .before .if1 .left) ∙ passed 3 _ (le-ltb _ _ (c .before .before .before .before .before .before .before .if2 .left)) ∙ passed 5 _ (ap not (sym (c .before .before .before .before .before .before .in-order .ensures)) ∙ c .before .before .before .before .before .if3 .left) ∙ passed 8 _ (ap not (sym (c .before .before .before .fits-readings .ensures)) ∙ c .before .before .if4 .left) ∙ passed 9 _ (ap not (sym (c .before .numbers-ok .ensures)) ∙ c .if5 .left))
 
 pub cause-cfo-spec : {M : Type 1} → statement M
 cause-cfo-spec =
@@ -67,6 +69,6 @@ cause-cfo-spec =
     add-fits-readings
     fits-readings-requires
     returns-4
-    floats-ok-requires
+    numbers-ok-requires
     returns-5
     returns-6)

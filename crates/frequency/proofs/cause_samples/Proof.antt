@@ -54,16 +54,18 @@ returns-5 : tie.Need-returns-5
 unfolding causeSamples
 returns-5 c = let a = c .before .before .before .before .before .before .before .before .before .before .before .before .before .before .before .before .before .args in sym (passed 1 _ (ap not (sym (c .before .before .before .before .before .before .before .before .before .before .rate-ok .ensures)) ∙ c .before .before .before .before .before .before .before .before .before .if1 .left) ∙ passed 3 _ (le-ltb _ _ (c .before .before .before .before .before .before .before .if2 .left)) ∙ passed 4 _ (ap not (sym (c .before .before .before .before .before .before .all-dbm .ensures)) ∙ c .before .before .before .before .before .if3 .left) ∙ passed 5 _ (ap not (sym (c .before .before .before .before .in-order-looked .ensures)) ∙ c .before .before .before .if4 .left) ∙ chosen 7 _ (lt-ltb _ _ (c .if5 .taken)))
 
-floats-ok-requires : tie.Need-floats-ok-requires
-floats-ok-requires c κs = search needs
+numbers-ok-requires : tie.Need-numbers-ok-requires
+numbers-ok-requires c κs =
+    let a = c .before .before .before .before .before .before .before .before .before .before .before .before .before .before .before .before .before .args in
+    ordered-of (a .t) (lists (a .at .now) (a .lo .now) (a .hz .now) (a .tuned .now) (a .freq .now)) (sym (c .before .before .before .before .in-order-looked .ensures) ∙ not-false _ (c .before .before .before .if4 .left)) .r .places .hzs
 
 returns-6 : tie.Need-returns-6
 unfolding causeSamples
-returns-6 c = let a = c .before .before .before .before .before .before .before .before .before .before .before .before .before .before .before .before .before .before .before .args in sym (passed 1 _ (ap not (sym (c .before .before .before .before .before .before .before .before .before .before .before .before .rate-ok .ensures)) ∙ c .before .before .before .before .before .before .before .before .before .before .before .if1 .left) ∙ passed 3 _ (le-ltb _ _ (c .before .before .before .before .before .before .before .before .before .if2 .left)) ∙ passed 4 _ (ap not (sym (c .before .before .before .before .before .before .before .before .all-dbm .ensures)) ∙ c .before .before .before .before .before .before .before .if3 .left) ∙ passed 5 _ (ap not (sym (c .before .before .before .before .before .before .in-order-looked .ensures)) ∙ c .before .before .before .before .before .if4 .left) ∙ passed 7 _ (le-ltb _ _ (c .before .before .if5 .left)) ∙ chosen 9 _ (ap not (sym (c .before .floats-ok .ensures)) ∙ c .if6 .taken))
+returns-6 c = let a = c .before .before .before .before .before .before .before .before .before .before .before .before .before .before .before .before .before .before .before .args in sym (passed 1 _ (ap not (sym (c .before .before .before .before .before .before .before .before .before .before .before .before .rate-ok .ensures)) ∙ c .before .before .before .before .before .before .before .before .before .before .before .if1 .left) ∙ passed 3 _ (le-ltb _ _ (c .before .before .before .before .before .before .before .before .before .if2 .left)) ∙ passed 4 _ (ap not (sym (c .before .before .before .before .before .before .before .before .all-dbm .ensures)) ∙ c .before .before .before .before .before .before .before .if3 .left) ∙ passed 5 _ (ap not (sym (c .before .before .before .before .before .before .in-order-looked .ensures)) ∙ c .before .before .before .before .before .if4 .left) ∙ passed 7 _ (le-ltb _ _ (c .before .before .if5 .left)) ∙ chosen 9 _ (ap not (sym (c .before .numbers-ok .ensures)) ∙ c .if6 .taken))
 
 returns-7 : tie.Need-returns-7
 unfolding causeSamples
-returns-7 c = let a = c .before .before .before .before .before .before .before .before .before .before .before .before .before .before .before .before .before .before .before .args in sym (passed 1 _ (ap not (sym (c .before .before .before .before .before .before .before .before .before .before .before .before .rate-ok .ensures)) ∙ c .before .before .before .before .before .before .before .before .before .before .before .if1 .left) ∙ passed 3 _ (le-ltb _ _ (c .before .before .before .before .before .before .before .before .before .if2 .left)) ∙ passed 4 _ (ap not (sym (c .before .before .before .before .before .before .before .before .all-dbm .ensures)) ∙ c .before .before .before .before .before .before .before .if3 .left) ∙ passed 5 _ (ap not (sym (c .before .before .before .before .before .before .in-order-looked .ensures)) ∙ c .before .before .before .before .before .if4 .left) ∙ passed 7 _ (le-ltb _ _ (c .before .before .if5 .left)) ∙ passed 9 _ (ap not (sym (c .before .floats-ok .ensures)) ∙ c .if6 .left))
+returns-7 c = let a = c .before .before .before .before .before .before .before .before .before .before .before .before .before .before .before .before .before .before .before .args in sym (passed 1 _ (ap not (sym (c .before .before .before .before .before .before .before .before .before .before .before .before .rate-ok .ensures)) ∙ c .before .before .before .before .before .before .before .before .before .before .before .if1 .left) ∙ passed 3 _ (le-ltb _ _ (c .before .before .before .before .before .before .before .before .before .if2 .left)) ∙ passed 4 _ (ap not (sym (c .before .before .before .before .before .before .before .before .all-dbm .ensures)) ∙ c .before .before .before .before .before .before .before .if3 .left) ∙ passed 5 _ (ap not (sym (c .before .before .before .before .before .before .in-order-looked .ensures)) ∙ c .before .before .before .before .before .if4 .left) ∙ passed 7 _ (le-ltb _ _ (c .before .before .if5 .left)) ∙ passed 9 _ (ap not (sym (c .before .numbers-ok .ensures)) ∙ c .if6 .left))
 
 pub cause-samples-spec : {M : Type 1} → statement M
 cause-samples-spec =
@@ -80,6 +82,6 @@ cause-samples-spec =
     returns-4
     add-if5
     returns-5
-    floats-ok-requires
+    numbers-ok-requires
     returns-6
     returns-7)

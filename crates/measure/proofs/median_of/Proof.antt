@@ -21,7 +21,7 @@ select64-requires c κs =
     let m = s .args .m in
     let l = take m (s .args .xs .now) in
     let e : length l ≡ m = length-take-le m (s .args .xs .now) (s .pre .1) in
-    (omega (arith, s .pre .0), omega (arith, s .pre .2), λ i h. told (every-at (λ (x : Float). not (isNan x)) l nan (s .pre .3) i h))
+    (omega (arith, s .pre .0), λ i h. told (every-at (λ (x : Float). not (isNan x)) l nan (s .pre .2) i h))
 
 returns : tie.Need-returns
 unfolding median

@@ -23,7 +23,7 @@ abbrev μ-loop : tie.MeasureT-loop
 μ-loop xs lo span shift counts₀ i₀ counts i = length xs - i
 
 loop-holds : tie.Need-loop-holds Inv-loop μ-loop
-loop-holds c = (omega arith, c .before .pre .5, c .before .pre .6)
+loop-holds c = (omega arith, c .before .pre .4, c .before .pre .5)
 
 mul-offset64 : tie.Need-mul-offset64 Inv-loop μ-loop
 mul-offset64 c = search needs
@@ -32,17 +32,17 @@ shared-slice-read-offset64 : tie.Need-shared-slice-read-offset64 Inv-loop μ-loo
 shared-slice-read-offset64 c = search needs
 
 offset64-requires : tie.Need-offset64-requires Inv-loop μ-loop
-offset64-requires c κs = c .before .before .before .before .pre .1 (c .before .before .loop .i) (search needs)
+offset64-requires c κs = c .before .before .before .before .pre .0 (c .before .before .loop .i) (search needs)
 
 -- the bin of an element in the range
 bin : (c : lts.Then1 (offset64-reads.Asked, offset64-reads.Learnt) reads.Pre reads.Post Inv-loop μ-loop)
     → c .before .offset64 .result / 2 ^ c .before .before .before .before .before .before .args .shift < bins
 bin c =
     let b = c .before .before .before .before .before .before in
-    bin-lt (c .before .offset64 .result) (b .args .span) (2 ^ b .args .shift) (pow-pos (b .args .shift)) (c .if1 .taken) (b .pre .4)
+    bin-lt (c .before .offset64 .result) (b .args .span) (2 ^ b .args .shift) (pow-pos (b .args .shift)) (c .if1 .taken) (b .pre .3)
 
 shr-d : tie.Need-shr-d Inv-loop μ-loop
-shr-d c = c .before .before .before .before .before .before .pre .3
+shr-d c = c .before .before .before .before .before .before .pre .2
 
 mul-counts : tie.Need-mul-counts Inv-loop μ-loop
 mul-counts c = omega (arith, bin c)
@@ -56,7 +56,7 @@ add-counts c =
     let b = l .before .before in
     omega (
       arith,
-      b .pre .0,
+      b .good .0 .0,
       few (key binary64) (b .args .xs .now) (l .loop .i) nan (omega arith) (b .args .lo) (b .args .span) (2 ^ b .args .shift) (l .loop .counts) (l .loop .inv .2)
           (c .before .before .offset64 .result / 2 ^ b .args .shift) (bin (c .before)),
     )
@@ -81,13 +81,13 @@ loop-again c =
     (λ y.
     let q =
     stored (key binary64) (b .args .xs .now) (l .loop .i) nan (omega arith) (b .args .lo) (b .args .span) w (l .loop .counts) (l .loop .inv .2) (2 ^ 64) t
-    (omega (arith, o .offset64 .ok)) (b .pre .2) (o .offset64 .ensures) (pow-pos (b .args .shift)) (l .loop .inv .1) (y .0 .taken)
-    (bin-lt t (b .args .span) w (pow-pos (b .args .shift)) (y .0 .taken) (b .pre .4)) (c .if1 .counts) (y .2) in
+    (omega (arith, o .offset64 .ok)) (b .pre .1) (o .offset64 .ensures) (pow-pos (b .args .shift)) (l .loop .inv .1) (y .0 .taken)
+    (bin-lt t (b .args .span) w (pow-pos (b .args .shift)) (y .0 .taken) (b .pre .3)) (c .if1 .counts) (y .2) in
     (omega arith, q .0, q .1))
     (λ n.
     let q =
     missed (key binary64) (b .args .xs .now) (l .loop .i) nan (omega arith) (b .args .lo) (b .args .span) w (l .loop .counts) (l .loop .inv .2) (2 ^ 64) t
-    (omega (arith, o .offset64 .ok)) (b .pre .2) (o .offset64 .ensures) (l .loop .inv .1) (n .0 .left) (c .if1 .counts) (n .1) in
+    (omega (arith, o .offset64 .ok)) (b .pre .1) (o .offset64 .ensures) (l .loop .inv .1) (n .0 .left) (c .if1 .counts) (n .1) in
     (omega arith, q .0, q .1))
     (c .if1 .came)
 

@@ -28,7 +28,6 @@ count32-requires c κs =
     let b = c .before .before .before .before .before in
     let s = c .before .before .before .shift-of in (
       b .pre .2,
-      b .pre .3,
       b .pre .0 .fits,
       shift-lt (b .args .r .span) (s .result) 32 (s .ensures .1) (omega (arith, b .pre .0 .fits)),
       s .ensures .0,

@@ -22,7 +22,6 @@ count64-requires c κs =
     let b = c .before .before .before in
     let s = c .before .shift-of in (
       b .pre .2,
-      b .pre .3,
       b .pre .0 .fits,
       shift-lt (b .args .r .span) (s .result) 64 (s .ensures .1) (omega (arith, b .pre .0 .fits)),
       s .ensures .0,

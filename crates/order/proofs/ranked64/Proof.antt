@@ -25,10 +25,10 @@ shared-slice-read-key64 : tie.Need-shared-slice-read-key64 Inv-loop μ-loop
 shared-slice-read-key64 c = search needs
 
 key64-requires : tie.Need-key64-requires Inv-loop μ-loop
-key64-requires c κs = c .before .before .before .before .pre .3 (c .before .before .loop .i) (search needs)
+key64-requires c κs = c .before .before .before .before .pre .2 (c .before .before .loop .i) (search needs)
 
 ranks64-requires : tie.Need-ranks64-requires Inv-loop μ-loop
-ranks64-requires c κs = let s = c .before .before .before .before .before .before in (s .pre .2, s .pre .3)
+ranks64-requires c κs = let s = c .before .before .before .before .before .before in s .pre .2
 
 returns : tie.Need-returns Inv-loop μ-loop
 returns c =

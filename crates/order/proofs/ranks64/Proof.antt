@@ -30,7 +30,7 @@ shared-slice-read-key64 : tie.Need-shared-slice-read-key64 Inv-loop μ-loop
 shared-slice-read-key64 c = search needs
 
 key64-requires : tie.Need-key64-requires Inv-loop μ-loop
-key64-requires c κs = c .before .before .before .before .pre .1 (c .before .before .loop .i) (search needs)
+key64-requires c κs = c .before .before .before .before .pre (c .before .before .loop .i) (search needs)
 
 one-if-requires : tie.Need-one-if-requires Inv-loop μ-loop
 one-if-requires c κs = search needs
@@ -39,7 +39,7 @@ add-under : tie.Need-add-under Inv-loop μ-loop
 add-under c =
     let l = c .before .before .before .before in
     let s = l .before .before in
-    omega (arith, c .one-if .ensures .1, few-under (key binary64) (s .args .xs .now) (s .args .v) (l .loop .i), l .loop .inv .1, s .pre .0)
+    omega (arith, c .one-if .ensures .1, few-under (key binary64) (s .args .xs .now) (s .args .v) (l .loop .i), l .loop .inv .1, s .good .0 .0)
 
 one-if-requires-2 : tie.Need-one-if-requires-2 Inv-loop μ-loop
 one-if-requires-2 c κs = search needs
@@ -48,7 +48,7 @@ add-upto : tie.Need-add-upto Inv-loop μ-loop
 add-upto c =
     let l = c .before .before .before .before .before in
     let s = l .before .before in
-    omega (arith, c .one-if2 .ensures .1, few-under (key binary64) (s .args .xs .now) (s .args .v + 1) (l .loop .i), l .loop .inv .2, s .pre .0)
+    omega (arith, c .one-if2 .ensures .1, few-under (key binary64) (s .args .xs .now) (s .args .v + 1) (l .loop .i), l .loop .inv .2, s .good .0 .0)
 
 add-i : tie.Need-add-i Inv-loop μ-loop
 add-i c = search needs

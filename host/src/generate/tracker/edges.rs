@@ -17,6 +17,7 @@ pub fn directed() -> Vec<Case> {
     frames(&mut cases);
     frame_1(&mut cases);
     refused(&mut cases);
+    super::given::directed(&mut cases);
     cases
 }
 

@@ -1,6 +1,7 @@
 //! Inputs of `tracker`.
 
 mod edges;
+mod given;
 
 use super::band::{Band, Receiver, STEP_HZ};
 use super::put::Put;
@@ -73,6 +74,9 @@ pub fn random(rng: &mut Rng) -> Case {
     } else {
         signal::rate(rng)
     };
+    if rng.chance(0.25) {
+        return given::random(rng, rate);
+    }
     let whole = if rng.chance(0.7) {
         followed(rng, rate).case("a receiver that obeys")
     } else {
@@ -153,7 +157,7 @@ fn soup(rng: &mut Rng, rate: u32) -> Calls {
     calls.freq()
 }
 
-/// The run that the gate replays: a followed band, then calls that are refused.
+/// The run that the gate replays: a followed band, calls that are refused, then trackers that are handed in.
 pub fn sample() -> Case {
     let calls = followed(&mut Rng::new(8), 250)
         .samples(&[f32::NAN])
@@ -164,8 +168,6 @@ pub fn sample() -> Case {
         .frame1(true, &[(0, 0.0, 2e9)])
         .level(100, LOUD)
         .next();
-    (0..70)
-        .fold(calls, |calls, i| calls.tuned(BASE + i))
-        .freq()
-        .case("sample")
+    let calls = (0..70).fold(calls, |calls, i| calls.tuned(BASE + i)).freq();
+    given::sample(calls).case("sample")
 }
