@@ -53,7 +53,7 @@ unfolding tuningsOf
 back-tunings [] = refl
 back-tunings (x ∷ l) = ap (λ (z : List Tuning). x ∷ z) (back-tunings l)
 
-unpack : (u : T.Tracker) (l : Lists) → tracker (packed u) (stored u l) ≡ u
+pub unpack : (u : T.Tracker) (l : Lists) → tracker (packed u) (stored u l) ≡ u
 unfolding tracker packed stored
 unpack u l =
     rw (
@@ -93,7 +93,7 @@ sound-after : (u : T.Tracker) (l : Lists) (t : FrequencyTracker) (m : Lists) →
     → t ≡ packed u → m ≡ stored u l → Sound t m
 sound-after u l t m g r q e f = subst (λ (x : FrequencyTracker). Sound x m) (sym e) (subst (λ (x : Lists). Sound (packed u) x) (sym f) (packed-sound u l g r q))
 
-counts-of : (s : FrequencyTracker) (l : Lists) → Sound s l → Counts s l
+pub counts-of : (s : FrequencyTracker) (l : Lists) → Sound s l → Counts s l
 counts-of s l h = record { beside = record { ats = h .readings .ats; los = h .readings .los; hzs = h .readings .hzs }; tunings = h .tunings }
 
 fewer : (n m : ℕ) (at lo : List ℕ) (hz : List Float) → n ≤ m → Readings m at lo hz → Readings n at lo hz
@@ -182,7 +182,7 @@ cfo-tunings : (s : FrequencyTracker) (l : Lists) (o : Counts s l) (raw : List �
 unfolding T.cfo tracker
 cfo-tunings s l o raw q = let e = ts-size s l o in fewer-tunings (length (ts s l o)) (s .tunings) (l .tuned) (l .freq) (omega arith) q
 
-same : (s : FrequencyTracker) (l : Lists) (o : Counts s l) → tracker (packed (T.afterTuning (tracker s l))) l ≡ T.afterTuning (tracker s l)
+pub same : (s : FrequencyTracker) (l : Lists) (o : Counts s l) → tracker (packed (T.afterTuning (tracker s l))) l ≡ T.afterTuning (tracker s l)
 unfolding tracker packed T.afterTuning
 same s l o = rw (rs-size s l o, ts-size s l o) refl
 

@@ -9,3 +9,4 @@ pub mod Settled
 pub mod Framing
 pub mod Good
 pub mod Grown
+pub mod Contracts
