@@ -1,0 +1,2 @@
+-- The laws of `uplink`.
+pub mod Words
