@@ -1,6 +1,6 @@
 -- From what a call answers to the number that the benchmark compares, on plain values. Assumes nothing.
-use Prim.Native.Nat.{ℕ}
-use mathlib.Core.Path.{_≡_, sym, _∙_, ap, subst}
+use Prim.Native.Nat.{ℕ, zero, suc}
+use mathlib.Core.Path.{_≡_, refl, sym, _∙_, ap, subst}
 use mathlib.Core.List.{List}
 use lib.Ieee.{Float}
 use Rattle.bursts.specs.Bursts.{defaultOptions, burstAnswer}
@@ -13,7 +13,11 @@ use Rattle.clock.specs.declared.BurstBits.{BurstBits}
 use Rattle.demod.specs.Capture.{captureLeft}
 use Rattle.demod.specs.Capture as capture
 use Rattle.demod.specs.declared.Captured.{Captured}
+use Rattle.limits.specs.Answer.{Answer, answer, number, leaves}
+use Rattle.writer.specs.Answers.{said}
+use Rattle.writer.specs.declared.Written.{Written}
 use Rattle.bench.specs.Demod.{countOf, bitCountOf, recordCountOf}
+use Rattle.bench.specs.Writer.{sentOf}
 
 -- the answer's number, from the case that it is
 pub number-of : {A : Type 0} {N : Type 0} (f : A → N) {r w case : A} → r ≡ w → r ≡ case → f case ≡ f w
@@ -39,3 +43,12 @@ pub capture-told : (r w : Captured) (records : List (List ℕ)) (old now : List 
     → (n ≡ recordCountOf w) × (now ≡ captureLeft w records old) × capture.Free w a a' × capture.Free w b b'
 capture-told r w records old now a a' b b' n e h =
     subst (λ (x : Captured). (n ≡ recordCountOf x) × (now ≡ captureLeft x records old) × capture.Free x a a' × capture.Free x b b') (e .0) (h, e .1, e .2, e .3)
+
+pub written-told : (r : Written) (cause count : ℕ) (made old now : List ℕ) (n : ℕ) → (said r ≡ answer cause count) × (now ≡ leaves (number (said r)) made old)
+    → n ≡ sentOf (said r) → (n ≡ sentOf (answer cause count)) × (now ≡ leaves cause made old)
+written-told r cause count made old now n e h =
+    (h ∙ ap sentOf (e .0), e .1 ∙ ap (λ (a : Answer ℕ). leaves (number a) made old) (e .0) ∙ ap (λ (c : ℕ). leaves c made old) (numbered cause))
+  where
+    numbered : (c : ℕ) → number (answer c count) ≡ c
+    numbered zero = unfold number in unfold answer in refl
+    numbered (suc c) = unfold number in unfold answer in refl
