@@ -1,6 +1,6 @@
 -- What a line of `uplink`'s input means (README.md, 'Test frames'): five words with a space between each, in characters' numbers. Assumes nothing.
-use Prim.Native.Nat.{ℕ, zero, suc, _+_, _-_, _*_, _%_}
-use mathlib.Core.Bool.{Bool, true, false, cond, _&&_, _||_}
+use Prim.Native.Nat.{ℕ, suc, _+_, _-_, _*_, _%_}
+use mathlib.Core.Bool.{Bool, true, cond, _&&_, _||_}
 use mathlib.Core.List.{List, [], _∷_}
 use lib.Dec.{ltb, leb, eqb}
 use lib.ListN.{length, take, getD}

@@ -1,7 +1,7 @@
 -- One uplink computed: device 00c0ffee, counter 291, no payload, authentication aa 55. Its three repetitions are the Rust's bits behind 20 preamble bits, and the decoder reads them back. Assumes nothing.
 use Prim.Native.Nat.{ℕ}
 use mathlib.Core.Path.{_≡_, refl}
-use mathlib.Core.Bool.{Bool, false}
+use mathlib.Core.Bool.{false}
 use mathlib.Core.List.{List, [], _∷_}
 use Rattle.endian.specs.Bytes.{bytesOf, numberOf, numberAt}
 use Rattle.coding.specs.Bits.{digits, value, bytesBits}

@@ -1,24 +1,24 @@
 -- What stands at each place after a call: the repetitions at theirs, and everywhere else what stood there. Assumes nothing.
-use mathlib.Core.Path.{_≡_, refl, sym, ap, ap₂, _∙_}
+use mathlib.Core.Path.{_≡_, refl, sym, ap, _∙_}
 use mathlib.Core.Bool.{Bool, true, false, cond}
 use mathlib.Core.List.{List, [], _∷_, _++_, map, append-assoc}
 use mathlib.Core.Logic.{_⊎_, inl, inr, ⊎-elim}
-use Prim.Native.Nat.{ℕ, zero, suc, _+_, _-_, _*_, _≤_, _<_}
+use Prim.Native.Nat.{ℕ, zero, suc, _+_, _*_, _≤_, _<_}
 use native.Mathlib.Omega.{arith}
 use lib.Dec.{ltb, eqb}
 use lib.ListN.{length, take, drop, getD, set, length-append}
 use lib.Seq.{sets, sets-eq, length-sets, take-at, drop-at, length-take-le, take-add, take-set-le, getD-set-other}
 use borrow.Author.Tests.{ltb-false, eqb-true}
 use Rattle.limits.specs.Limits.{short, badUplink}
-use Rattle.coding.specs.Bits.{odd, bitOf, bytesBits, areBits}
+use Rattle.coding.specs.Bits.{bitOf, bytesBits}
 use Rattle.coding.specs.Convolution.{fresh, convolved}
 use Rattle.coding.proofs.Codes.{length-convolved}
 use Rattle.frame.specs.Kinds.{syncBits, plain}
-use Rattle.frame.specs.Sizes.{mostPayload, bodyBytes}
+use Rattle.frame.specs.Sizes.{mostPayload}
 use Rattle.frame.specs.declared.header.UplinkFields.{UplinkFields}
 use Rattle.frame.proofs.SizeLaws.{body-most}
-use Rattle.writer.specs.Uplink.{leadSize, lead, repetitionOf, frameBytes, classSent, uplinkBits, bitCount}
-use Rattle.writer.specs.Answers.{places, allPlaces, highestCounter, bitAndPayload, authCalled, writeCause, putRank, putAll}
+use Rattle.writer.specs.Uplink.{lead, repetitionOf, frameBytes, classSent, uplinkBits, bitCount}
+use Rattle.writer.specs.Answers.{places, allPlaces, highestCounter, bitAndPayload, authCalled, writeCause, putAll}
 use Rattle.writer.proofs.ByteLists.{length-bytes-bits}
 use Rattle.writer.proofs.Stores.{length-map-bits}
 use Rattle.writer.proofs.Starts.{length-lead, length-sync}

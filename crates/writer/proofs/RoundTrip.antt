@@ -1,13 +1,13 @@
 -- Request 01's round trip holds. Assumes nothing.
 use mathlib.Core.Path.{_≡_, refl, sym, ap, ap₂, _∙_, subst}
-use mathlib.Core.Bool.{Bool, true}
+use mathlib.Core.Bool.{true}
 use mathlib.Core.Logic.{_⊎_}
 use mathlib.Core.List.{List, map}
 use Prim.Native.Nat.{ℕ, zero, suc, _+_, _*_, _≤_, _<_}
 use native.Mathlib.Omega.{arith}
 use lib.ListN.{length, take, drop, getD}
-use Rattle.limits.specs.Answer.{Answer, answer, number, leaves, refused, accepted}
-use Rattle.coding.specs.Bits.{odd, bitOf, bytesBits}
+use Rattle.limits.specs.Answer.{Answer, answer, number, leaves, accepted}
+use Rattle.coding.specs.Bits.{odd, bitOf}
 use Rattle.frame.specs.Kinds.{kinds, blankKind, plain}
 use Rattle.frame.specs.Sizes.{bodyBytes}
 use Rattle.frame.specs.Fields.{crcRight, frameFrom}
@@ -17,7 +17,7 @@ use Rattle.frame.specs.declared.Repair.the-variants.{Unchanged}
 use Rattle.frame.specs.declared.header.UplinkFields.{UplinkFields}
 use Rattle.frame.proofs.SearchLaws.{answer-is}
 use Rattle.writer.specs.Uplink.{leadSize, frameBytes, classSent, uplinkBits, bitCount, sentFrame}
-use Rattle.writer.specs.Answers.{said, places, allPlaces, writeCause, putAll}
+use Rattle.writer.specs.Answers.{said, places, writeCause, putAll}
 use Rattle.writer.specs.RoundTrip.{Typed, Call, writtenAt, Quiet, OverTheClass, RoundTrip, AlwaysQuiet, RoundTripAlways, Kept}
 use Rattle.writer.specs.declared.Written.{Written}
 use Rattle.writer.proofs.Starts.{repetition, place-of, quiet, type-found, body-read}

@@ -1,6 +1,6 @@
 -- What stands in the bytes of a frame that is sent: its length by its class, its CRC, and every field. Assumes nothing.
 use mathlib.Core.Path.{_≡_, refl, sym, ap, ap₂, _∙_}
-use mathlib.Core.Bool.{Bool, true, false, not}
+use mathlib.Core.Bool.{Bool, true, false}
 use mathlib.Core.List.{List, [], _∷_, _++_}
 use Prim.Native.Nat.{ℕ, zero, suc, _+_, _-_, _*_, _/_, _%_, _≤_, _<_}
 use native.Mathlib.Omega.{arith}
@@ -8,15 +8,14 @@ use lib.Dec.{eqb}
 use lib.ListN.{length, take, drop, getD, length-append}
 use lib.Seq.{take-at, getD-at, getD-append-add, take-append-le, drop-append-le, drop-at, drop-drop}
 use borrow.Author.Tests.{eq-eqb, eqb-true, not-false}
-use Rattle.endian.specs.Bytes.{bytesOf, numberOf, numberAt}
+use Rattle.endian.specs.Bytes.{bytesOf, numberAt}
 use Rattle.endian.proofs.Numbers.{bytes-small, number-bytes}
-use Rattle.coding.specs.Bits.{odd, bitOf, bytesBits}
+use Rattle.coding.specs.Bits.{bitOf, bytesBits}
 use Rattle.coding.specs.Crc.{crcOf}
-use Rattle.coding.specs.Register.{run}
 use Rattle.coding.proofs.BitLaws.{bit-lt, odd-bit}
 use Rattle.coding.proofs.Division.{crc-is}
-use Rattle.frame.specs.Sizes.{headerSize, crcSize, mostPayload, mostAuth, payloadSize, authSize, bodyBytes}
-use Rattle.frame.specs.Fields.{byteAt, li, bf, counterOf, deviceOf, payloadOf, authOf, bitFrom, crcRight, padded, frameFrom}
+use Rattle.frame.specs.Sizes.{headerSize, mostPayload, mostAuth, payloadSize, authSize, bodyBytes}
+use Rattle.frame.specs.Fields.{li, bf, counterOf, deviceOf, payloadOf, authOf, bitFrom, crcRight, padded, frameFrom}
 use Rattle.frame.specs.Header.{classOf, liOf, headerBytes}
 use Rattle.frame.specs.Kinds.{plain}
 use Rattle.frame.specs.declared.SingleBit.{SingleBit}

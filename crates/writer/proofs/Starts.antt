@@ -1,10 +1,9 @@
 -- Where the decoder finds the frame type of a repetition: at 20, for every kind of the table. Assumes nothing.
 use mathlib.Core.Path.{_≡_, refl, sym, ap, ap₂, _∙_}
 use mathlib.Core.Bool.{Bool, true, false, cond, _&&_}
-use mathlib.Core.List.{List, [], _∷_, _++_, map, append-assoc}
+use mathlib.Core.List.{List, _++_, map, append-assoc}
 use Prim.Native.Nat.{ℕ, zero, suc, _+_, _-_, _*_, _/_, _%_, _^_, _≤_, _<_}
 use native.Mathlib.Omega.{arith}
-use native.Mathlib.Numerals.{add-one}
 use lib.ListN.{length, take, drop, getD, length-append, List·getD-map, length-drop}
 use lib.Seq.{take-at, drop-at, take-append-le, drop-append-le, drop-drop}
 use lib.Dec.{ltb}

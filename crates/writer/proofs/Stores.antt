@@ -2,13 +2,13 @@
 use mathlib.Core.Path.{_≡_, refl, sym, ap, ap₂, _∙_}
 use mathlib.Core.Bool.{Bool}
 use mathlib.Core.List.{List, [], _∷_, _++_, map}
-use Prim.Native.Nat.{ℕ, zero, suc, _+_, _-_, _*_, _/_, _%_, _^_, _≤_, _<_}
+use Prim.Native.Nat.{ℕ, suc, _+_, _-_, _*_, _/_, _%_, _^_, _≤_, _<_}
 use native.Mathlib.Omega.{arith}
 use native.Mathlib.Nat.{sub-zero}
 use native.Mathlib.Numerals.{add-one}
 use lib.ListN.{length, drop, getD, set, drop-of-length-le}
 use lib.Seq.{sets, drop-cons}
-use Rattle.coding.specs.Bits.{odd, bitOf, digits, bytesBits}
+use Rattle.coding.specs.Bits.{bitOf, digits, bytesBits}
 use Rattle.coding.proofs.BitLaws.{bit-odd}
 use Rattle.coding.proofs.Digits.{length-digits}
 use Rattle.frame.proofs.CopyLaws.{sets-then}

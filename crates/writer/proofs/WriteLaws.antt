@@ -1,12 +1,11 @@
 -- What the steps of `write_uplink` leave, one after the other, and which cause each of its tests finds. Assumes nothing.
 use mathlib.Core.Path.{_≡_, refl, sym, ap, ap₂, _∙_}
-use mathlib.Core.Bool.{Bool, true, false, not, cond, _&&_}
+use mathlib.Core.Bool.{Bool, true, false}
 use mathlib.Core.List.{List, [], _∷_, _++_, map, append-assoc, append-nil}
-use Prim.Native.Nat.{ℕ, zero, suc, _+_, _-_, _*_, _/_, _%_, _≤_, _<_}
+use Prim.Native.Nat.{ℕ, suc, _+_, _-_, _*_, _/_, _%_, _≤_, _<_}
 use native.Mathlib.Omega.{arith}
-use lib.Dec.{eqb, leb}
 use lib.ListN.{length, take, drop, replicate, length-append, length-replicate, drop-of-length-le, length-drop}
-use lib.Seq.{sets, sets-eq, take-at, take-all, take-length, length-sets, drop-drop}
+use lib.Seq.{sets, sets-eq, take-at, take-all, take-length, drop-drop}
 use borrow.Author.Tests.{lt-ltb, le-ltb, eq-eqb, ne-eqb}
 use borrow.Rule.Slice.PartMut.{putMid}
 use Rattle.limits.specs.Limits.{short, badUplink}
@@ -17,7 +16,7 @@ use Rattle.coding.proofs.BitLaws.{odd-bit, length-map-odd}
 use Rattle.coding.proofs.Values.{digits-value}
 use Rattle.coding.proofs.Codes.{length-convolved}
 use Rattle.frame.specs.Kinds.{alternating, syncBits, plain}
-use Rattle.frame.specs.Sizes.{headerSize, mostPayload, mostBytes, bodyBytes, authSize}
+use Rattle.frame.specs.Sizes.{headerSize, mostPayload, mostBytes, bodyBytes}
 use Rattle.frame.specs.Fields.{padded}
 use Rattle.frame.specs.Header.{liOf, headerBytes}
 use Rattle.frame.specs.declared.kinds.FrameKind.{FrameKind}
@@ -27,7 +26,7 @@ use Rattle.frame.proofs.HeaderLaws.{length-header}
 use Rattle.frame.proofs.SizeLaws.{li-cancels, body-most}
 use Rattle.limits.specs.Answer.{answer, number, leaves, accepted}
 use Rattle.writer.specs.Uplink.{leadSize, lead, repetitionOf, repeated, withCrc, frameBytes, classSent, uplinkBits, bitCount}
-use Rattle.writer.specs.Answers.{said, places, allPlaces, highestCounter, bitAndPayload, authCalled, writeCause, putRank, putAll}
+use Rattle.writer.specs.Answers.{said, allPlaces, highestCounter, bitAndPayload, authCalled, writeCause, putRank, putAll}
 use Rattle.writer.specs.declared.Written.{Written}
 use Rattle.writer.specs.declared.Written.the-variants.{Refused, Bits}
 use Rattle.writer.proofs.ByteLists.{length-bytes-bits}

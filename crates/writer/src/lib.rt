@@ -1,18 +1,17 @@
 // Uplinks as a device sends them (02, request 01; frame.rs encode_uplink): the bits of a message's three repetitions. Bits are bytes 0 or 1.
 ghost use mathlib.Core.Path.{_≡_};
 ghost use mathlib.Core.Bool.{true};
-ghost use mathlib.Core.List.{_++_, map};
+ghost use mathlib.Core.List.{map};
 ghost use Prim.Native.Nat.{_+_, _*_, _≤_, _<_};
 ghost use lib.ListN.{length};
 ghost use lib.Seq.{sets};
 ghost use Rattle.coding.specs.Bits.{odd, bitOf, digits, value, bytesBits, areBits};
-ghost use Rattle.coding.specs.Convolution.{fresh, convolved};
-ghost use Rattle.frame.specs.Kinds.{syncBits, plain};
+ghost use Rattle.frame.specs.Kinds.{syncSize, syncBits, plain};
 ghost use Rattle.frame.specs.Sizes.{headerSize, mostPayload, mostBytes};
 ghost use Rattle.frame.specs.Fields.{padded};
 ghost use Rattle.frame.specs.Header.{liOf};
 ghost use Rattle.limits.specs.Answer.{answer, number, leaves};
-ghost use Rattle.writer.specs.Uplink.{frameBytes, repeated, uplinkBits, bitCount};
+ghost use Rattle.writer.specs.Uplink.{leadSize, frameBytes, repeated, uplinkBits, bitCount};
 ghost use Rattle.writer.specs.Answers.{said, places, allPlaces, bitAndPayload, writeCause, putRank, putAll};
 use frame::SingleBit;
 use frame::bodies::HEADER;
@@ -82,7 +81,7 @@ fn type_of(rank: u8, class: u8) -> u32
 
 // The repetition of a rank, from the bits of its body, at its places.
 fn put_repetition(rank: u8, class: u8, body: &[u8], out: &mut [u8])
-    requires { ⌜ (rank ≤ 2) × (class ≤ 4) × (areBits (now body) ≡ true) × (36 + length (now body) ≤ places) × (allPlaces ≤ length (now out)) ⌝ }
+    requires { ⌜ (rank ≤ 2) × (class ≤ 4) × (areBits (now body) ≡ true) × (leadSize + syncSize + length (now body) ≤ places) × (allPlaces ≤ length (now out)) ⌝ }
     ensures { λ _. ⌜ now (out .exit) ≡ putRank (repeated class (map odd (now (body .entry)))) rank (now (out .entry)) ⌝ }
 {
     let at = PLACES * (rank as usize);
@@ -94,7 +93,7 @@ fn put_repetition(rank: u8, class: u8, body: &[u8], out: &mut [u8])
 
 // All three repetitions.
 fn put_all(class: u8, body: &[u8], out: &mut [u8])
-    requires { ⌜ (class ≤ 4) × (areBits (now body) ≡ true) × (36 + length (now body) ≤ places) × (allPlaces ≤ length (now out)) ⌝ }
+    requires { ⌜ (class ≤ 4) × (areBits (now body) ≡ true) × (leadSize + syncSize + length (now body) ≤ places) × (allPlaces ≤ length (now out)) ⌝ }
     ensures { λ _. ⌜ now (out .exit) ≡ putAll (repeated class (map odd (now (body .entry)))) (now (out .entry)) ⌝ }
 {
     put_repetition(0, class, body, out);

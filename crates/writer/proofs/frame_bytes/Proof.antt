@@ -1,7 +1,6 @@
 -- `writer::frame_bytes` meets its contract. Assumes nothing.
-use mathlib.Core.Path.{_≡_, refl, sym}
-use Prim.Native.Nat.{ℕ, _+_}
-use native.Mathlib.Omega.{arith}
+use mathlib.Core.Path.{refl, sym}
+use Prim.Native.Nat.{_+_}
 use lib.ListN.{length}
 use lib.Seq.{length-take-le}
 use Rattle.writer.proofs.WriteLaws.{covered-stored, bytes-stored}

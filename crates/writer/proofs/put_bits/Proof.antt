@@ -1,12 +1,12 @@
 -- `writer::put_bits` meets its contract. The invariant: the bits of the bytes that are left, stored from here on, make the whole. Assumes nothing.
 use borrow.Author.Needs.{needs}
-use mathlib.Core.Path.{_≡_, refl, sym, ap, _∙_}
+use mathlib.Core.Path.{_≡_, refl, sym, _∙_}
 use mathlib.Core.List.{map}
-use Prim.Native.Nat.{ℕ, _+_, _-_, _*_, _≤_}
+use Prim.Native.Nat.{_-_, _*_, _≤_}
 use native.Mathlib.Omega.{arith}
 use lib.ListN.{length, drop}
-use lib.Seq.{sets, length-sets}
-use Rattle.coding.specs.Bits.{bitOf, digits, bytesBits}
+use lib.Seq.{sets}
+use Rattle.coding.specs.Bits.{bitOf, bytesBits}
 use Rattle.writer.proofs.Stores.{byte-turn, byte-end}
 use Rattle.writer.proofs.put_bits.Statement.{statement}
 use Rattle.writer.proofs.put_bits.Tie as tie

@@ -1,6 +1,6 @@
 -- `writer::put_repetition` meets its contract. Assumes nothing.
 use mathlib.Core.List.{map}
-use Prim.Native.Nat.{ℕ, _+_, _*_}
+use Prim.Native.Nat.{_+_, _*_}
 use native.Mathlib.Omega.{arith}
 use lib.ListN.{length}
 use Rattle.coding.specs.Bits.{odd, bitOf}

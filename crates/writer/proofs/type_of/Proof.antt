@@ -1,5 +1,4 @@
 -- `writer::type_of` meets its contract. Assumes nothing.
-use Prim.Native.Nat.{ℕ}
 use native.Mathlib.Omega.{arith}
 use Rattle.frame.specs.Kinds.{plain}
 use Rattle.writer.proofs.Starts.{type-is, type-lt}

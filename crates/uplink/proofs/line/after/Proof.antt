@@ -1,7 +1,7 @@
 -- `uplink::line::after` meets its contract. The invariant: the rest behind the word from here on is the same. Assumes nothing.
 use borrow.Author.Needs.{needs}
 use mathlib.Core.Path.{_≡_, refl, sym, _∙_}
-use Prim.Native.Nat.{_+_, _-_, _≤_}
+use Prim.Native.Nat.{_-_, _≤_}
 use lib.ListN.{length, drop}
 use Rattle.uplink.specs.Line.{rest}
 use Rattle.uplink.proofs.Words.{rest-ends, rest-more, rest-past}

@@ -1,7 +1,7 @@
 -- `uplink::line::all_digits` meets its contract. The invariant: the digits from here on decide. Assumes nothing.
 use borrow.Author.Needs.{needs}
-use mathlib.Core.Path.{_≡_, refl, sym, _∙_}
-use Prim.Native.Nat.{_+_, _-_, _≤_}
+use mathlib.Core.Path.{_≡_, refl}
+use Prim.Native.Nat.{_-_, _≤_}
 use lib.ListN.{length, drop}
 use Rattle.uplink.specs.Line.{word, areDigits}
 use Rattle.uplink.proofs.Words.{digits-end, digits-turn, digits-stop, digits-past}

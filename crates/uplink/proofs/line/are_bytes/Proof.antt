@@ -1,6 +1,6 @@
 -- `uplink::line::are_bytes` meets its contract. Assumes nothing.
 use borrow.Author.Needs.{needs}
-use Rattle.uplink.proofs.Words.{bytes-tested}
+use Rattle.uplink.proofs.Frames.{bytes-tested}
 use Rattle.uplink.proofs.line.are_bytes.Statement.{statement}
 use Rattle.uplink.proofs.line.are_bytes.Tie as tie
 

@@ -4,7 +4,7 @@ use mathlib.Core.Path.{sym, _∙_}
 use native.Mathlib.Omega.{arith}
 use lib.ListN.{drop, length-drop}
 use Rattle.uplink.specs.Line.{word}
-use Rattle.uplink.proofs.Words.{bit-four, word-fits, bit-value, bit-none}
+use Rattle.uplink.proofs.Frames.{bit-four, word-fits, bit-value, bit-none}
 use Rattle.uplink.proofs.line.bit_in.Statement.{statement}
 use Rattle.uplink.proofs.line.bit_in.Tie as tie
 

@@ -1,6 +1,6 @@
 -- `uplink::line::count_spaces` meets its contract. The invariant: those counted and those left make all. Assumes nothing.
 use borrow.Author.Needs.{needs}
-use mathlib.Core.Path.{_≡_, refl, sym, _∙_}
+use mathlib.Core.Path.{_≡_}
 use Prim.Native.Nat.{_+_, _-_, _≤_}
 use lib.ListN.{length, drop}
 use Rattle.uplink.specs.Line.{spaces}

@@ -1,7 +1,7 @@
 -- `uplink::line::fields_of` meets its contract. Assumes nothing.
 use borrow.Author.Needs.{needs}
 use native.Mathlib.Omega.{arith}
-use Rattle.uplink.proofs.Words.{same-fields}
+use Rattle.uplink.proofs.Frames.{same-fields}
 use Rattle.uplink.proofs.line.fields_of.Statement.{statement}
 use Rattle.uplink.proofs.line.fields_of.Tie as tie
 

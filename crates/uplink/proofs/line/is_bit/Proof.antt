@@ -1,6 +1,6 @@
 -- `uplink::line::is_bit` meets its contract. Assumes nothing.
 use borrow.Author.Needs.{needs}
-use Rattle.uplink.proofs.Words.{bit-not, bit-is}
+use Rattle.uplink.proofs.Frames.{bit-not, bit-is}
 use Rattle.uplink.proofs.line.is_bit.Statement.{statement}
 use Rattle.uplink.proofs.line.is_bit.Tie as tie
 

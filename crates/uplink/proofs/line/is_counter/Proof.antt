@@ -2,7 +2,7 @@
 use borrow.Author.Needs.{needs}
 use Prim.Native.Nat.{ℕ}
 use lib.Dec.{ltb}
-use Rattle.uplink.proofs.Words.{tested}
+use Rattle.uplink.proofs.Frames.{tested}
 use Rattle.uplink.proofs.line.is_counter.Statement.{statement}
 use Rattle.uplink.proofs.line.is_counter.Tie as tie
 

@@ -2,7 +2,7 @@
 use borrow.Author.Needs.{needs}
 use Prim.Native.Nat.{ℕ}
 use lib.Dec.{eqb}
-use Rattle.uplink.proofs.Words.{tested}
+use Rattle.uplink.proofs.Frames.{tested}
 use Rattle.uplink.proofs.line.is_flag.Statement.{statement}
 use Rattle.uplink.proofs.line.is_flag.Tie as tie
 

@@ -1,6 +1,6 @@
 -- `uplink::line::is_none` meets its contract. Assumes nothing.
 use borrow.Author.Needs.{needs}
-use Rattle.uplink.proofs.Words.{none-not, none-is}
+use Rattle.uplink.proofs.Frames.{none-not, none-is}
 use Rattle.uplink.proofs.line.is_none.Statement.{statement}
 use Rattle.uplink.proofs.line.is_none.Tie as tie
 

@@ -1,6 +1,6 @@
 -- `uplink::line::parse` meets its contract. Assumes nothing.
 use mathlib.Core.Path.{sym, _∙_}
-use Rattle.uplink.proofs.Words.{front-read, not-meant, not-five, no-words, a-frame}
+use Rattle.uplink.proofs.Frames.{front-read, not-meant, not-five, no-words, a-frame}
 use borrow.Author.Needs.{needs}
 use Rattle.uplink.proofs.line.parse.Statement.{statement}
 use Rattle.uplink.proofs.line.parse.Tie as tie

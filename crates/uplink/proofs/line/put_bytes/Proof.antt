@@ -1,7 +1,7 @@
 -- `uplink::line::put_bytes` meets its contract. The invariant: what is stored, and what the digits from here on make, is the whole. Assumes nothing.
 use borrow.Author.Needs.{needs}
 use mathlib.Core.Path.{_≡_, refl}
-use Prim.Native.Nat.{_+_, _-_, _*_, _≤_}
+use Prim.Native.Nat.{_-_, _*_, _≤_}
 use native.Mathlib.Omega.{arith}
 use lib.ListN.{length, length-set}
 use Rattle.uplink.proofs.Words.{Stored, stored-start, stored-end, stored-turn, none-more, none-here, none-next, two-more}

@@ -2,7 +2,7 @@
 use mathlib.Core.Path.{sym, _∙_}
 use lib.ListN.{drop}
 use Rattle.uplink.specs.Line.{word}
-use Rattle.uplink.proofs.Words.{payload-bit, payload-none, payload-read}
+use Rattle.uplink.proofs.Frames.{payload-bit, payload-none, payload-read}
 use borrow.Author.Needs.{needs}
 use Rattle.uplink.proofs.line.put_payload.Statement.{statement}
 use Rattle.uplink.proofs.line.put_payload.Tie as tie

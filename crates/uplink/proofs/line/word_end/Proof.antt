@@ -1,6 +1,6 @@
 -- `uplink::line::word_end` meets its contract. The invariant: the word from here on ends where the whole one does. Assumes nothing.
 use borrow.Author.Needs.{needs}
-use mathlib.Core.Path.{_≡_, refl, sym, _∙_}
+use mathlib.Core.Path.{_≡_, refl}
 use Prim.Native.Nat.{_+_, _-_, _≤_}
 use lib.ListN.{length, drop}
 use Rattle.uplink.specs.Line.{word}
