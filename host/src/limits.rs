@@ -27,6 +27,11 @@ pub fn scratch(holds: bool) -> Checked {
     check(holds, 2)
 }
 
+/// A lent slice has the places that the call needs.
+pub fn lent(n: usize, places: usize) -> Checked {
+    check(places <= n, 2)
+}
+
 pub fn at_most(n: usize, most: usize) -> Checked {
     check(n <= most, 3)
 }
@@ -59,6 +64,11 @@ pub fn room(entries: usize, places: usize) -> Checked {
 
 pub fn number(holds: bool) -> Checked {
     check(holds, 9)
+}
+
+/// Request 01: an uplink that a frame carries.
+pub fn uplink(holds: bool) -> Checked {
+    check(holds, 10)
 }
 
 /// No NaN lies in a range.

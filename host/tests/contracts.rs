@@ -143,25 +143,37 @@ fn row(cells: &[&str], of_crates: bool) -> Row {
     }
 }
 
-fn rows() -> Vec<Row> {
+/// The rows of the tables whose first column has this name, as cells.
+fn table_rows(name: &str) -> Vec<Vec<String>> {
     let page = text(&root().join("docs/CONTRACTS.md"));
-    let (mut rows, mut table) = (vec![], "");
+    let (mut rows, mut table) = (vec![], String::new());
     for line in page.lines() {
         if line.starts_with("|---") {
             continue;
         }
         let Some(inner) = line.strip_prefix('|').and_then(|line| line.strip_suffix('|')) else {
-            table = "";
+            table.clear();
             continue;
         };
-        let cells: Vec<&str> = inner.split('|').map(str::trim).collect();
-        match table {
-            "" => table = cells[0],
-            "function" | "crate" => rows.push(row(&cells, table == "crate")),
-            other => panic!("a table of {other}"),
+        let cells: Vec<String> = inner.split('|').map(|cell| cell.trim().to_string()).collect();
+        if table.is_empty() {
+            table.clone_from(&cells[0]);
+            let known = ["function", "crate", "number"].contains(&table.as_str());
+            assert!(known, "a table of {table}");
+        } else if table == name {
+            rows.push(cells);
         }
     }
     rows
+}
+
+fn rows() -> Vec<Row> {
+    let of = |name: &str| {
+        let rows = table_rows(name).into_iter();
+        let of_crates = name == "crate";
+        rows.map(move |cells| row(&cells.iter().map(String::as_str).collect::<Vec<_>>(), of_crates))
+    };
+    of("function").chain(of("crate")).collect()
 }
 
 /// Fails with the list.
@@ -186,6 +198,32 @@ fn every_function_has_its_row() {
         named.difference(&there).cloned(),
     );
     none("in two rows of docs/CONTRACTS.md", twice);
+}
+
+/// The table of causes has the numbers that `limits` has, under its names.
+#[test]
+fn every_cause_is_named() {
+    let folder = root().join("crates/limits");
+    let (code, specs) = (
+        text(&folder.join("src/lib.rt")),
+        text(&folder.join("specs/Limits.antt")),
+    );
+    let rows = table_rows("number");
+    for cells in &rows {
+        let [number, _, names, _] = &cells[..] else {
+            panic!("a cause has four columns: {cells:?}");
+        };
+        let (definition, constant) = names.split_once(", ").expect("two names");
+        let constant = format!("pub const {}: u8 = {number};", constant.trim_matches('`'));
+        assert!(code.contains(&constant), "limits has no {constant}");
+        let definition = format!("\n{definition} = {number}\n");
+        assert!(specs.contains(&definition), "limits has no {definition}");
+    }
+    assert_eq!(
+        rows.len(),
+        code.matches(": u8 = ").count(),
+        "causes in the table, in limits"
+    );
 }
 
 #[test]

@@ -5,11 +5,14 @@ ghost use lib.ListN.{length};
 ghost use Rattle.bursts.specs.Bursts.{defaultOptions, burstAnswer};
 ghost use Rattle.bursts.specs.Levels.{floorAnswer};
 ghost use Rattle.dips.specs.Dips.{dipAnswer, dipsAfter};
-ghost use Rattle.limits.specs.Answer.{number, leaves, Free};
+ghost use Rattle.limits.specs.Answer.{answer, number, leaves, Free};
 ghost use Rattle.clock.specs.Bits.{outcome, handed, bitsAnswer};
 ghost use Rattle.bench.specs.Select.{numbers, selected};
 ghost use Rattle.demod.specs.Capture.{floorOf, captured, captureAnswer, inFront};
 ghost use Rattle.bench.specs.Demod.{levelOf, endOf, countOf, bitCountOf};
+ghost use Rattle.writer.specs.Uplink.{uplinkBits, bitCount};
+ghost use Rattle.writer.specs.Answers.{writeCause, putAll};
+ghost use Rattle.bench.specs.Writer.{sentOf, plainFields};
 use bursts::BurstOptions;
 use bursts::Level;
 use bursts::NextBurst;
@@ -17,6 +20,9 @@ use clock::BurstBits;
 use demod::Captured;
 use demod::Floor;
 use dips::DipCount;
+use frame::SingleBit;
+use frame::header::UplinkFields;
+use writer::Written;
 
 // Whether no element is a NaN. No early exit, so that it runs several elements at a time.
 fn all_numbers32(xs: &[f32]) -> bool
@@ -148,5 +154,29 @@ pub extern "C" fn bench_capture(
     match demod::decode_capture(dbm, rate, t0, Floor::Measured, events, scratch32, scratch64) {
         Captured::Refused(_) => 0,
         Captured::Count(n) => n,
+    }
+}
+
+// How many bits a repetition by writer::write_uplink has, or 0 where it refuses.
+#[no_mangle]
+pub extern "C" fn bench_write_uplink(
+    device: u32,
+    counter: u16,
+    payload: &[u8],
+    auth: &[u8],
+    out: &mut [u8],
+) -> usize
+    ensures { λ r. ⌜ (r ≡ sentOf (answer (writeCause (plainFields device counter) (now (payload .entry)) (now (auth .entry)) (length (now (out .entry)))) (bitCount (plainFields device counter) (now (payload .entry)))))
+        × (now (out .exit) ≡ leaves (writeCause (plainFields device counter) (now (payload .entry)) (now (auth .entry)) (length (now (out .entry)))) (putAll (uplinkBits (plainFields device counter) (now (payload .entry)) (now (auth .entry))) (now (out .entry))) (now (out .entry))) ⌝ }
+{
+    let fields = UplinkFields {
+        device_id: device,
+        counter: counter,
+        bit: SingleBit::Absent,
+        downlink: false,
+    };
+    match writer::write_uplink(fields, payload, auth, out) {
+        Written::Refused(_) => 0,
+        Written::Bits(n) => n,
     }
 }

@@ -111,7 +111,7 @@ fn either(first: bool, a: u8, b: u8) -> u8
 }
 
 // The bits' product, or with `undo` the inputs of which they are the product, into the first places of `out`.
-fn code_into(bits: &[u8], rank: u8, undo: bool, out: &mut [u8])
+pub fn code_into(bits: &[u8], rank: u8, undo: bool, out: &mut [u8])
     requires { ⌜ (areBits (now bits) ≡ true) × (length (now bits) ≤ length (now out)) ⌝ }
     ensures { λ _. ⌜ now (out .exit)
         ≡ map bitOf (cond undo (deconvolved rank fresh (map odd (now (bits .entry)))) (convolved rank fresh (map odd (now (bits .entry)))))

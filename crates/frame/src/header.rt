@@ -41,7 +41,7 @@ pub struct Layout {
     pub li: u8,
 }
 
-fn layout_of(bit: SingleBit, n: usize) -> Layout
+pub fn layout_of(bit: SingleBit, n: usize) -> Layout
     requires { ⌜ n ≤ mostPayload ⌝ }
     ensures { λ r. ⌜ (r .class ≡ classOf bit n) × (r .li ≡ liOf bit n) × (r .class ≤ 4) × (r .li ≤ 3) ⌝ }
 {
@@ -66,7 +66,7 @@ fn layout_of(bit: SingleBit, n: usize) -> Layout
 }
 
 // The header's bytes and the payload, at the front of `out`.
-fn write_header(f: UplinkFields, li: u8, payload: &[u8], out: &mut [u8])
+pub fn write_header(f: UplinkFields, li: u8, payload: &[u8], out: &mut [u8])
     requires { ⌜ (li ≡ liOf (f .bit) (length (now payload))) × (li ≤ 3) × (length (now payload) ≤ mostPayload) × (mostHeader ≤ length (now out)) ⌝ }
     ensures { λ _. ⌜ now (out .exit) ≡ sets (now (out .entry)) 0 (headerBytes f (now (payload .entry))) ⌝ }
 {

@@ -1,4 +1,4 @@
--- The numbers of 01's table of causes ('Causes and returns'), each by one name; the code has one name for each too. Assumes nothing.
+-- The numbers of 01's table of causes ('Causes and returns') and of those that 02 adds, each by one name; the code has one name for each too. Assumes nothing.
 use Prim.Native.Nat.{ℕ, _*_, _^_}
 use lib.Ieee.{Float, neg}
 use Rattle.floats.specs.Number.{num}
@@ -30,6 +30,10 @@ full = 8
 
 abbrev pub badNumber : ℕ
 badNumber = 9
+
+-- 02, request 01: an uplink that no frame carries
+abbrev pub badUplink : ℕ
+badUplink = 10
 
 -- rate not 200 to 4,000
 abbrev pub lowestRate : ℕ

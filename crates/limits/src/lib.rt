@@ -1,8 +1,8 @@
-// The numbers of 01's table of causes: refusals, ranges and sizes, each under one name, and the tests of rates, samples and times that the modules share.
+// The numbers of 01's table of causes, and those that 02 adds: refusals, ranges and sizes, each under one name, and the tests of rates, samples and times that the modules share.
 ghost use mathlib.Core.Path.{_≡_};
 ghost use Rattle.limits.specs.Samples.{rateOk, isDbm, timeOk, allDbm};
 
-// Refusals, by 01's numbers.
+// Refusals, by 01's and 02's numbers.
 pub const BAD_RATE: u8 = 1;
 
 // A lent slice is short.
@@ -26,6 +26,9 @@ pub const STREAM: u8 = 7;
 pub const FULL: u8 = 8;
 
 pub const BAD_NUMBER: u8 = 9;
+
+// An uplink that no frame carries (02, request 01).
+pub const BAD_UPLINK: u8 = 10;
 
 // Samples per second.
 pub const LOWEST_RATE: u32 = 200;

@@ -1,5 +1,6 @@
 // Records as they are compared and printed: a zero's sign aside. docs/REPLAY.md has the formats.
 pub mod spans; // frames' spans in the input
+pub mod uplinks; // an uplink's fields in the input
 
 ghost use mathlib.Core.Path.{_≡_};
 ghost use Prim.Native.Nat.{_+_, _*_, _≤_};

@@ -2,9 +2,7 @@
 use bursts::Level;
 use cfo::StepHz;
 use coding::Coded;
-use frame::SingleBit;
 use frame::control::ControlMessage;
-use frame::header::UplinkFields;
 use frame::header::UplinkHeader;
 use message::Estimated;
 use record::FirstFrameEnd;
@@ -55,22 +53,6 @@ fn coding_row(undo: bool) -> bool {
     print_coded(b"convolve ", coded, &out)
 }
 
-fn bit_of(n: u8) -> SingleBit {
-    if n == 0 {
-        return SingleBit::Absent;
-    }
-    SingleBit::Is(n == 2)
-}
-
-fn fields_of(head: &[u8; 8]) -> UplinkFields {
-    UplinkFields {
-        device_id: endian::get_u32(head, 0),
-        counter: endian::get_u16(head, 4),
-        bit: bit_of(head[6]),
-        downlink: head[7] != 0,
-    }
-}
-
 fn print_header(header: UplinkHeader, out: &[u8]) -> bool {
     match header {
         UplinkHeader::Refused(n) => replay::print_refusal(n),
@@ -102,7 +84,11 @@ fn uplink_header_row() -> bool {
         return replay::print_short();
     }
     let n = kept.count;
-    let header = frame::header::uplink_header(fields_of(&head), &payload[..n], &mut out);
+    let header = frame::header::uplink_header(
+        records::uplinks::fields_of(&head),
+        &payload[..n],
+        &mut out,
+    );
     print_header(header, &out)
 }
 

@@ -11,6 +11,8 @@ mod order;
 mod programs;
 mod receiver;
 mod tracker;
+#[cfg(has_bench)]
+mod writer;
 
 use std::process::ExitCode;
 
@@ -61,14 +63,18 @@ fn machine() -> String {
 /// Rows that call the port's functions through static libraries.
 fn libraries() -> Vec<Row> {
     #[cfg(has_bench)]
-    let (order, demod) = (order::rows(), demod::rows());
+    let (order, demod, writer) = (order::rows(), demod::rows(), writer::rows());
     #[cfg(not(has_bench))]
-    let (order, demod) = (missing("bench", "order"), missing("bench", "demod.rs"));
+    let (order, demod, writer) = (
+        missing("bench", "order"),
+        missing("bench", "demod.rs"),
+        missing("bench", "writer"),
+    );
     #[cfg(has_record)]
     let frame = frame::rows();
     #[cfg(not(has_record))]
     let frame = missing("record", "frame.rs");
-    order.into_iter().chain(frame).chain(demod).collect()
+    order.into_iter().chain(frame).chain(writer).chain(demod).collect()
 }
 
 #[cfg(not(all(has_record, has_bench)))]

@@ -16,6 +16,7 @@ mod rng;
 mod signal;
 mod tracker;
 mod uplink;
+mod writer;
 
 use put::Put;
 use rng::Rng;
@@ -115,6 +116,14 @@ pub const FORMATS: &[Format] = &[
         directed: listen::directed,
         random: listen::random,
         runs: Some(listen::runs),
+    },
+    Format {
+        name: "writer",
+        stream: false,
+        rows: 0,
+        directed: writer::directed,
+        random: writer::random,
+        runs: Some(|| vec![("replay_writer", writer::sample())]),
     },
     Format {
         name: "misc",

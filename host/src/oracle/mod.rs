@@ -11,6 +11,7 @@ pub mod listen;
 mod misc;
 pub mod record;
 pub mod tracker;
+mod writer;
 
 use crate::limits;
 use crate::rust::frequency::FrameSpan;
@@ -30,6 +31,7 @@ fn replay(name: &str) -> Option<Replay> {
         "capture" => capture::case,
         "tracker" => tracker::stream,
         "misc" => misc::case,
+        "writer" => writer::case,
         _ => return None,
     })
 }

@@ -1,0 +1,21 @@
+// An uplink's fields in the input.
+use frame::SingleBit;
+use frame::header::UplinkFields;
+
+// 0 for none, 1 for false, 2 for true.
+fn bit_of(n: u8) -> SingleBit {
+    if n == 0 {
+        return SingleBit::Absent;
+    }
+    SingleBit::Is(n == 2)
+}
+
+// Device, counter, single bit and downlink flag.
+pub fn fields_of(head: &[u8; 8]) -> UplinkFields {
+    UplinkFields {
+        device_id: endian::get_u32(head, 0),
+        counter: endian::get_u16(head, 4),
+        bit: bit_of(head[6]),
+        downlink: head[7] != 0,
+    }
+}

@@ -1,0 +1,100 @@
+-- `uplink::read_line` meets its contract. Assumes nothing.
+use borrow.Author.Needs.{needs}
+use mathlib.Core.Path.{_≡_}
+use Prim.Native.Nat.{_-_}
+use lib.ListN.{length}
+use Rattle.uplink.proofs.read_line.Statement.{statement}
+use Rattle.uplink.proofs.read_line.Tie as tie
+
+abbrev Inv-loop : tie.InvT-loop
+Inv-loop line₀ n₀ line n = length line ≡ length line₀
+
+abbrev μ-loop : tie.MeasureT-loop
+μ-loop line₀ n₀ line n = 4294967296 - n
+
+loop-holds : tie.Need-loop-holds Inv-loop μ-loop
+loop-holds c = search needs
+
+slice-aggregate-read-part : tie.Need-slice-aggregate-read-part Inv-loop μ-loop
+slice-aggregate-read-part c = search needs
+
+read-part-requires : tie.Need-read-part-requires Inv-loop μ-loop
+read-part-requires c κs = search needs
+
+same-length : tie.Need-same-length Inv-loop μ-loop
+same-length c = search needs
+
+returns : tie.Need-returns Inv-loop μ-loop
+returns c = search needs
+
+same-length-2 : tie.Need-same-length-2 Inv-loop μ-loop
+same-length-2 c = search needs
+
+returns-2 : tie.Need-returns-2 Inv-loop μ-loop
+returns-2 c = search needs
+
+array-read-if3 : tie.Need-array-read-if3 Inv-loop μ-loop
+array-read-if3 c = search needs
+
+same-length-3 : tie.Need-same-length-3 Inv-loop μ-loop
+same-length-3 c = search needs
+
+returns-3 : tie.Need-returns-3 Inv-loop μ-loop
+returns-3 c = search needs
+
+array-read-line : tie.Need-array-read-line Inv-loop μ-loop
+array-read-line c = search needs
+
+slice-write-line : tie.Need-slice-write-line Inv-loop μ-loop
+slice-write-line c = search needs
+
+add-n : tie.Need-add-n Inv-loop μ-loop
+add-n c = search needs
+
+loop-less : tie.Need-loop-less Inv-loop μ-loop
+loop-less c = search needs
+
+loop-again : tie.Need-loop-again Inv-loop μ-loop
+loop-again c = search needs
+
+add-n-2 : tie.Need-add-n-2 Inv-loop μ-loop
+add-n-2 c = search needs
+
+loop-less-2 : tie.Need-loop-less-2 Inv-loop μ-loop
+loop-less-2 c = search needs
+
+loop-again-2 : tie.Need-loop-again-2 Inv-loop μ-loop
+loop-again-2 c = search needs
+
+same-length-4 : tie.Need-same-length-4 Inv-loop μ-loop
+same-length-4 c = search needs
+
+returns-4 : tie.Need-returns-4 Inv-loop μ-loop
+returns-4 c = search needs
+
+pub read-line-spec : {M : Type 1} → statement M
+read-line-spec =
+    tie.close
+    (tie.spec
+    Inv-loop
+    μ-loop
+    loop-holds
+    slice-aggregate-read-part
+    read-part-requires
+    same-length
+    returns
+    same-length-2
+    returns-2
+    array-read-if3
+    same-length-3
+    returns-3
+    array-read-line
+    slice-write-line
+    add-n
+    loop-less
+    loop-again
+    add-n-2
+    loop-less-2
+    loop-again-2
+    same-length-4
+    returns-4)

@@ -1,0 +1,2 @@
+-- The definitions that the contracts of `uplink` cite.
+pub mod Line

@@ -1,0 +1,10 @@
+-- The laws of `writer`. RoundTrip proves the statements of specs/RoundTrip.antt, Linked ties them to the contract, Example computes one.
+pub mod ByteLists
+pub mod Starts
+pub mod Sent
+pub mod Stores
+pub mod WriteLaws
+pub mod Places
+pub mod RoundTrip
+pub mod Contracts
+pub mod Example
