@@ -1,4 +1,4 @@
--- The laws of `writer`. RoundTrip proves the statements of specs/RoundTrip.antt, Linked ties them to the contract, Example computes one.
+-- The laws of `writer`. RoundTrip proves the statements of specs/RoundTrip.antt, Contracts ties them to the contract, Example computes one.
 pub mod ByteLists
 pub mod Starts
 pub mod Sent
