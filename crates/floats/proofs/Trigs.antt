@@ -1,16 +1,12 @@
--- The trigonometry: constants by their bit patterns, as compiled code has them, the turns of the loops, the magnitude, and the test of two zeros. Assumes nothing.
-use mathlib.Core.Path.{_≡_, refl, sym, ap, _∙_, subst}
-use mathlib.Core.Bool.{_||_, Bool, true, false, not, _&&_, true≢false}
-use Prim.Native.Nat.{ℕ, zero, suc, _+_, _-_, _*_, _^_, _≤_, _<_}
-use native.Mathlib.Nat.{pow-suc, mul-pos, zero-lt-suc, mul-le-mul, lt-of-le-of-lt}
+-- The trigonometry: constants by their bit patterns, as compiled code has them, the turns of the loops, and the test of two zeros. Assumes nothing.
+use mathlib.Core.Path.{_≡_, refl, sym, ap, _∙_}
+use mathlib.Core.Bool.{Bool, true, false, _&&_}
+use Prim.Native.Nat.{ℕ, zero, suc, _+_, _-_, _*_, _≤_, _<_}
+use native.Mathlib.Nat.{mul-le-mul, lt-of-le-of-lt}
 use native.Mathlib.Omega.{arith}
-use lib.IntN.{ℤ, pos, negsuc}
-use lib.Dec.{T, eqb, ltb→lt, nltb→le, eqb→eq}
-use lib.Pow.{pow-pos}
-use lib.Ieee.Fits.{up-pos, and-l, and-i, eq→eqb}
-use lib.Ieee.Bits.{is-true}
-use lib.Ieee.{Float, nan, inf, fin, binary64, up, down, fits, sub, mul, div, neg, lt, eq, ofInt, ofBits, round}
-use Rattle.floats.specs.Trig.{pi, tau, series, atanFrom, magnitude}
+use lib.IntN.{pos}
+use lib.Ieee.{Float, binary64, sub, mul, div, eq, ofInt, ofBits, round}
+use Rattle.floats.specs.Trig.{pi, tau, series, atanFrom}
 use Rattle.floats.specs.Number.{num, near}
 
 pub zero-is : ofBits binary64 0 ≡ num 0
@@ -81,63 +77,6 @@ atan-end k u p e = ap (λ (n : ℕ). atanFrom n u p) e
 -- a product of two small numbers fits
 pub product : (a b : ℕ) → a ≤ 30 → b ≤ 30 → a * b < 2147483648
 product a b A B = lt-of-le-of-lt (mul-le-mul A B) (omega arith)
-
--- ---- the magnitude
-
-nothing : (d : ℕ) → 0 * 1 * d ≡ 0
-nothing d = omega arith
-
-pub abs-below : (x : Float) → lt x (ofBits binary64 0) ≡ true → neg x ≡ magnitude x
-unfolding ofBits lt neg magnitude
-abs-below nan h = refl
-abs-below (inf true) h = refl
-abs-below (inf false) h = absurd (true≢false (sym h))
-abs-below (fin true m e) h = refl
-abs-below (fin false m e) h = absurd (go (m * up e * 1) (0 * 1 * down e) (nothing (down e)) (ltb→lt (m * up e * 1) (0 * 1 * down e) (subst T (sym h) tt)))
-  where
-    go : (a b : ℕ) → b ≡ 0 → a < b → ⊥
-    go a b z h = omega arith
-
-zero-exp : (s : Bool) (e : ℤ) → T (fits binary64 (fin s zero e)) → e ≡ pos 0
-unfolding fits
-zero-exp s (pos zero) t = refl
-zero-exp s (pos (suc k)) t = absurd (go (2 ^ k) (2 ^ suc k) (pow-pos k) (pow-suc 2 k) (eqb→eq (2 ^ suc k * 1) 1 t))
-  where
-    go : (a b : ℕ) → 0 < a → b ≡ a * 2 → b * 1 ≡ 1 → ⊥
-    go a b p q r = omega arith
-zero-exp s (negsuc k) t = absurd (go (2 ^ k) (2 ^ suc k) (pow-pos k) (pow-suc 2 k) (eqb→eq (1 * 2 ^ suc k) 1 t))
-  where
-    go : (a b : ℕ) → 0 < a → b ≡ a * 2 → 1 * b ≡ 1 → ⊥
-    go a b p q r = omega arith
-
-pub abs-zero : (x : Float) → T (fits binary64 x) → eq x (ofBits binary64 0) ≡ true → ofBits binary64 0 ≡ magnitude x
-unfolding ofBits eq magnitude
-abs-zero nan F h = absurd (true≢false (sym h))
-abs-zero (inf s) F h = absurd (true≢false (sym h))
-abs-zero (fin s zero e) F h = ap (fin false 0) (sym (zero-exp s e F))
-abs-zero (fin s (suc m) e) F h =
-    absurd (go (suc m * up e) (0 * 1 * down e) (mul-pos (zero-lt-suc m) (up-pos e)) (nothing (down e)) (eqb→eq (suc m * up e * 1) (0 * 1 * down e) (and-l (eqb (suc m * up e * 1) (0 * 1 * down e)) _ (subst T (sym h) tt))))
-  where
-    go : (a b : ℕ) → 0 < a → b ≡ 0 → a * 1 ≡ b → ⊥
-    go a b p q r = omega arith
-
-pub abs-above : (x : Float) → lt x (ofBits binary64 0) ≡ false → eq x (ofBits binary64 0) ≡ false → x ≡ magnitude x
-unfolding ofBits lt eq magnitude
-abs-above nan h k = refl
-abs-above (inf true) h k = absurd (true≢false h)
-abs-above (inf false) h k = refl
-abs-above (fin false m e) h k = refl
-abs-above (fin true m e) h k =
-    absurd (go (m * up e * 1) (0 * 1 * down e) (nltb→le 0 (m * up e * 1 + 0 * 1 * down e) (subst (λ (b : Bool). T (not b)) (sym h) tt)) k)
-  where
-    go : (a b : ℕ) → a + b ≤ 0 → eqb a b && (false || eqb a 0) ≡ false → ⊥
-    go a b l k = true≢false (sym (is-true _ (and-i (eqb a b) (eqb a 0) (eq→eqb (x a b l)) (eq→eqb (y a b l)))) ∙ k)
-      where
-        x : (a b : ℕ) → a + b ≤ 0 → a ≡ b
-        x a b l = omega arith
-
-        y : (a b : ℕ) → a + b ≤ 0 → a ≡ 0
-        y a b l = omega arith
 
 -- ---- the test of two zeros
 

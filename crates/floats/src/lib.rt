@@ -1,9 +1,10 @@
-// Floats: floor and rounding from the bits, Rust's casts, choice and maximum, and 01's sine, cosine and arctangent.
+// Floats: floor, rounding, Rust's casts and magnitude from the bits, choice and maximum, and 01's sine, cosine and arctangent.
 ghost use mathlib.Core.Path.{_≡_};
-ghost use mathlib.Core.Bool.{false, cond};
+ghost use mathlib.Core.Bool.{false, not, cond};
 ghost use Prim.Native.Nat.{_≤_, _<_, _^_};
 ghost use lib.IntN.{pos};
-ghost use lib.Ieee.{binary64, round, lt, ofInt, toUnsigned, toSigned};
+ghost use lib.Dec.{T};
+ghost use lib.Ieee.{binary64, round, lt, ofInt, isNan, toUnsigned, toSigned};
 ghost use Rattle.floats.specs.Number.{num};
 ghost use Rattle.floats.specs.Floor.{floor, roundHalfUp};
 ghost use Rattle.floats.specs.Fold.{maxOf};
@@ -63,19 +64,41 @@ pub fn round_half_up(x: f64) -> f64
     floor64(x + 0.5)
 }
 
-// ---- Rust's `as`: toward zero, to the nearest end of the range, and 0 for a NaN
+// ---- Rust's `as`: toward zero, to the nearest end of the range, and 0 for a NaN; worked out from the bits
+
+// The whole part of x's magnitude, or the largest u64 where that is less.
+fn whole_part(x: f64) -> u64
+    requires { ⌜ T (not (isNan x)) ⌝ }
+    ensures { λ r. ⌜ r ≡ toUnsigned 64 (magnitude x) ⌝ }
+{
+    let bits = f64::to_bits(x);
+    let field = bits % 0x8000_0000_0000_0000 / 0x10_0000_0000_0000;
+    let m = bits % 0x10_0000_0000_0000 + 0x10_0000_0000_0000;
+    if field < 1023 {
+        // below 1
+        return 0;
+    }
+    if field < 1075 {
+        return m >> (1075 - field);
+    }
+    if field < 1087 {
+        return m << (field - 1075);
+    }
+    // 2^64 or more
+    u64::MAX
+}
 
 // x as usize
 pub fn to_usize_saturating(x: f64) -> usize
     ensures { λ r. ⌜ r ≡ toUnsigned 64 x ⌝ }
 {
-    if x > -1.0 {
-        if x < 18446744073709551616.0 {
-            return std::num::truncating_f64_to_u64(x) as usize;
-        }
-        return usize::MAX;
+    if x != x {
+        return 0;
     }
-    0
+    if f64::to_bits(x) >= 0x8000_0000_0000_0000 {
+        return 0;
+    }
+    whole_part(x) as usize
 }
 
 // x as u32
@@ -89,46 +112,27 @@ pub fn to_u32_saturating(x: f64) -> u32
     u32::MAX
 }
 
-// x as i64
-pub fn to_i64_saturating(x: f64) -> i64
-    ensures { λ r. ⌜ r ≡ toSigned 63 x ⌝ }
-{
-    if x >= -9223372036854775808.0 {
-        if x < 9223372036854775808.0 {
-            return std::num::truncating_f64_to_i64(x);
-        }
-        return i64::MAX;
-    }
-    if x != x {
-        return 0;
-    }
-    i64::MIN
-}
-
 // x as i32
 pub fn to_i32_saturating(x: f64) -> i32
     ensures { λ r. ⌜ r ≡ toSigned 31 x ⌝ }
 {
-    if x >= -2147483648.0 {
-        if x < 2147483648.0 {
-            return std::num::truncating_f64_to_i64(x) as i32;
-        }
-        return i32::MAX;
-    }
     if x != x {
         return 0;
     }
-    i32::MIN
+    let w = whole_part(x);
+    if f64::to_bits(x) >= 0x8000_0000_0000_0000 {
+        if w < 0x8000_0000 {
+            return -(w as i32);
+        }
+        return i32::MIN;
+    }
+    if w >= 0x8000_0000 {
+        return i32::MAX;
+    }
+    w as i32
 }
 
 // ---- to f64, exactly
-
-// f64::from(x), of a NaN too.
-pub fn widened(x: f32) -> f64
-    ensures { λ r. ⌜ r ≡ x ⌝ }
-{
-    std::num::f32_to_f64_with_nan(x)
-}
 
 // A count as a float.
 pub fn count_as_f64(n: usize) -> f64
@@ -154,13 +158,6 @@ pub fn pick32(t: bool, a: f32, b: f32) -> f32
     if t { a } else { b }
 }
 
-// f64::max of numbers that are no NaN.
-pub fn max64(a: f64, b: f64) -> f64
-    ensures { λ r. ⌜ r ≡ maxOf a b ⌝ }
-{
-    pick64(a < b, b, a)
-}
-
 // f32::max of numbers that are no NaN.
 pub fn max32(a: f32, b: f32) -> f32
     ensures { λ r. ⌜ r ≡ maxOf a b ⌝ }
@@ -168,17 +165,14 @@ pub fn max32(a: f32, b: f32) -> f32
     pick32(a < b, b, a)
 }
 
-// f64::abs
+// f64::abs, worked out from the bits: the pattern without its sign.
 pub fn abs64(x: f64) -> f64
     ensures { λ r. ⌜ r ≡ magnitude x ⌝ }
 {
-    if x < 0.0 {
-        return -x;
+    if x != x {
+        return x;
     }
-    if x == 0.0 {
-        return 0.0;
-    }
-    x
+    f64::from_bits(f64::to_bits(x) % 0x8000_0000_0000_0000)
 }
 
 // ---- 01's stand-ins for sine, cosine and arctangent: the same rounded operations in the same order
