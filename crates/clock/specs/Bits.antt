@@ -37,12 +37,12 @@ unfoldable pub larger : ℤ → ℤ → ℤ
 unfolding atMost
 larger j k = cond (atMost j k) k j
 
--- k and the indexes after it, n in all
+-- n indexes, from k on
 unfoldable pub upward : ℤ → ℕ → List ℤ
 upward k zero = []
 upward k (suc n) = k ∷ upward (sucℤ k) n
 
--- how many: none where the number is under zero
+-- how many indexes a range has: none where its end is before its first
 abbrev pub positivePart : ℤ → ℕ
 positivePart (pos n) = n
 positivePart (negsuc n) = 0
@@ -52,13 +52,14 @@ unfoldable pub indexes : ℤ → ℤ → List ℤ
 unfolding upward
 indexes first end = upward first (positivePart (sucℤ end -ℤ first))
 
--- on_grid.contains(&k)
+-- j == k
 unfoldable pub same : ℤ → ℤ → Bool
 same (pos m) (pos n) = eqb m n
 same (pos m) (negsuc n) = false
 same (negsuc m) (pos n) = false
 same (negsuc m) (negsuc n) = eqb m n
 
+-- on_grid.contains(&k)
 unfoldable pub onGrid : ℤ → List Point → Bool
 unfolding same
 onGrid k [] = false

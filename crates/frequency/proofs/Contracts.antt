@@ -9,7 +9,7 @@ use denote.Triple.Clauses.{AtExit}
 use denote.Ref.{now}
 use Rattle.frequency.specs.Lent.{lists}
 use Rattle.frequency.specs.Order.{causeNew}
-use Rattle.frequency.specs.Calls.{SamplesEnd, CfoEnd, TunedEnd, NextEnd, FrameEnd, Frame1End, freqAnswer, fresh}
+use Rattle.frequency.specs.Calls.{SamplesEnd, CfoEnd, TunedEnd, NextEnd, FrameEnd, Frame1End, saidFreq, freqAnswer, fresh}
 use Rattle.frequency.proofs.FrequencyTracker.new as new-fn
 use Rattle.frequency.proofs.FrequencyTracker.new.Kinds as new-kinds
 use Rattle.frequency.proofs.FrequencyTracker.new.Reads as new-reads
@@ -45,7 +45,7 @@ NewTells =
 abbrev pub FreqTells : Type 0
 FreqTells =
     (κs : Lfts 2) (a : ArgsD freq-fn.signature κs) (r : ResD freq-fn.signature κs) (s : AtExit (endedOf 2 freq-kinds.ps freq-kinds.r) κs)
-    → freq-reads.Learnt κs a r s → r ≡ freqAnswer (a .0) (now (a .1 .0)) (now (a .1 .1 .0))
+    → freq-reads.Learnt κs a r s → saidFreq r ≡ freqAnswer (a .0) (now (a .1 .0)) (now (a .1 .1 .0))
 
 abbrev pub TunedTells : Type 0
 TunedTells =

@@ -1,5 +1,6 @@
 -- What a call answers and leaves, by the number of the first cause that applies to it, 0 where none does (01, 'Causes and returns'). Assumes nothing.
--- 01: "If an answer is an enum, a definition gives this paper's number and values for each of its cases. The promises use that definition." In each crate `said` is that definition.
+-- 01: "If an answer is an enum, a definition gives this paper's number and values for each of its cases. The promises use that definition."
+-- In each crate `said` is that definition (the tracker has one for each of its three enums); where the answer is a struct, `shown` goes from number and values to it.
 use Prim.Native.Nat.{ℕ, zero, suc}
 use mathlib.Core.Path.{_≡_}
 use mathlib.Core.Bool.{true}

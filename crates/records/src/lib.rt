@@ -60,6 +60,7 @@ pub fn without_signs(record: &mut [u8])
 // A record's hexadecimal digits; its zeros lose their sign.
 pub fn print_record(record: &mut [u8])
     requires { ⌜ recordSize ≤ length (now «record») ⌝ }
+    ensures { λ _. ⌜ now («record» .exit) ≡ withoutSigns (now («record» .entry)) ⌝ }
 {
     without_signs(record);
     replay::print_bytes(record, limits::RECORD);

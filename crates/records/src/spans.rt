@@ -1,4 +1,6 @@
 // Frames' spans in the input.
+ghost use mathlib.Core.Path.{_≡_};
+ghost use Rattle.records.specs.Inputs.{spanFrom};
 use record::FrameSpan;
 use replay::Span;
 
@@ -7,7 +9,10 @@ pub struct Spans {
     pub three: [FrameSpan; 3],
 }
 
-pub fn span_of(s: Span) -> FrameSpan {
+// A span as the calls take it.
+pub fn span_of(s: Span) -> FrameSpan
+    ensures { λ r. ⌜ r ≡ spanFrom s ⌝ }
+{
     FrameSpan {
         rank: s.rank,
         time: s.time,

@@ -1,9 +1,13 @@
 // An uplink's fields in the input.
+ghost use mathlib.Core.Path.{_≡_};
+ghost use Rattle.records.specs.Inputs.{bitFrom, fieldsFrom};
 use frame::SingleBit;
 use frame::header::UplinkFields;
 
 // 0 for none, 1 for false, 2 for true.
-fn bit_of(n: u8) -> SingleBit {
+fn bit_of(n: u8) -> SingleBit
+    ensures { λ r. ⌜ r ≡ bitFrom n ⌝ }
+{
     if n == 0 {
         return SingleBit::Absent;
     }
@@ -11,7 +15,9 @@ fn bit_of(n: u8) -> SingleBit {
 }
 
 // Device, counter, single bit and downlink flag.
-pub fn fields_of(head: &[u8; 8]) -> UplinkFields {
+pub fn fields_of(head: &[u8; 8]) -> UplinkFields
+    ensures { λ r. ⌜ r ≡ fieldsFrom (now (head .entry)) ⌝ }
+{
     UplinkFields {
         device_id: endian::get_u32(head, 0),
         counter: endian::get_u16(head, 4),

@@ -2,11 +2,12 @@
 use mathlib.Core.Path.{_≡_, refl, sym, ap, _∙_, subst}
 use mathlib.Core.Bool.{Bool, true, false, cond, _&&_}
 use mathlib.Core.List.{List, [], _∷_, _++_, map}
-use Prim.Native.Nat.{ℕ, _+_, _^_, _<_}
+use Prim.Native.Nat.{ℕ, zero, suc, _+_, _^_, _<_}
 use native.Mathlib.Omega.{arith}
-use lib.Dec.{ltb, eqb}
+use lib.Dec.{ltb}
 use lib.ListN.{length}
 use lib.Ieee.{Float}
+use Rattle.limits.specs.Answer.{accepted, answer}
 use Rattle.cfo.specs.Cfo.{readingHz}
 use Rattle.signal.specs.Seconds.{settling, kept as within}
 use Rattle.signal.specs.Heard.{heard}
@@ -15,14 +16,13 @@ use Rattle.lists.specs.Marks.{retained}
 use Rattle.lists.proofs.Gather.{map-retained}
 use Rattle.measure.specs.Measured.{readingsOf, frame1}
 use Rattle.measure.specs.declared.Frequency.{Frequency}
-use Rattle.measure.specs.declared.Frequency.the-variants.{Nothing, Hz}
+use Rattle.measure.specs.declared.Frequency.the-variants.{Hz}
 use Rattle.record.specs.declared.FrameSpan.{FrameSpan}
 use Rattle.record.specs.Spans.{spansOk}
 use Rattle.frequency.specs.declared.FrequencyTracker.{FrequencyTracker}
-use Rattle.frequency.specs.declared.Frame1.the-variants as first
 use Rattle.frequency.specs.Lent.{Lists, lists, tuningsOf, tracker, packed, stored}
 use Rattle.frequency.specs.Order.{causeFrame}
-use Rattle.frequency.specs.Calls.{fresh, heldReadings, pickFirst, asFirst, frame1Answer}
+use Rattle.frequency.specs.Calls.{fresh, heldReadings, saidFirst}
 use Rattle.frequency.specs.Grown.{Grown, new, tuned, samples, cfo, next}
 use Rattle.frequency.specs.Tracker as T
 use Rattle.frequency.proofs.Grown.{sound, counts-of, unpack}
@@ -190,19 +190,19 @@ grown-holds s l g e =
 
 -- ---- the calls
 
-told : (x : Frequency) (b : Bool) (k a : ℕ) → pickFirst b (asFirst x) (first.Refused k) ≡ first.Hz a → x ≡ Hz a
-told Nothing true k a e = absurd (let z : _≡_ {A = ℕ} 0 1 = cc in omega arith)
-told (Hz n) true k a e = cc
-told x false k a e = absurd (let z : _≡_ {A = ℕ} 0 1 = cc in omega arith)
+told : (x : Frequency) (k a : ℕ) → accepted (Hz a) ≡ answer k x → x ≡ Hz a
+unfolding answer
+told x zero a e = cc
+told x (suc k) a e = absurd (let z : _≡_ {A = ℕ} 0 1 = cc in omega arith)
 
 answers : (s : FrequencyTracker) (l : Lists) (raw : List RawReading) (spans : List FrameSpan) (downlink : Bool) (a : ℕ) (out out′ : List Float)
     → Holds s l raw → Called s l spans downlink a out out′ → Answers (s .rate) raw spans downlink a
-unfolding frame1Answer
+unfolding saidFirst
 answers s l raw spans downlink a out out′ h c =
     let k = causeFrame s (l .at) (l .lo) (l .hz) (length out) (spansOk spans) in
     record {
       path = subst (λ (z : List Reading). DirectPath (s .rate) z spans downlink) h (c .path);
-      answer = ap (λ (z : List Reading). frame1 (s .rate) z spans downlink) (sym h) ∙ told (frame1 (s .rate) (heldReadings s (l .at) (l .lo) (l .hz)) spans downlink) (eqb k 0) k a (sym (c .call .answer));
+      answer = ap (λ (z : List Reading). frame1 (s .rate) z spans downlink) (sym h) ∙ told (frame1 (s .rate) (heldReadings s (l .at) (l .lo) (l .hz)) spans downlink) k a (c .call .says);
     }
 
 calls : (more : ℕ) → Bound more → CallsBound more
