@@ -8,6 +8,7 @@ mod bursts;
 mod capture;
 mod dips;
 mod events;
+mod frame;
 mod listen;
 pub mod load;
 mod misc;
@@ -15,7 +16,6 @@ mod put;
 mod rng;
 mod signal;
 mod tracker;
-mod uplink;
 mod writer;
 
 use put::Put;
