@@ -16,6 +16,7 @@ mod put;
 mod rng;
 mod signal;
 mod tracker;
+mod uplink;
 mod writer;
 
 use put::Put;
@@ -124,6 +125,14 @@ pub const FORMATS: &[Format] = &[
         directed: writer::directed,
         random: writer::random,
         runs: Some(|| vec![("replay_writer", writer::sample())]),
+    },
+    Format {
+        name: "uplink",
+        stream: false,
+        rows: 0,
+        directed: uplink::directed,
+        random: uplink::random,
+        runs: Some(|| vec![("uplink", uplink::sample())]),
     },
     Format {
         name: "misc",
