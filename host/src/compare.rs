@@ -22,7 +22,7 @@ pub fn bin(program: &str) -> PathBuf {
 }
 
 pub fn program_name(name: &str) -> String {
-    if name == "listen" {
+    if matches!(name, "listen" | "uplink") {
         name.to_string()
     } else {
         format!("replay_{name}")

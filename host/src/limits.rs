@@ -13,6 +13,8 @@ pub const LONGEST_STREAM: usize = 1 << 40;
 /// Places of the programs' lists.
 pub const READINGS_HELD: usize = 8000;
 pub const TUNINGS_HELD: usize = 64;
+/// Characters of a line of `uplink`.
+pub const MOST_LINE: usize = 512;
 
 fn check(holds: bool, number: u8) -> Checked {
     if holds { Ok(()) } else { Err(number) }

@@ -1,9 +1,9 @@
 //! Air with frequencies: devices whose repetitions lie 6 kHz above and below their first frame, and a receiver that
 //! tunes where the tracker says.
 
+use super::frame::Uplink;
 use super::rng::Rng;
 use super::signal::{Air, Shape};
-use super::uplink::Uplink;
 pub use crate::listener::STEP_HZ;
 use crate::oracle::tracker::Tracker;
 

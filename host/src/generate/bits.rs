@@ -1,8 +1,8 @@
 //! Inputs of `bits`.
 
+use super::frame::{BODY_BITS, Uplink, damage};
 use super::put::Put;
 use super::rng::Rng;
-use super::uplink::{BODY_BITS, Uplink, damage};
 use super::{Case, case, cut};
 
 const CLASSES: usize = 5;

@@ -1,9 +1,9 @@
 //! Inputs of `burst`.
 
+use super::frame::Uplink;
 use super::put::Put;
 use super::rng::Rng;
 use super::signal::{self, Air, Shape};
-use super::uplink::Uplink;
 use super::{Case, case, cut};
 use crate::rust::demod::{Burst, BurstOptions, find_bursts, noise_floor};
 

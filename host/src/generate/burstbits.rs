@@ -1,9 +1,9 @@
 //! Inputs of `burstbits`.
 
+use super::frame::Uplink;
 use super::put::Put;
 use super::rng::Rng;
 use super::signal::{self, RATES, Shape};
-use super::uplink::Uplink;
 use super::{Case, case, cut, dips};
 
 fn of(label: impl Into<String>, rate: u32, seg: &[f32]) -> Case {

@@ -1,9 +1,9 @@
 //! Inputs of `capture`.
 
+use super::frame::Uplink;
 use super::put::Put;
 use super::rng::Rng;
 use super::signal::{self, Air, Shape};
-use super::uplink::Uplink;
 use super::{Case, case, cut};
 
 fn of(label: impl Into<String>, rate: u32, t0: f64, floor: Option<f32>, dbm: &[f32]) -> Case {

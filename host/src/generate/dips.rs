@@ -1,9 +1,9 @@
 //! Inputs of `dips`.
 
+use super::frame::Uplink;
 use super::put::Put;
 use super::rng::Rng;
 use super::signal::{self, RATES, Shape};
-use super::uplink::Uplink;
 use super::{Case, case, cut};
 
 const LEVEL: f32 = -60.0;

@@ -1,10 +1,10 @@
 //! Inputs for the benchmark: minutes of air with devices, and bits that can't be repaired.
 
+use super::frame::{Uplink, damage};
 use super::listen;
 use super::put::Put;
 use super::rng::Rng;
 use super::signal::{self, Air, Shape};
-use super::uplink::{Uplink, damage};
 use crate::rust::frame::decode_uplink_bits;
 
 /// Records of `listen`.

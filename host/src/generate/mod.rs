@@ -8,6 +8,7 @@ mod bursts;
 mod capture;
 mod dips;
 mod events;
+mod frame;
 mod listen;
 pub mod load;
 mod misc;
@@ -124,6 +125,14 @@ pub const FORMATS: &[Format] = &[
         directed: writer::directed,
         random: writer::random,
         runs: Some(|| vec![("replay_writer", writer::sample())]),
+    },
+    Format {
+        name: "uplink",
+        stream: false,
+        rows: 0,
+        directed: uplink::directed,
+        random: uplink::random,
+        runs: Some(|| vec![("uplink", uplink::sample())]),
     },
     Format {
         name: "misc",

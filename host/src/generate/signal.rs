@@ -1,8 +1,8 @@
 //! Samples in dBm as a receiver sees uplinks: the envelope dips where the phase turns, on the boundary before each bit 0.
 //! Only sums, products and quotients, so that a seed gives the same samples everywhere.
 
+use super::frame::{Uplink, damage};
 use super::rng::Rng;
-use super::uplink::{Uplink, damage};
 
 const BIT_RATE: f64 = 100.0;
 /// From the end of one repetition to the start of the next, in seconds.

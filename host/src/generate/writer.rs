@@ -11,21 +11,21 @@ const BITS: u8 = 3;
 
 /// A case before it is written out.
 #[derive(Clone)]
-struct Message {
-    device: u32,
-    counter: u16,
+pub struct Message {
+    pub device: u32,
+    pub counter: u16,
     /// 0 none, 1 false, 2 true
-    bit: u8,
-    downlink: bool,
-    payload: Vec<u8>,
-    auth: Vec<u8>,
+    pub bit: u8,
+    pub downlink: bool,
+    pub payload: Vec<u8>,
+    pub auth: Vec<u8>,
     room: u16,
     fill: u8,
 }
 
 impl Message {
     /// One that is accepted: a payload of n bytes, or a bit where there is none.
-    fn of(n: usize, bit: u8) -> Self {
+    pub fn of(n: usize, bit: u8) -> Self {
         let auth = auth_size(n);
         Self {
             device: 0x00c0_ffee,
@@ -47,7 +47,7 @@ impl Message {
 }
 
 /// Bytes of authentication that a payload calls for: what fills its class's frame up.
-fn auth_size(n: usize) -> usize {
+pub fn auth_size(n: usize) -> usize {
     match n {
         0 | 1 => 2,
         _ => 2 + n.next_multiple_of(4) - n,
@@ -190,6 +190,13 @@ pub fn sample() -> Case {
 }
 
 pub fn random(rng: &mut Rng) -> Case {
+    let message = message(rng);
+    let whole = message.case(format!("{} bytes", message.payload.len()));
+    if rng.chance(0.01) { cut(rng, 0, whole) } else { whole }
+}
+
+/// One that is accepted, or spoiled.
+pub fn message(rng: &mut Rng) -> Message {
     let n = rng.below(13);
     let bit = if n == 0 { rng.below(BITS.into()) as u8 } else { 0 };
     let mut message = Message {
@@ -205,8 +212,7 @@ pub fn random(rng: &mut Rng) -> Case {
     if rng.chance(0.3) {
         spoil(rng, &mut message);
     }
-    let whole = message.case(format!("{n} bytes"));
-    if rng.chance(0.01) { cut(rng, 0, whole) } else { whole }
+    message
 }
 
 /// One argument taken at random, so that it mostly is refused.

@@ -11,6 +11,7 @@ pub mod listen;
 mod misc;
 pub mod record;
 pub mod tracker;
+mod uplink;
 mod writer;
 
 use crate::limits;
@@ -38,8 +39,10 @@ fn replay(name: &str) -> Option<Replay> {
 
 /// All lines for an input of the format NAME; none where there is no such format.
 pub fn lines(name: &str, input: &[u8]) -> Option<String> {
-    if name == "listen" {
-        return Some(listen::lines(input));
+    match name {
+        "listen" => return Some(listen::lines(input)),
+        "uplink" => return Some(uplink::lines(input)),
+        _ => {}
     }
     let replay = replay(name)?;
     let mut input = Input::new(input);

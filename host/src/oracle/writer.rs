@@ -45,6 +45,16 @@ pub fn case(input: &mut Input, out: &mut String) -> Option<()> {
 /// How many bits each repetition has, or the refusal; the slice is written to only where nothing is refused.
 fn write(fields: &UplinkFields, auth: &[u8], slice: &mut [u8]) -> Result<[usize; 3], u8> {
     limits::lent(slice.len(), 3 * PLACES)?;
+    let repetitions = repetitions(fields, auth)?;
+    for (rank, bits) in repetitions.iter().enumerate() {
+        let bytes: Vec<u8> = bits.iter().map(|&bit| bit.into()).collect();
+        slice[PLACES * rank..][..bytes.len()].copy_from_slice(&bytes);
+    }
+    Ok(repetitions.map(|bits| bits.len()))
+}
+
+/// The bits of each repetition, by rank, or the refusal.
+pub fn repetitions(fields: &UplinkFields, auth: &[u8]) -> Result<[Vec<bool>; 3], u8> {
     limits::uplink(fields.payload.len() <= MOST_PAYLOAD)?;
     limits::uplink(fields.bit.is_none() || fields.payload.is_empty())?;
     limits::uplink(fields.counter <= HIGHEST_COUNTER)?;
@@ -52,11 +62,6 @@ fn write(fields: &UplinkFields, auth: &[u8], slice: &mut [u8]) -> Result<[usize;
     Ok([0, 1, 2].map(|rank| {
         let coded = encode_uplink(fields, rank, auth, false);
         let preamble = (0..PREAMBLE).map(|i| i % 2 == 0);
-        let bits: Vec<u8> = preamble
-            .chain(coded[RUST_PREAMBLE..].iter().copied())
-            .map(u8::from)
-            .collect();
-        slice[PLACES * rank..][..bits.len()].copy_from_slice(&bits);
-        bits.len()
+        preamble.chain(coded[RUST_PREAMBLE..].iter().copied()).collect()
     }))
 }

@@ -4,7 +4,7 @@ use super::Calls;
 use crate::generate::put::Put;
 use crate::generate::rng::Rng;
 use crate::generate::signal::Air;
-use crate::generate::{Case, uplink::Uplink};
+use crate::generate::{Case, frame::Uplink};
 
 const RECORD: usize = 120;
 

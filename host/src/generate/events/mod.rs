@@ -3,10 +3,10 @@
 mod edges;
 mod given;
 
+use super::frame::Uplink;
 use super::put::Put;
 use super::rng::Rng;
 use super::signal::{self, Air, Shape};
-use super::uplink::Uplink;
 use super::{Case, case, cut};
 
 pub use edges::directed;
