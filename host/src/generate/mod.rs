@@ -14,7 +14,7 @@ pub mod load;
 mod misc;
 mod put;
 pub(crate) mod rng;
-pub(crate) mod signal;
+pub mod signal;
 mod tracker;
 mod uplink;
 mod writer;
