@@ -7,7 +7,8 @@ use std::{env, fs};
 const MODULES: [&str; 4] = ["frame", "demod", "frequency", "receiver"];
 
 /// Module, published text, text in its place. Nothing here changes what the Rust answers, but for 01's trigonometry
-/// and 01's rule on bit indexes; the start sample is carried along because 01's records hold it.
+/// and 01's rule on bit indexes; the start sample is carried along because 01's records hold it, the bit grid because it
+/// is drawn.
 const REPLACEMENTS: &[(&str, &str, &str)] = &[
     // 01's trigonometry
     ("demod", "a.sin()", "crate::trig::sin(a)"),
@@ -83,6 +84,17 @@ const REPLACEMENTS: &[(&str, &str, &str)] = &[
         "frequency",
         "    requested: Option<u32>,",
         "    pub requested: Option<u32>,",
+    ),
+    // the bit grid: where bit 0 would start, and the first dip's bit
+    (
+        "demod",
+        "    pub period_samples: f64,\n",
+        "    pub period_samples: f64,\n    pub phase_samples: f64,\n    pub first: i64,\n",
+    ),
+    (
+        "demod",
+        "        period_samples: period,\n",
+        "        period_samples: period,\n        phase_samples: phase,\n        first,\n",
     ),
     // the start sample of a frame, and of a message's first frame
     (

@@ -25,9 +25,11 @@ int main(int argc, char **argv) {
         printf(answer == 255 ? "no frame\n" : "refused: %d\n", answer);
         return 1;
     }
-    printf("device %08lx counter %lu rank %d crc %s payload ", number(record + 8, 4), number(record + 12, 2), record[1],
-           record[2] & 4 ? "right" : "wrong");
-    for (int i = 0; i < record[3]; i++) printf("%02x", record[16 + i]);
-    printf("%s\n", record[3] ? "" : "-");
+    printf("device %08lx counter %lu rank %d crc %s payload ", number(record + BARSHUNET_AT_DEVICE, 4),
+           number(record + BARSHUNET_AT_COUNTER, 2), record[BARSHUNET_AT_RANK],
+           record[BARSHUNET_AT_FLAGS] & BARSHUNET_CRC_RIGHT ? "right" : "wrong");
+    int length = record[BARSHUNET_AT_PAYLOAD_LEN];
+    for (int i = 0; i < length; i++) printf("%02x", record[BARSHUNET_AT_PAYLOAD + i]);
+    printf("%s\n", length ? "" : "-");
     return 0;
 }

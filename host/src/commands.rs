@@ -3,13 +3,14 @@
 use std::io::{self, Read, Write};
 use std::process::ExitCode;
 
-use crate::{bench, compare, generate, oracle, sample, vectors};
+use crate::{bench, compare, draw, generate, oracle, sample, vectors};
 
 const USAGE: &str = "usage: oracle NAME
        gen NAME [--seed N] [--cases N] [--case K]
        compare NAME.. [--seed N] [--cases N] [--row N]
        sample NAME.. | sample frames
-       bench [WORD..]";
+       bench [WORD..]
+       draw";
 
 /// What the flags say, or their defaults.
 struct Flags {
@@ -38,6 +39,7 @@ fn command(words: &[&str], flags: &[&str]) -> Result<ExitCode, String> {
         ["sample", "frames"] => vectors::write(),
         ["sample", names @ ..] if !names.is_empty() => sample::write(names),
         ["bench", words @ ..] => bench::run(words),
+        ["draw"] => print(draw::signal().as_bytes()),
         _ => Err(USAGE.to_string()),
     }
 }
