@@ -1,4 +1,4 @@
--- The two tests of a dip in the Rust's sequence, and what it says that request 02's finds the same dips. Assumes nothing.
+-- The two tests of a dip in the Rust's sequence, and the statement that request 02's sequence finds the same dips. Assumes nothing.
 use Prim.Native.Nat.{ℕ, _-_}
 use mathlib.Core.Path.{_≡_}
 use mathlib.Core.Bool.{Bool, _&&_}
