@@ -19,7 +19,7 @@ use Rattle.rates.specs.Rates.{winOf, halfOf}
 use Rattle.rates.proofs.Rates.{half-is}
 use Rattle.dips.specs.Numbers.{mostDips}
 use Rattle.dips.specs.Dips.{sides, against, lowestOf, neighbours, isDip, centre, indicesFrom, dipIndices, Written}
-use Rattle.limits.proofs.Samples.{and-true, and-right, numbers}
+use Rattle.limits.proofs.Samples.{and-left, numbers}
 use Rattle.dips.proofs.Compares.{compared}
 
 pub lt-or-ge : (a b : ℕ) → (a < b) ⊎ (b ≤ a)
@@ -119,25 +119,21 @@ module _ (half : ℕ) (seg : List Float) (i : ℕ) (h : 0 < half) (a : 0 < i) (b
       go true f = absurd (true≢false (ap not (sym (f refl)) ∙ e))
       go false f = refl
 
--- the two tests in the other order
+-- the two tests, one after the other
 module _ (level : Float) (win half : ℕ) (seg : List Float) (i : ℕ) where
   pub by-sides : (r : Bool) → neighbours half seg i ≡ true → r ≡ sides level win seg i → r ≡ isDip level win half seg i
   unfolding isDip
-  by-sides r n e = rw n (e ∙ sym (and-true (sides level win seg i)))
+  by-sides r n e = rw n e
 
   pub by-neighbours : neighbours half seg i ≡ false → false ≡ isDip level win half seg i
   unfolding isDip
-  by-neighbours n = rw n (no (sides level win seg i))
-    where
-      no : (a : Bool) → false ≡ a && false
-      no true = refl
-      no false = refl
+  by-neighbours n = rw n
 
 -- ---- what is left of the list at an index, and the loop that writes it, n so far
 
 module _ (level : Float) (win half : ℕ) (seg : List Float) where
   abbrev pub dipsLeft : ℕ → List ℕ
-  dipsLeft i = indicesFrom level win half seg (length seg - 1 - i) i
+  dipsLeft i = indicesFrom (isDip level win half seg) (length seg - 1 - i) i
 
   pub left-none : (i : ℕ) → length seg ≤ i + 1 → dipsLeft i ≡ []
   unfolding indicesFrom
@@ -176,7 +172,7 @@ module _ (level : Float) (win half : ℕ) (seg : List Float) where
 
     lowest : (i : ℕ) → isDip level win half seg i ≡ true → neighbours half seg i ≡ true
     unfolding isDip
-    lowest i e = and-right (sides level win seg i) (neighbours half seg i) e
+    lowest i e = and-left (neighbours half seg i) (sides level win seg i) e
 
     no-dip : (i j : ℕ) → i < j → j < length seg → j ≤ i + half → isDip level win half seg i ≡ true → isDip level win half seg j ≡ false
     no-dip i j a b h p = go (isDip level win half seg j) (lowest j)

@@ -2,3 +2,4 @@ pub mod Constants
 pub mod Compares
 pub mod DipLaws
 pub mod DipAnswers
+pub mod Sequence

@@ -49,21 +49,20 @@ unfoldable pub neighbours : ℕ → List Float → ℕ → Bool
 unfolding lowestOf
 neighbours half seg i = lowestOf (getD seg i nan) i (i - half) (slice (i - half) (min (i + half + 1) (length seg)) seg)
 
+-- 02, request 02: "The neighbours within the half window are to be compared first and the side levels after." specs/Sequence.antt has the Rust's sequence.
 unfoldable pub isDip : Float → ℕ → ℕ → List Float → ℕ → Bool
 unfolding sides neighbours
-isDip level win half seg i = sides level win seg i && neighbours half seg i
+isDip level win half seg i = neighbours half seg i && sides level win seg i
 
--- the dips among the n indices from i on
-unfoldable pub indicesFrom : Float → ℕ → ℕ → List Float → ℕ → ℕ → List ℕ
-unfolding isDip
-indicesFrom level win half seg zero i = []
-indicesFrom level win half seg (suc n) i =
-    cond (isDip level win half seg i) (i ∷ indicesFrom level win half seg n (suc i)) (indicesFrom level win half seg n (suc i))
+-- those of the n indices from i on that pass a test
+unfoldable pub indicesFrom : (ℕ → Bool) → ℕ → ℕ → List ℕ
+indicesFrom test zero i = []
+indicesFrom test (suc n) i = cond (test i) (i ∷ indicesFrom test n (suc i)) (indicesFrom test n (suc i))
 
--- of the indices 1 to length - 2
+-- the dips among the indices 1 to length - 2
 unfoldable pub dipIndices : List Float → ℕ → Float → List ℕ
-unfolding indicesFrom
-dipIndices seg rate level = indicesFrom level (winOf rate) (halfOf rate) seg (length seg - 1 - 1) 1
+unfolding isDip indicesFrom
+dipIndices seg rate level = indicesFrom (isDip level (winOf rate) (halfOf rate) seg) (length seg - 1 - 1) 1
 
 -- a dip's centre: the lowest place of the parabola through it and the samples beside it
 unfoldable pub centre : List Float → ℕ → Float

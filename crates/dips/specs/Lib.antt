@@ -1,3 +1,4 @@
 -- The definitions that the contracts of `dips` cite.
 pub mod Numbers
 pub mod Dips
+pub mod Sequence

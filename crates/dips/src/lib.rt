@@ -51,30 +51,30 @@ pub fn least(a: usize, b: usize) -> usize
     if a < b { a } else { b }
 }
 
-// The highest sample from an index to another, that one not in.
-fn side_level(seg: &[f32], from: usize, to: usize) -> f32
-    requires { ⌜ (from ≤ to) × (to ≤ length (now seg)) ⌝ }
+// A side level of sample i, which passed its neighbours: the highest sample from an index to another, that one not in.
+fn side_level(seg: &[f32], half: usize, i: usize, from: usize, to: usize) -> f32
+    requires { ⌜ (neighbours half (now seg) i ≡ true) × (from ≤ to) × (to ≤ length (now seg)) ⌝ }
     ensures { λ r. ⌜ r ≡ maxFrom lowestSide (slice from to (now (seg .entry))) ⌝ }
 {
     let mut m = LOWEST_SIDE;
-    let mut i = from;
-    while i < to {
-        m = floats::max32(m, seg[i]);
-        i += 1;
+    let mut k = from;
+    while k < to {
+        m = floats::max32(m, seg[k]);
+        k += 1;
     }
     m
 }
 
 // Dips are measured against the local envelope on each side (max over 1.5 bits). A real dip has a high level on both sides; this rejects the
 // rising and falling edges of the frame, and copes with the transmit power ramping during the first part of a frame.
-fn sides_high(seg: &[f32], win: usize, level: f64, i: usize) -> bool
-    requires { ⌜ (i < length (now seg)) × (length (now seg) ≤ mostSamples) × (win ≤ mostSamples) ⌝ }
+fn sides_high(seg: &[f32], win: usize, half: usize, level: f64, i: usize) -> bool
+    requires { ⌜ (neighbours half (now seg) i ≡ true) × (i < length (now seg)) × (length (now seg) ≤ mostSamples) × (win ≤ mostSamples) ⌝ }
     ensures { λ r. ⌜ r ≡ sides level win (now (seg .entry)) i ⌝ }
 {
     let v = std::num::f32_to_f64_with_nan(seg[i]);
-    let l = side_level(seg, back(i, win), i);
+    let l = side_level(seg, half, i, back(i, win), i);
     let left = std::num::f32_to_f64_with_nan(l);
-    let r = side_level(seg, i + 1, least(i + 1 + win, seg.len()));
+    let r = side_level(seg, half, i, i + 1, least(i + 1 + win, seg.len()));
     let right = std::num::f32_to_f64_with_nan(r);
     let shallow = v >= floats::pick64(right < left, right, left) - DIP_DB;
     let dim = floats::pick64(left < right, right, left) < level - DIM_DB;
@@ -126,7 +126,7 @@ fn is_dip(seg: &[f32], win: usize, half: usize, level: f64, i: usize) -> bool
 {
     if beside_higher(seg, i) {
         if neighbours_higher(seg, half, i) {
-            return sides_high(seg, win, level, i);
+            return sides_high(seg, win, half, level, i);
         }
     }
     false

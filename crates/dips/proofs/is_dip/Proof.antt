@@ -12,7 +12,7 @@ neighbours-higher-requires : tie.Need-neighbours-higher-requires
 neighbours-higher-requires c κs = search needs
 
 sides-high-requires : tie.Need-sides-high-requires
-sides-high-requires c κs = search needs
+sides-high-requires c κs = (cc, search needs, search needs, search needs)
 
 returns : tie.Need-returns
 returns c =

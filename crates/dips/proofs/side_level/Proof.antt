@@ -12,10 +12,10 @@ use Rattle.dips.proofs.side_level.Statement.{statement}
 use Rattle.dips.proofs.side_level.Tie as tie
 
 abbrev Inv-loop : tie.InvT-loop
-Inv-loop seg from to m₀ i₀ m i = (i ≤ to) × (maxFrom m (slice i to seg) ≡ maxFrom m₀ (slice from to seg))
+Inv-loop seg half i from to m₀ k₀ m k = (k ≤ to) × (maxFrom m (slice k to seg) ≡ maxFrom m₀ (slice from to seg))
 
 abbrev μ-loop : tie.MeasureT-loop
-μ-loop seg from to m₀ i₀ m i = to - i
+μ-loop seg half i from to m₀ k₀ m k = to - k
 
 loop-holds : tie.Need-loop-holds Inv-loop μ-loop
 loop-holds c = (omega arith, refl)
@@ -29,8 +29,8 @@ shared-slice-read-max32 c = search needs
 max32-requires : tie.Need-max32-requires Inv-loop μ-loop
 max32-requires c κs = search needs
 
-add-i : tie.Need-add-i Inv-loop μ-loop
-add-i c = search needs
+add-k : tie.Need-add-k Inv-loop μ-loop
+add-k c = search needs
 
 loop-less : tie.Need-loop-less Inv-loop μ-loop
 loop-less c = search needs
@@ -41,14 +41,14 @@ loop-again c =
     let s = l .before .before in
     let a = s .args in (
       omega arith,
-      side-turn (l .loop .m) (c .max32 .result) (a .seg .now) (l .loop .i) (a .to) _ (c .before .before .loop-test .taken) (s .pre .1) (c .max32 .ensures) (l .loop .inv .1),
+      side-turn (l .loop .m) (c .max32 .result) (a .seg .now) (l .loop .k) (a .to) _ (c .before .before .loop-test .taken) (s .pre .2) (c .max32 .ensures) (l .loop .inv .1),
     )
 
 returns : tie.Need-returns Inv-loop μ-loop
 returns c =
     let l = c .before in
     let a = l .before .before .args in
-    side-end (l .loop .m) (a .seg .now) (l .loop .i) (a .to) _ (omega arith) (l .loop .inv .1 ∙ ap (λ (v : Float). maxFrom v (slice (a .from) (a .to) (a .seg .now))) lowest-side-is)
+    side-end (l .loop .m) (a .seg .now) (l .loop .k) (a .to) _ (omega arith) (l .loop .inv .1 ∙ ap (λ (v : Float). maxFrom v (slice (a .from) (a .to) (a .seg .now))) lowest-side-is)
 
 pub side-level-spec : {M : Type 1} → statement M
 side-level-spec =
@@ -60,7 +60,7 @@ side-level-spec =
     mul-max32
     shared-slice-read-max32
     max32-requires
-    add-i
+    add-k
     loop-less
     loop-again
     returns)
