@@ -3,6 +3,7 @@ use mathlib.Core.Path.{_≡_, sym, ap, _∙_}
 use mathlib.Core.Bool.{Bool}
 use mathlib.Core.List.{List, _++_, map}
 use Prim.Native.Nat.{ℕ, _*_}
+use native.Mathlib.Omega.{arith}
 use lib.ListN.{length, drop}
 use Rattle.limits.specs.Answer.{accepted}
 use Rattle.limits.proofs.AnswerLaws.{refused-answer, refused-lent, done-answer, done-lent}
@@ -51,7 +52,7 @@ code-from-requires : tie.Need-code-from-requires
 code-from-requires c κs =
     let a = c .before .before .before .before .before .before .before .before .before .before .before .before .args in
     let x = none (a .bytes .now) (a .rest .now) (a .rank) (length (a .out .now)) (length (a .out-rest .now)) (sym (c .before .before .before .before .before .before .before .bytes-cause .ensures) ∙ c .before .before .before .before .before .before .if1 .left) in
-    (x .all, x .rest-fits, c .before .before .before .undo-into .ensures .2)
+    (x .all, x .rest-fits, omega (arith, c .before .before .before .undo-into .ensures .2))
 
 state-of-requires : tie.Need-state-of-requires
 state-of-requires c κs = search needs

@@ -14,7 +14,7 @@ one-if-requires : tie.Need-one-if-requires
 one-if-requires c κs = search needs
 
 mul-result : tie.Need-mul-result
-mul-result c = omega (arith, c .one-if .ensures, bit-lt (c .before .args .s .last))
+mul-result c = let a = c .before .args .s in omega (arith, c .one-if .ensures, bit-lt (a .last), bit-lt (a .second))
 
 one-if-requires-2 : tie.Need-one-if-requires-2
 one-if-requires-2 c κs = search needs
