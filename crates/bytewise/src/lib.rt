@@ -11,6 +11,8 @@ ghost use Rattle.conv_tables.specs.Tables.{decodedByte, nextState, decodedTable
 ghost use Rattle.bytewise.specs.Steps.{byBytes, stateBytes};
 ghost use Rattle.bytewise.specs.Answers.{stateIs, said, bytesCause, bytesAnswer, bytesOut, restOut};
 use coding::HIGHEST_RANK;
+use conv_tables::RANK_PLACES;
+use conv_tables::STATE_PLACES;
 
 // The code's state: the last decoded bit and the one before it. Both are false where a repetition starts.
 pub struct ConvState {
@@ -64,7 +66,7 @@ fn undone_byte(decoded: &[u8; 2048], next: &[u8; 2048], rank: u8, state: u8, b: 
             state: 2 * (b % 2) + b / 2 % 2,
         };
     }
-    let k = 1024 * (rank as usize - 1) + 256 * (state as usize) + (b as usize);
+    let k = RANK_PLACES * (rank as usize - 1) + STATE_PLACES * (state as usize) + (b as usize);
     Step {
         byte: decoded[k],
         state: next[k],

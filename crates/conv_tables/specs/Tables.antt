@@ -17,16 +17,22 @@ unfoldable pub nextState : ℕ → ℕ → ℕ → ℕ
 unfolding deconvolved digits stateAfter
 nextState rank n b = stateNumber (stateAfter (numbered n) (inputs rank n b))
 
--- two ranks, four states, 256 bytes
+-- the places of a state: 256 bytes; of a rank: four states; of a table: two ranks
+abbrev pub statePlaces : ℕ
+statePlaces = 256
+
+abbrev pub rankPlaces : ℕ
+rankPlaces = 1024
+
 abbrev pub entries : ℕ
 entries = 2048
 
 -- the place of a rank, state and byte, and back
 abbrev pub place : ℕ → ℕ → ℕ → ℕ
-place rank n b = 1024 * (rank - 1) + 256 * n + b
+place rank n b = rankPlaces * (rank - 1) + statePlaces * n + b
 
 abbrev pub atPlace : (ℕ → ℕ → ℕ → ℕ) → ℕ → ℕ
-atPlace f k = f (k / 1024 + 1) (k / 256 % 4) (k % 256)
+atPlace f k = f (k / rankPlaces + 1) (k / statePlaces % 4) (k % statePlaces)
 
 -- n values from i on
 unfoldable pub tabulated : (ℕ → ℕ) → ℕ → ℕ → List ℕ

@@ -6,7 +6,12 @@ use table::NEXT;
 
 mod table; // the constants
 
-// The decoded bytes, 1,024 places a rank and 256 a state. A read of a constant copies all of it, so a caller takes it once and lends it.
+// The places of a state, 256 bytes, and of a rank, four states.
+pub const STATE_PLACES: usize = 256;
+
+pub const RANK_PLACES: usize = 1024;
+
+// The decoded bytes. A read of a constant copies all of it, so a caller takes it once and lends it.
 pub fn decoded() -> [u8; 2048]
     ensures { λ r. ⌜ r ≡ decodedTable ⌝ }
 {
