@@ -7,8 +7,8 @@ use std::{env, fs};
 const MODULES: [&str; 4] = ["frame", "demod", "frequency", "receiver"];
 
 /// Module, published text, text in its place. Nothing here changes what the Rust answers, but for 01's trigonometry
-/// and 01's rule on bit indexes; the start sample is carried along because 01's records hold it, the bit grid because it
-/// is drawn.
+/// and 01's rule on bit indexes; the start sample is carried along because 01's records hold it, the state of `deconvolve`
+/// because request 06 starts from any, the bit grid because it is drawn.
 const REPLACEMENTS: &[(&str, &str, &str)] = &[
     // 01's trigonometry
     ("demod", "a.sin()", "crate::trig::sin(a)"),
@@ -24,6 +24,19 @@ const REPLACEMENTS: &[(&str, &str, &str)] = &[
         "demod",
         "((last_high as f64 - phase) / period).floor() as i64",
         "super::bit_index(((last_high as f64 - phase) / period).floor())?",
+    ),
+    // deconvolve from any state, with the state at the end
+    (
+        "frame",
+        "pub fn deconvolve(bits: &[bool], rank: usize) -> Vec<bool> {\n    let mut state = 0;\n    bits.iter()",
+        "pub fn deconvolve(bits: &[bool], rank: usize) -> Vec<bool> {\n    deconvolve_from(bits, rank, 0).0\n}\n\n\
+         pub fn deconvolve_from(bits: &[bool], rank: usize, mut state: usize) -> (Vec<bool>, usize) {\n    \
+         let decoded = bits.iter()",
+    ),
+    (
+        "frame",
+        "            input\n        })\n        .collect()\n",
+        "            input\n        })\n        .collect();\n    (decoded, state)\n",
     ),
     // the modules stand one level lower
     ("demod", "use crate::frame::", "use super::frame::"),

@@ -2,14 +2,14 @@
 use mathlib.Core.Path.{_≡_, refl, sym, ap, ap₂, _∙_}
 use mathlib.Core.Bool.{Bool, true, false, cond}
 use mathlib.Core.List.{List, [], _∷_, _++_, map}
-use Prim.Native.Nat.{ℕ, zero, suc, _+_, _%_, _≤_, _<_}
+use Prim.Native.Nat.{ℕ, zero, suc, _+_, _*_, _/_, _%_, _≤_, _<_}
 use native.Mathlib.Nat.{mod-eq-of-lt, le-antisymm}
 use native.Mathlib.Omega.{arith}
 use native.Mathlib.Numerals.{add-one}
 use lib.ListN.{length, take, drop, getD, set, drop-of-length-le, take-append-drop}
 use lib.Seq.{drop-cons, take-suc-set, drop-set-lt, append-snoc}
 use Rattle.coding.specs.Bits.{plus, odd, bitOf}
-use Rattle.coding.specs.Convolution.{State, coded, tap, shift, stateOf, stateAfter, convolved, deconvolved}
+use Rattle.coding.specs.Convolution.{State, coded, tap, shift, stateOf, stateAfter, numbered, convolved, deconvolved, through, taken}
 use Rattle.coding.proofs.BitLaws.{odd-sum, bit-odd, odd-bit, plus-false, plus-twice}
 
 -- every generator has the coefficient 1: a product's bit is the input and what the state adds
@@ -114,9 +114,6 @@ no-tap (suc (suc (suc r))) b s l h k = no-sum b l
 
 -- ---- either direction: the next bit, and the state after it
 
-abbrev pub through : Bool → ℕ → State → List Bool → List Bool
-through undo r s l = cond undo (deconvolved r s l) (convolved r s l)
-
 through-cons : (undo : Bool) (r : ℕ) (s : State) (b : Bool) (l : List Bool)
     → through undo r s (b ∷ l) ≡ plus b (tap r s) ∷ through undo r (shift s (cond undo (plus b (tap r s)) b)) l
 unfolding convolved deconvolved
@@ -161,3 +158,46 @@ whole-end undo rank bits out p q i h k =
     ap (λ (d : List ℕ). take i out ++ (map bitOf (through undo rank (stateOf p q) (map odd d)) ++ drop (length bits) out)) (drop-of-length-le bits h)
     ∙ ap (λ (d : List Bool). take i out ++ (map bitOf d ++ drop (length bits) out)) (through-nil undo rank (stateOf p q))
     ∙ ap (λ (j : ℕ). take i out ++ drop j out) (le-antisymm h k) ∙ take-append-drop i out
+
+-- the state after all of them, from the state after some
+taken-cons : (undo : Bool) (r : ℕ) (s : State) (b : Bool) (l : List Bool)
+    → stateAfter s (taken undo r s (b ∷ l))
+    ≡ stateAfter (shift s (cond undo (plus b (tap r s)) b)) (taken undo r (shift s (cond undo (plus b (tap r s)) b)) l)
+unfolding stateAfter deconvolved
+taken-cons true r s b l = refl
+taken-cons false r s b l = refl
+
+unfoldable pub ends : Bool → ℕ → List ℕ → ℕ → ℕ → ℕ → State
+ends undo rank bits p q i = stateAfter (stateOf p q) (taken undo rank (stateOf p q) (map odd (drop i bits)))
+
+pub ends-step : (undo : Bool) (rank : ℕ) (bits : List ℕ) (p q i a n : ℕ) → i < length bits
+    → a ≡ bitOf (plus (odd (getD bits i 0)) (tap rank (stateOf p q))) → n ≡ cond undo a (getD bits i 0)
+    → ends undo rank bits p q i ≡ ends undo rank bits n p (i + 1)
+unfolding ends
+ends-step undo rank bits p q i a n h e f =
+    let b = getD bits i 0 in
+    let s = stateOf p q in
+    let x = plus (odd b) (tap rank s) in
+    let l = map odd (drop (suc i) bits) in
+    let go : Bool → State = λ y. stateAfter (shift s y) (taken undo rank (shift s y) l) in
+    let xa : x ≡ odd a = sym (odd-bit x) ∙ ap odd (sym e) in
+    let y : cond undo x (odd b) ≡ odd n = ap (λ (z : Bool). cond undo z (odd b)) xa ∙ sym (odd-either undo a b) ∙ ap odd (sym f) in
+    ap (λ (d : List ℕ). stateAfter s (taken undo rank s (map odd d))) (drop-cons bits i 0 h)
+    ∙ taken-cons undo rank s (odd b) l
+    ∙ ap go y
+    ∙ ap (λ (j : ℕ). stateAfter (stateOf n p) (taken undo rank (stateOf n p) (map odd (drop j bits)))) (sym (add-one i))
+
+taken-nil : (undo : Bool) (r : ℕ) (s : State) → stateAfter s (taken undo r s []) ≡ s
+unfolding stateAfter deconvolved
+taken-nil true r s = refl
+taken-nil false r s = refl
+
+pub number-pair : (p q : ℕ) → p < 2 → q < 2 → numbered (2 * p + q) ≡ stateOf p q
+number-pair p q h k =
+    ap₂ stateOf (let e : (2 * p + q) / 2 ≡ p = omega arith in e) (let e : (2 * p + q) % 2 ≡ q = omega arith in e)
+
+pub ends-end : (undo : Bool) (rank : ℕ) (bits : List ℕ) (p q i : ℕ) → length bits ≤ i → p < 2 → q < 2 → numbered (2 * p + q) ≡ ends undo rank bits p q i
+unfolding ends
+ends-end undo rank bits p q i h k m =
+    number-pair p q k m
+    ∙ sym (ap (λ (d : List ℕ). stateAfter (stateOf p q) (taken undo rank (stateOf p q) (map odd d))) (drop-of-length-le bits h) ∙ taken-nil undo rank (stateOf p q))

@@ -4,6 +4,7 @@ pub mod Division
 pub mod Quotient
 pub mod BitLaws
 pub mod Values
+pub mod ByteLists
 pub mod Codes
 pub mod Causes
 pub mod ByteLaws

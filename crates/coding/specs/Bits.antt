@@ -3,7 +3,7 @@ use Prim.Native.Nat.{ℕ, zero, suc, _+_, _/_, _%_, _^_}
 use mathlib.Core.Bool.{Bool, true, false, not, cond, _&&_}
 use mathlib.Core.List.{List, [], _∷_, _++_}
 use lib.Dec.{eqb, leb}
-use lib.ListN.{length}
+use lib.ListN.{length, take, drop}
 
 -- the sum of two bits
 abbrev pub plus : Bool → Bool → Bool
@@ -31,6 +31,11 @@ value (b ∷ l) = cond b (2 ^ length l) 0 + value l
 unfoldable pub bytesBits : List ℕ → List Bool
 bytesBits [] = []
 bytesBits (b ∷ bs) = digits 8 b ++ bytesBits bs
+
+-- the first n bytes of a list of bits, each byte's highest bit first (frame.rs to_bytes)
+unfoldable pub toBytes : ℕ → List Bool → List ℕ
+toBytes zero l = []
+toBytes (suc n) l = value (take 8 l) ∷ toBytes n (drop 8 l)
 
 -- each is 0 or 1 (01, cause 9: 'bit byte over 1')
 unfoldable pub areBits : List ℕ → Bool

@@ -1,9 +1,9 @@
 -- The convolutional codes of the repetitions (Sigfox radio specifications; frame.rs CONV_OUT, CONV_NEXT). A list of bits is a power series over GF(2) in
 -- the delay D, its first bit the constant term; a repetition is sent as its product with the rank's generator. Assumes nothing.
-use Prim.Native.Nat.{ℕ, zero, suc}
-use mathlib.Core.Bool.{Bool, true, false, _&&_}
+use Prim.Native.Nat.{ℕ, zero, suc, _+_, _*_, _/_, _%_}
+use mathlib.Core.Bool.{Bool, true, false, cond, _&&_}
 use mathlib.Core.List.{List, [], _∷_}
-use Rattle.coding.specs.Bits.{plus, odd}
+use Rattle.coding.specs.Bits.{plus, odd, bitOf}
 
 -- the coefficients of 1, D, D²: rank 1 is sent with 1 + D + D², rank 2 with 1 + D², the first transmission as it is
 abbrev pub generator : ℕ → List Bool
@@ -56,3 +56,17 @@ deconvolved r s (b ∷ l) = plus b (tap r s) ∷ deconvolved r (shift s (plus b 
 -- the state of the code's loops: two bits as numbers, the last input and the one before it
 abbrev pub stateOf : ℕ → ℕ → State
 stateOf p q = record { last = odd p; second = odd q }
+
+-- a state as frame.rs has it (CONV_NEXT), a number under 4: the last input counts 2, the one before it 1
+abbrev pub stateNumber : State → ℕ
+stateNumber s = 2 * bitOf (s .last) + bitOf (s .second)
+
+abbrev pub numbered : ℕ → State
+numbered n = stateOf (n / 2) (n % 2)
+
+-- either direction, as one loop has them, and the inputs that the state takes up
+abbrev pub through : Bool → ℕ → State → List Bool → List Bool
+through undo r s l = cond undo (deconvolved r s l) (convolved r s l)
+
+abbrev pub taken : Bool → ℕ → State → List Bool → List Bool
+taken undo r s l = cond undo (deconvolved r s l) l

@@ -7,7 +7,7 @@ ghost use lib.ListN.{length, drop};
 ghost use Rattle.coding.specs.Bits.{odd, bitOf, plus, digits, areBits};
 ghost use Rattle.coding.specs.Crc.{crcOf};
 ghost use Rattle.coding.specs.Register.{run};
-ghost use Rattle.coding.specs.Convolution.{tap, fresh, stateOf, convolved, deconvolved};
+ghost use Rattle.coding.specs.Convolution.{tap, fresh, stateOf, numbered, stateAfter, convolved, deconvolved, through, taken};
 ghost use Rattle.coding.specs.Answers.{said, codingCause, codingAnswer, convolveOut, deconvolveOut};
 
 // The CRC's divisor after x^16: x^12, x^5 and 1.
@@ -110,15 +110,17 @@ fn either(first: bool, a: u8, b: u8) -> u8
     if first { a } else { b }
 }
 
-// The bits' product, or with `undo` the inputs of which they are the product, into the first places of `out`.
-pub fn code_into(bits: &[u8], rank: u8, undo: bool, out: &mut [u8])
-    requires { ⌜ (areBits (now bits) ≡ true) × (length (now bits) ≤ length (now out)) ⌝ }
-    ensures { λ _. ⌜ now (out .exit)
-        ≡ map bitOf (cond undo (deconvolved rank fresh (map odd (now (bits .entry)))) (convolved rank fresh (map odd (now (bits .entry)))))
-        ++ drop (length (now (bits .entry))) (now (out .entry)) ⌝ }
+// The bits' product, or with `undo` the inputs of which they are the product, from a state on, into the first places of `out`; the state after them.
+// A state is frame.rs's number: the last input counts 2, the one before it 1.
+pub fn code_from(bits: &[u8], rank: u8, undo: bool, state: u8, out: &mut [u8]) -> u8
+    requires { ⌜ (areBits (now bits) ≡ true) × (length (now bits) ≤ length (now out)) × (state < 4) ⌝ }
+    ensures { λ r. ⌜ (now (out .exit)
+        ≡ map bitOf (through undo rank (numbered state) (map odd (now (bits .entry)))) ++ drop (length (now (bits .entry))) (now (out .entry)))
+        × (numbered r ≡ stateAfter (numbered state) (taken undo rank (numbered state) (map odd (now (bits .entry)))))
+        × (r < 4) ⌝ }
 {
-    let mut p: u8 = 0;
-    let mut q: u8 = 0;
+    let mut p = state / 2;
+    let mut q = state % 2;
     let mut i: usize = 0;
     while i < bits.len() {
         let b = bits[i];
@@ -128,6 +130,16 @@ pub fn code_into(bits: &[u8], rank: u8, undo: bool, out: &mut [u8])
         p = either(undo, a, b);
         i += 1;
     }
+    2 * p + q
+}
+
+// The same from zeros.
+pub fn code_into(bits: &[u8], rank: u8, undo: bool, out: &mut [u8])
+    requires { ⌜ (areBits (now bits) ≡ true) × (length (now bits) ≤ length (now out)) ⌝ }
+    ensures { λ _. ⌜ now (out .exit)
+        ≡ map bitOf (through undo rank fresh (map odd (now (bits .entry)))) ++ drop (length (now (bits .entry))) (now (out .entry)) ⌝ }
+{
+    code_from(bits, rank, undo, 0, out);
 }
 
 // The bits as a repetition sends them (frame.rs convolve).

@@ -12,11 +12,12 @@ use lib.Ieee.{Float, binary32, binary64, div, fits}
 use lib.Ieee.Fits.{add-fits}
 use Rattle.floats.specs.Number.{num}
 use Rattle.endian.proofs.Numbers.{number-lt}
-use Rattle.coding.specs.Bits.{odd, value}
+use Rattle.coding.specs.Bits.{odd, value, toBytes}
 use Rattle.coding.specs.Convolution.{fresh, deconvolved}
+use Rattle.coding.proofs.ByteLists.{byte-lt}
 use Rattle.frame.specs.Kinds.{syncSize, kinds, kindOf}
 use Rattle.frame.specs.Sizes.{headerSize, mostPayload, mostAuth, payloadSize, authSize, bodyBytes}
-use Rattle.frame.specs.Fields.{toBytes, byteAt, li, padded, frameFrom}
+use Rattle.frame.specs.Fields.{byteAt, li, padded, frameFrom}
 use Rattle.frame.specs.Repairs.{repaired, repairs, firstOf}
 use Rattle.frame.specs.Decode.{blankFrame, nothing, found, passes, parseBody, decodeBody, decideAt, firstStart, starts, searchFrom, decodeUplink}
 use Rattle.frame.specs.declared.kinds.FrameKind.{FrameKind}
@@ -29,7 +30,7 @@ use Rattle.frame.specs.declared.Outcome.{Outcome}
 use Rattle.frame.specs.declared.Outcome.the-variants.{Refused, Nothing, Frame}
 use Rattle.frame.proofs.KindLaws.{found-rank, found-class}
 use Rattle.frame.proofs.SizeLaws.{payload-most, auth-most}
-use Rattle.frame.proofs.FieldLaws.{byte-lt, li-lt}
+use Rattle.frame.proofs.FieldLaws.{li-lt}
 use Rattle.bursts.specs.declared.Burst.{Burst}
 use Rattle.clock.specs.Bits as bits
 use Rattle.limits.specs.Answer.{accepted}

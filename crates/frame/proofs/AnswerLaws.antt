@@ -8,12 +8,12 @@ use lib.Dec.{leb, ltb}
 use lib.ListN.{length, take, drop, replicate, length-append, length-replicate}
 use borrow.Author.Tests.{lt-ltb, ltb-true, leb-true}
 use Rattle.limits.specs.Limits.{mostBits, long, badNumber}
-use Rattle.coding.specs.Bits.{odd, value, areBits}
+use Rattle.coding.specs.Bits.{odd, value, toBytes, areBits}
 use Rattle.coding.specs.Convolution.{fresh, deconvolved}
 use Rattle.coding.specs.Answers.{highestRank}
 use Rattle.frame.specs.Kinds.{syncSize, kinds, kindOf}
 use Rattle.frame.specs.Sizes.{headerSize, mostPayload, mostAuth, payloadSize, authSize, bodyBytes}
-use Rattle.frame.specs.Fields.{toBytes, li, payloadOf, authOf, padded, frameFrom}
+use Rattle.frame.specs.Fields.{li, payloadOf, authOf, padded, frameFrom}
 use Rattle.frame.specs.Repairs.{repaired}
 use Rattle.frame.specs.Decode.{withoutFrame, found, nothing, refused, parseBody, passes, firstRepair, decodeBody, decideAt, searchFrom, starts, firstStart, decodeUplink, uplinkAnswer}
 use Rattle.frame.specs.Splices.{placed}

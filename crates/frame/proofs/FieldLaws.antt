@@ -2,22 +2,21 @@
 use mathlib.Core.Path.{_≡_, refl, sym, ap, ap₂, _∙_}
 use mathlib.Core.Bool.{Bool, true, false, cond, _&&_}
 use mathlib.Core.List.{List, [], _∷_, _++_, map}
-use Prim.Native.Nat.{ℕ, zero, suc, _+_, _-_, _*_, _/_, _^_, _≤_, _<_}
+use Prim.Native.Nat.{ℕ, zero, suc, _+_, _-_, _*_, _/_, _≤_, _<_}
 use native.Mathlib.Omega.{arith}
 use native.Mathlib.Nat.{sub-zero}
 use lib.Dec.{eqb, leb}
-use lib.Pow.{pow-mono}
 use lib.ListN.{length, take, drop, getD, replicate, List·getD-append, length-drop}
-use lib.Seq.{take-append-le, drop-append-le, take-take, take-nil, length-take-le, take-all}
-use borrow.Author.Tests.{le-leb, lt-leb, leb-true, leb-false}
+use lib.Seq.{take-append-le, drop-append-le, take-take, take-nil}
+use borrow.Author.Tests.{le-leb, lt-leb}
 use Rattle.endian.specs.Bytes.{numberOf, numberAt}
-use Rattle.coding.specs.Bits.{odd, value}
+use Rattle.coding.specs.Bits.{odd, value, toBytes}
 use Rattle.coding.specs.Crc.{crcOf}
 use Rattle.coding.specs.Convolution.{fresh, deconvolved}
+use Rattle.coding.proofs.ByteLists.{length-bytes, byte-lt}
 use Rattle.coding.proofs.Codes.{deconvolve-take}
-use Rattle.coding.proofs.Values.{value-lt}
 use Rattle.frame.specs.Sizes.{headerSize, mostPayload, mostAuth, mostBytes, payloadSize, authSize, bodyBytes}
-use Rattle.frame.specs.Fields.{toBytes, byteAt, li, counterOf, deviceOf, payloadOf, authOf, bitFrom, crcRight, padded, frameFrom}
+use Rattle.frame.specs.Fields.{byteAt, li, counterOf, deviceOf, payloadOf, authOf, bitFrom, crcRight, padded, frameFrom}
 use Rattle.frame.specs.Repairs.{repaired}
 use Rattle.frame.specs.Decode.{found, nothing, parseBody, passes}
 use Rattle.frame.specs.Plain.{rightBits}
@@ -27,25 +26,9 @@ use Rattle.frame.specs.declared.kinds.FrameKind.{FrameKind}
 use Rattle.frame.specs.declared.Repair.{Repair}
 use Rattle.frame.specs.declared.UplinkFrame.{UplinkFrame}
 use Rattle.frame.proofs.SizeLaws.{li-cancels, body-least}
-use Rattle.frame.proofs.PlainLaws.{length-bytes}
 use Rattle.frame.proofs.SpliceLaws.{Makes}
 
--- ---- a byte is below 256
-
-short-value : (l : List Bool) (n : ℕ) → value (take n l) < 2 ^ n
-short-value l n = go (leb n (length l)) (leb-true n (length l)) (leb-false n (length l))
-  where
-    go : (b : Bool) → (b ≡ true → n ≤ length l) → (b ≡ false → length l < n) → value (take n l) < 2 ^ n
-    go true f g = omega (arith, value-lt (take n l), ap (λ (k : ℕ). 2 ^ k) (length-take-le n l (f refl)))
-    go false f g =
-        let h = g refl in
-        omega (arith, value-lt (take n l), ap (λ (k : ℕ). 2 ^ k) (ap length (take-all n l (omega arith))), pow-mono {i = length l} {j = n} (omega arith))
-
-pub byte-lt : (n i : ℕ) (l : List Bool) → byteAt (toBytes n l) i < 256
-unfolding toBytes
-byte-lt zero i l = omega arith
-byte-lt (suc n) zero l = short-value l 8
-byte-lt (suc n) (suc i) l = byte-lt n i (drop 8 l)
+-- ---- LI is below 4
 
 pub li-lt : (n : ℕ) (l : List Bool) → li (toBytes n l) ≤ 3
 li-lt n l = omega (arith, byte-lt n 0 l)

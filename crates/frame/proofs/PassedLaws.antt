@@ -1,22 +1,23 @@
 -- Bytes passed from the front of a body, with the CRC's register, and when the CRC is right. Assumes nothing.
 use mathlib.Core.Path.{_≡_, refl, sym, ap, ap₂, _∙_, subst}
 use mathlib.Core.Bool.{Bool, _&&_}
-use mathlib.Core.List.{List, [], _∷_, _++_, map}
+use mathlib.Core.List.{List, map}
 use Prim.Native.Nat.{ℕ, zero, suc, _+_, _-_, _*_, _/_, _≤_, _<_}
 use native.Mathlib.Omega.{arith}
 use lib.Dec.{eqb}
 use lib.ListN.{length, take, drop, set, length-drop}
 use lib.Seq.{take-add, take-take, length-take-le, drop-drop}
 use borrow.Author.Tests.{le-leb}
-use Rattle.coding.specs.Bits.{odd, digits, value, bytesBits}
+use Rattle.coding.specs.Bits.{odd, digits, value, bytesBits, toBytes}
 use Rattle.coding.specs.Crc.{crcBits, crcOf}
 use Rattle.coding.specs.Register.{run}
 use Rattle.coding.specs.Convolution.{State, fresh, stateOf, stateAfter, deconvolved}
 use Rattle.coding.proofs.Values.{digits-value}
+use Rattle.coding.proofs.ByteLists.{bytes-bits}
 use Rattle.coding.proofs.Division.{crc-is, run-lt, run-append}
 use Rattle.coding.proofs.Codes.{length-deconvolved, deconvolve-take}
 use Rattle.frame.specs.Sizes.{mostBytes}
-use Rattle.frame.specs.Fields.{toBytes, byteAt, padded, crcRight}
+use Rattle.frame.specs.Fields.{byteAt, padded, crcRight}
 use Rattle.frame.specs.Plain.{NextByte, Passed, rightBits}
 use Rattle.frame.specs.Splices.{spliced, SpliceOk}
 use Rattle.frame.specs.declared.bodies.Prefix.{Prefix}
@@ -82,15 +83,6 @@ bytes-at (suc n) zero l h = refl
 bytes-at (suc n) (suc i) l h =
     bytes-at n i (drop 8 l) (omega arith)
     ∙ ap (λ (t : List Bool). value (take 8 t)) (drop-drop (8 * i) 8 l ∙ ap (λ (k : ℕ). drop k l) (let z : 8 + 8 * i ≡ 8 * suc i = omega arith in z))
-
-bytes-bits : (m n : ℕ) (l : List Bool) → m ≤ n → 8 * m ≤ length l → bytesBits (take m (toBytes n l)) ≡ take (8 * m) l
-unfolding toBytes bytesBits
-bytes-bits zero n l h k = refl
-bytes-bits (suc m) zero l h k = absurd (omega arith)
-bytes-bits (suc m) (suc n) l h k =
-    let e : length (take 8 l) ≡ 8 = length-take-le 8 l (omega arith) in
-    ap₂ _++_ (ap (λ (j : ℕ). digits j (value (take 8 l))) (sym e) ∙ digits-value (take 8 l)) (bytes-bits m n (drop 8 l) (omega arith) (omega (arith, length-drop 8 l)))
-    ∙ sym (take-add 8 (8 * m) l) ∙ ap (λ (j : ℕ). take j l) (let z : 8 + 8 * m ≡ 8 * suc m = omega arith in z)
 
 -- ---- the CRC is right
 

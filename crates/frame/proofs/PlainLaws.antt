@@ -9,12 +9,13 @@ use native.Mathlib.Numerals.{add-one}
 use lib.ListN.{length, take, drop, getD, set, replicate}
 use lib.Dec.{eqb}
 use lib.Seq.{set-at, take-add, drop-drop, append-snoc, length-take-le}
-use Rattle.coding.specs.Bits.{plus, odd, bitOf, value}
+use Rattle.coding.specs.Bits.{plus, odd, bitOf, value, toBytes}
 use Rattle.coding.specs.Convolution.{State, fresh, tap, shift, stateOf, stateAfter, deconvolved}
 use Rattle.coding.proofs.BitLaws.{odd-bit, bit-lt}
 use Rattle.coding.proofs.Values.{value-below, value-next}
+use Rattle.coding.proofs.ByteLists.{length-bytes}
 use Rattle.coding.proofs.Codes.{length-deconvolved, deconvolve-at, deconvolve-drop, state-next, state-append}
-use Rattle.frame.specs.Fields.{toBytes, padded}
+use Rattle.frame.specs.Fields.{padded}
 use Rattle.frame.specs.Plain.{ending, NextByte}
 
 -- ---- one bit more of `rest`, from a state
@@ -92,11 +93,6 @@ module _ (rank last : ℕ) (rest : List Bool) where
       record { byte = e; state = ap ending e ∙ ends (ending last) (take 8 z) (omega (arith, length-take-le 8 z (omega (arith, length-deconvolved rank (ending last) rest)))) }
 
 -- ---- one byte more
-
-pub length-bytes : (n : ℕ) (l : List Bool) → length (toBytes n l) ≡ n
-unfolding toBytes
-length-bytes zero l = refl
-length-bytes (suc n) l = ap suc (length-bytes n (drop 8 l))
 
 bytes-snoc : (n : ℕ) (l : List Bool) → toBytes (suc n) l ≡ toBytes n l ++ (value (take 8 (drop (8 * n) l)) ∷ [])
 unfolding toBytes

@@ -5,11 +5,11 @@ use mathlib.Core.List.{List, map}
 use lib.Dec.{leb, ltb}
 use lib.ListN.{length, take, drop, replicate}
 use Rattle.limits.specs.Limits.{long, badNumber, mostBits}
-use Rattle.coding.specs.Bits.{odd, value, areBits}
+use Rattle.coding.specs.Bits.{odd, value, toBytes, areBits}
 use Rattle.coding.specs.Convolution.{fresh, deconvolved}
 use Rattle.frame.specs.Kinds.{syncSize, kinds, kindOf}
 use Rattle.frame.specs.Sizes.{mostPayload, mostAuth, bodyBytes}
-use Rattle.frame.specs.Fields.{toBytes, frameFrom}
+use Rattle.frame.specs.Fields.{frameFrom}
 use Rattle.frame.specs.Repairs.{repaired, repairs, firstOf}
 use Rattle.frame.specs.declared.kinds.FrameKind.{FrameKind}
 use Rattle.frame.specs.declared.kinds.FoundKind.{FoundKind}

@@ -15,11 +15,6 @@ use Rattle.frame.specs.declared.SingleBit.{SingleBit}
 use Rattle.frame.specs.declared.SingleBit.the-variants.{Absent, Is}
 use Rattle.frame.specs.declared.UplinkFrame.{UplinkFrame}
 
--- the first n bytes of a list of bits, each byte's highest bit first (frame.rs to_bytes)
-unfoldable pub toBytes : ℕ → List Bool → List ℕ
-toBytes zero l = []
-toBytes (suc n) l = value (take 8 l) ∷ toBytes n (drop 8 l)
-
 abbrev pub byteAt : List ℕ → ℕ → ℕ
 byteAt bytes i = getD bytes i 0
 

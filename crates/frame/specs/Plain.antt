@@ -5,10 +5,10 @@ use mathlib.Core.Bool.{Bool, _&&_}
 use Prim.Native.Nat.{ℕ, _*_, _/_}
 use lib.Dec.{leb}
 use lib.ListN.{length, take}
-use Rattle.coding.specs.Bits.{value}
+use Rattle.coding.specs.Bits.{value, toBytes}
 use Rattle.coding.specs.Register.{run}
 use Rattle.coding.specs.Convolution.{State, fresh, stateOf, stateAfter, deconvolved}
-use Rattle.frame.specs.Fields.{toBytes, crcRight}
+use Rattle.frame.specs.Fields.{crcRight}
 use Rattle.frame.specs.declared.bodies.Prefix.{Prefix}
 
 -- the two inputs that end a byte

@@ -337,6 +337,30 @@ pub fn print_bytes(bytes: &[u8], n: usize) {
     print_front(&text, 2 * end);
 }
 
+// Bytes that `print_slice` prints together.
+const PART: usize = 100;
+
+// A part of a slice's first n bytes, as many as are printed together.
+fn print_part(bytes: &[u8], from: usize, n: usize)
+    requires { ⌜ (from ≤ n) × (n ≤ length (now bytes)) ⌝ }
+{
+    print_bytes(&bytes[from..n], PART);
+}
+
+// The first n bytes of a slice as hexadecimal digits, `-` where there are none.
+pub fn print_slice(bytes: &[u8], n: usize)
+    requires { ⌜ (n ≤ length (now bytes)) × (n ≤ 4096) ⌝ }
+{
+    if n == 0 {
+        print(b"-");
+    }
+    let mut from: usize = 0;
+    while from < n {
+        print_part(bytes, from, n);
+        from += PART;
+    }
+}
+
 // The end of a line; true, as there may be a case after it.
 pub fn print_end() -> bool {
     print(b"\n");

@@ -8,31 +8,6 @@ use writer::Written;
 // The longest slice that is lent.
 const MOST_ROOM: usize = 700;
 
-// Bytes that are printed together.
-const PART: usize = 100;
-
-// A part of a slice's first n bytes, as many as are printed together.
-fn print_part(out: &[u8], from: usize, n: usize)
-    requires { ⌜ (from ≤ n) × (n ≤ length (now out)) ⌝ }
-{
-    replay::print_bytes(&out[from..n], PART);
-}
-
-// The first n bytes of a slice in hexadecimal digits, `-` where there are none.
-fn print_slice(out: &[u8], n: usize) -> bool
-    requires { ⌜ (n ≤ length (now out)) × (n ≤ 700) ⌝ }
-{
-    if n == 0 {
-        replay::print(b"-");
-    }
-    let mut from: usize = 0;
-    while from < n {
-        print_part(out, from, n);
-        from += PART;
-    }
-    replay::print_end()
-}
-
 // The count of each repetition, by rank.
 fn print_written(written: Written) {
     match written {
@@ -63,7 +38,8 @@ fn write_into(
 {
     let written = writer::write_uplink(fields, payload, auth, &mut out[..room]);
     print_written(written);
-    print_slice(out, room)
+    replay::print_slice(out, room);
+    replay::print_end()
 }
 
 fn least(a: usize, b: usize) -> usize

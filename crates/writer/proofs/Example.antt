@@ -4,12 +4,12 @@ use mathlib.Core.Path.{_≡_, refl}
 use mathlib.Core.Bool.{false}
 use mathlib.Core.List.{List, [], _∷_}
 use Rattle.endian.specs.Bytes.{bytesOf, numberOf, numberAt}
-use Rattle.coding.specs.Bits.{digits, value, bytesBits}
+use Rattle.coding.specs.Bits.{digits, value, bytesBits, toBytes}
 use Rattle.coding.specs.Crc.{onto, divisor, remainder, crcRemainder, crcBits, crcOf}
 use Rattle.coding.specs.Convolution.{convolved, deconvolved}
 use Rattle.frame.specs.Kinds.{alternating, preamble, syncBits, kindOf}
 use Rattle.frame.specs.Sizes.{payloadSize, authSize, bodyBytes}
-use Rattle.frame.specs.Fields.{toBytes, bitFrom, crcRight, frameFrom}
+use Rattle.frame.specs.Fields.{bitFrom, crcRight, frameFrom}
 use Rattle.frame.specs.Header.{headerBytes}
 use Rattle.frame.specs.Repairs.{repaired}
 use Rattle.frame.specs.Decode.{found, parseBody, decodeBody, searchFrom, decodeUplink}

@@ -1,5 +1,4 @@
 -- The laws of `writer`. RoundTrip proves the statements of specs/RoundTrip.antt, Contracts ties them to the contract, Example computes one.
-pub mod ByteLists
 pub mod Starts
 pub mod Sent
 pub mod Stores

@@ -12,6 +12,7 @@ use borrow.Author.Tests.{ltb-false, eqb-true}
 use Rattle.limits.specs.Limits.{short, badUplink}
 use Rattle.coding.specs.Bits.{bitOf, bytesBits}
 use Rattle.coding.specs.Convolution.{fresh, convolved}
+use Rattle.coding.proofs.ByteLists.{length-bytes-bits}
 use Rattle.coding.proofs.Codes.{length-convolved}
 use Rattle.frame.specs.Kinds.{syncBits, plain}
 use Rattle.frame.specs.Sizes.{mostPayload}
@@ -19,7 +20,6 @@ use Rattle.frame.specs.declared.header.UplinkFields.{UplinkFields}
 use Rattle.frame.proofs.SizeLaws.{body-most}
 use Rattle.writer.specs.Uplink.{lead, repetitionOf, frameBytes, classSent, uplinkBits, bitCount}
 use Rattle.writer.specs.Answers.{places, allPlaces, highestCounter, bitAndPayload, authCalled, writeCause, putAll}
-use Rattle.writer.proofs.ByteLists.{length-bytes-bits}
 use Rattle.writer.proofs.Stores.{length-map-bits}
 use Rattle.writer.proofs.Starts.{length-lead, length-sync}
 use Rattle.writer.proofs.Sent.{Sendable, class-small, length-sent}

@@ -28,7 +28,12 @@ use Rattle.frame.proofs.SizeLaws.{li-cancels, payload-more, bit-none}
 use Rattle.writer.specs.Uplink.{withCrc, frameBytes, classSent, sentFrame}
 use Rattle.writer.specs.Answers.{highestCounter, bitAndPayload, authCalled}
 use Rattle.writer.specs.RoundTrip.{Typed}
-use Rattle.writer.proofs.ByteLists.{below-append}
+
+-- each element of two lists together is below a bound where each of both is
+below-append : (a b : List ℕ) (m : ℕ) → ((i : ℕ) → getD a i 0 < m) → ((i : ℕ) → getD b i 0 < m) → (i : ℕ) → getD (a ++ b) i 0 < m
+below-append [] b m h k i = k i
+below-append (x ∷ a) b m h k zero = h 0
+below-append (x ∷ a) b m h k (suc i) = below-append a b m (λ j. h (suc j)) k i
 
 -- what cause 10 leaves
 pub record Sendable (f : UplinkFields) (payload auth : List ℕ) : Type 0 where

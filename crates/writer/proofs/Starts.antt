@@ -9,14 +9,15 @@ use lib.Seq.{take-at, drop-at, take-append-le, drop-append-le, drop-drop}
 use lib.Dec.{ltb}
 use borrow.Author.Tests.{ltb-true, ltb-false, le-leb}
 use Rattle.limits.proofs.Samples.{and-left, and-right}
-use Rattle.coding.specs.Bits.{digits, value, bytesBits}
+use Rattle.coding.specs.Bits.{digits, value, bytesBits, toBytes}
 use Rattle.coding.specs.Convolution.{fresh, convolved, deconvolved}
+use Rattle.coding.proofs.ByteLists.{length-bytes-bits, bytes-back}
 use Rattle.coding.proofs.Codes.{length-convolved, deconvolve-undone}
 use Rattle.coding.proofs.Digits.{length-digits}
 use Rattle.coding.proofs.Values.{value-lt}
 use Rattle.frame.specs.Kinds.{alternating, preamble, syncSize, syncBits, typeOf, plain, kinds, blankKind, kindOf}
 use Rattle.frame.specs.Sizes.{bodyBytes}
-use Rattle.frame.specs.Fields.{toBytes, crcRight, frameFrom}
+use Rattle.frame.specs.Fields.{crcRight, frameFrom}
 use Rattle.frame.specs.Repairs.{repaired}
 use Rattle.frame.specs.Decode.{found, nothing, parseBody, decodeBody, searchFrom, decodeUplink}
 use Rattle.frame.specs.declared.Repair.the-variants.{Unchanged}
@@ -26,7 +27,6 @@ use Rattle.frame.specs.declared.kinds.FoundKind.the-variants.{Unknown, Known}
 use Rattle.frame.specs.declared.DecodedUplink.{DecodedUplink}
 use Rattle.frame.proofs.KindLaws.{rustTypes, wordOf, type-at, row, row-plain, kind-is}
 use Rattle.frame.proofs.SearchLaws.{search-found, search-later, decode-right}
-use Rattle.writer.proofs.ByteLists.{length-bytes-bits, bytes-back}
 use Rattle.writer.specs.Uplink.{leadSize, lead, repetitionOf}
 use Rattle.writer.specs.RoundTrip.{Quiet}
 

@@ -12,6 +12,7 @@ use Rattle.limits.specs.Limits.{short, badUplink}
 use Rattle.coding.specs.Bits.{odd, bitOf, digits, value, bytesBits, areBits}
 use Rattle.coding.specs.Crc.{crcOf}
 use Rattle.coding.specs.Convolution.{fresh, convolved}
+use Rattle.coding.proofs.ByteLists.{length-bytes-bits}
 use Rattle.coding.proofs.BitLaws.{odd-bit, length-map-odd}
 use Rattle.coding.proofs.Values.{digits-value}
 use Rattle.coding.proofs.Codes.{length-convolved}
@@ -29,7 +30,6 @@ use Rattle.writer.specs.Uplink.{leadSize, lead, repetitionOf, repeated, 
 use Rattle.writer.specs.Answers.{said, allPlaces, highestCounter, bitAndPayload, authCalled, writeCause, putRank, putAll}
 use Rattle.writer.specs.declared.Written.{Written}
 use Rattle.writer.specs.declared.Written.the-variants.{Refused, Bits}
-use Rattle.writer.proofs.ByteLists.{length-bytes-bits}
 use Rattle.writer.proofs.Stores.{length-map-bits, bits-then}
 use Rattle.writer.proofs.Starts.{length-lead, length-sync}
 use Rattle.writer.proofs.Sent.{Sendable, li-small, class-small, payload-back, length-sent}

@@ -5,6 +5,7 @@ mod bits;
 mod burst;
 mod burstbits;
 mod bursts;
+mod bytes;
 mod capture;
 mod dips;
 mod events;
@@ -85,6 +86,14 @@ pub const FORMATS: &[Format] = &[
         directed: burstbits::directed,
         random: burstbits::random,
         runs: None,
+    },
+    Format {
+        name: "bytes",
+        stream: false,
+        rows: 0,
+        directed: bytes::directed,
+        random: bytes::random,
+        runs: Some(|| vec![("replay_bytes", bytes::sample())]),
     },
     Format {
         name: "burst",

@@ -4,6 +4,7 @@ pub mod bits;
 mod burst;
 mod burstbits;
 mod bursts;
+mod bytes;
 mod capture;
 mod dips;
 mod events;
@@ -28,6 +29,7 @@ fn replay(name: &str) -> Option<Replay> {
         "bursts" => bursts::case,
         "dips" => dips::case,
         "burstbits" => burstbits::case,
+        "bytes" => bytes::case,
         "burst" => burst::case,
         "capture" => capture::case,
         "tracker" => tracker::stream,

@@ -4,10 +4,10 @@ use mathlib.Core.List.{map}
 use Prim.Native.Nat.{ℕ}
 use native.Mathlib.Omega.{arith}
 use lib.ListN.{length}
-use Rattle.coding.specs.Bits.{odd}
+use Rattle.coding.specs.Bits.{odd, toBytes}
 use Rattle.coding.specs.Convolution.{fresh, deconvolved}
 use Rattle.frame.specs.Sizes.{mostBytes}
-use Rattle.frame.specs.Fields.{toBytes, padded, crcRight}
+use Rattle.frame.specs.Fields.{padded, crcRight}
 use Rattle.frame.specs.Splices.{spliced}
 use Rattle.frame.specs.Decode.{found}
 use Rattle.frame.proofs.SpliceLaws.{length-spliced}

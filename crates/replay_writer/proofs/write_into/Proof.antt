@@ -20,6 +20,9 @@ print-written-requires c κs = search needs
 print-slice-requires : tie.Need-print-slice-requires
 print-slice-requires c κs = search needs
 
+print-end-requires : tie.Need-print-end-requires
+print-end-requires c κs = search needs
+
 same-length : tie.Need-same-length
 same-length c = search needs
 
@@ -35,5 +38,6 @@ write-into-spec =
     write-uplink-requires
     print-written-requires
     print-slice-requires
+    print-end-requires
     same-length
     returns)

@@ -6,15 +6,16 @@ use native.Mathlib.Omega.{arith}
 use borrow.Author.Needs.{needs}
 use lib.Dec.{eqb}
 use lib.ListN.{length, set, replicate}
-use Rattle.coding.specs.Bits.{odd}
+use Rattle.coding.specs.Bits.{odd, toBytes}
 use Rattle.coding.specs.Convolution.{fresh, deconvolved}
+use Rattle.coding.proofs.ByteLists.{length-bytes}
 use Rattle.frame.specs.Sizes.{mostBytes}
-use Rattle.frame.specs.Fields.{toBytes, crcRight}
+use Rattle.frame.specs.Fields.{crcRight}
 use Rattle.frame.specs.Plain.{Passed}
 use Rattle.frame.specs.Splices.{spliced}
 use Rattle.frame.specs.declared.bodies.Prefix.{Prefix}
 use Rattle.frame.proofs.SpliceLaws.{length-spliced}
-use Rattle.frame.proofs.PlainLaws.{held, held-next, length-bytes}
+use Rattle.frame.proofs.PlainLaws.{held, held-next}
 use Rattle.frame.proofs.FieldLaws.{crc-front}
 use Rattle.frame.proofs.PassedLaws.{passed-none, passed-small, passed-more, byte-is, passed-crc, all-held}
 use Rattle.frame.proofs.bodies.plain_bytes.Statement.{statement}

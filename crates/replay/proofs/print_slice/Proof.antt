@@ -1,14 +1,14 @@
--- `replay_writer::print_slice` meets its contract. Assumes nothing.
+-- `replay::print_slice` meets its contract. Assumes nothing.
 use borrow.Author.Needs.{needs}
 use Prim.Native.Nat.{_-_}
-use Rattle.replay_writer.proofs.print_slice.Statement.{statement}
-use Rattle.replay_writer.proofs.print_slice.Tie as tie
+use Rattle.replay.proofs.print_slice.Statement.{statement}
+use Rattle.replay.proofs.print_slice.Tie as tie
 
 abbrev Inv-loop : tie.InvT-loop
-Inv-loop out n from₀ from = Unit
+Inv-loop bytes n from₀ from = Unit
 
 abbrev μ-loop : tie.MeasureT-loop
-μ-loop out n from₀ from = n - from
+μ-loop bytes n from₀ from = n - from
 
 slice-aggregate-print : tie.Need-slice-aggregate-print Inv-loop μ-loop
 slice-aggregate-print c = search needs
@@ -31,9 +31,6 @@ loop-less c = search needs
 loop-again : tie.Need-loop-again Inv-loop μ-loop
 loop-again c = search needs
 
-print-end-requires : tie.Need-print-end-requires Inv-loop μ-loop
-print-end-requires c κs = search needs
-
 returns : tie.Need-returns Inv-loop μ-loop
 returns c = search needs
 
@@ -50,5 +47,4 @@ print-slice-spec =
     add-from
     loop-less
     loop-again
-    print-end-requires
     returns)

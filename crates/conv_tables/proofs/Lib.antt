@@ -1,0 +1,2 @@
+-- The laws of `conv_tables`.
+pub mod TableLaws

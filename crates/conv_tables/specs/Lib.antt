@@ -1,0 +1,2 @@
+-- The definitions that the contracts of `conv_tables` cite.
+pub mod Tables
