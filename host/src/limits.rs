@@ -8,7 +8,6 @@ pub const BUFFER_S: usize = 12;
 pub const MOST_SAMPLES: usize = BUFFER_S * 4000;
 pub const MOST_READINGS: usize = 4096;
 pub const MOST_BITS: usize = 1024;
-pub const MOST_WAITING: usize = 40;
 pub const LONGEST_STREAM: usize = 1 << 40;
 /// Places of the programs' lists.
 pub const READINGS_HELD: usize = 8000;
@@ -49,10 +48,6 @@ pub fn samples(dbm: &[f32]) -> Checked {
 
 pub fn order(in_order: bool) -> Checked {
     check(in_order, 5)
-}
-
-pub fn waiting(n: usize) -> Checked {
-    check(n <= MOST_WAITING, 6)
 }
 
 pub fn stream(samples: usize) -> Checked {

@@ -4,4 +4,5 @@ pub mod States
 pub mod Calls
 pub mod Theorem
 pub mod Example
+pub mod Grown
 pub mod TwoArms

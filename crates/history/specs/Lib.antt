@@ -1,4 +1,5 @@
 -- Runs of the port, and demand 3's theorem over them.
 pub mod Runs
 pub mod Theorem
+pub mod Grown
 pub mod TwoArms

@@ -1,7 +1,7 @@
 -- How many bursts a list can have.
 use mathlib.Core.Logic.{⊎-elim}
 use mathlib.Core.List.{List, [], _∷_}
-use Prim.Native.Nat.{ℕ, _+_, _-_, _*_, _≤_, _<_}
+use Prim.Native.Nat.{ℕ, suc, _+_, _-_, _*_, _≤_, _<_}
 use native.Mathlib.Omega.{arith}
 use native.Mathlib.Nat.{mul-le-mul-right, suc-mul, zero-mul}
 use lib.ListN.{length}
@@ -9,16 +9,16 @@ use lib.Dec.{leb}
 use borrow.Author.Tests.{leb-true, leb-false}
 use Rattle.ledger.specs.Types.{Burst}
 use Rattle.ledger.specs.Ledger.{capacity}
-use Rattle.ledger.specs.Room.{gap, Row}
+use Rattle.ledger.specs.Room.{gap, Row, flushFrames}
 use Rattle.ledger.proofs.Basics.{either}
 use Rattle.ledger.proofs.Pigeon.{third}
 
--- takeEach burst ends behind its first sample
-abbrev pub Proper : List Burst → Type 0
-Proper [] = Unit
-Proper (b ∷ bs) = (b .start < b .end) × Proper bs
+-- each burst lasts 0.3 s and a sample
+abbrev pub Proper : ℕ → List Burst → Type 0
+Proper rate [] = Unit
+Proper rate (b ∷ bs) = (b .start + third rate < b .end) × Proper rate bs
 
-pub proper : (rate n p : ℕ) (bs : List Burst) → Row rate n p bs → Proper bs
+pub proper : (rate n p : ℕ) (bs : List Burst) → Row rate n p bs → Proper rate bs
 proper rate n p [] r = tt
 proper rate n p (b ∷ bs) r = (omega (arith, r .1), proper rate n (b .end + gap rate + 1) bs (r .3))
 
@@ -30,12 +30,12 @@ taking rate n p (b ∷ bs) h r =
     omega (arith, i, suc-mul (length bs) (third rate + gap rate + 2), r .0, r .1, r .2)
 
 -- as many as 12 s allow
-pub few : (rate n : ℕ) (bs : List Burst) → n ≤ capacity rate → Row rate n 0 bs → length bs ≤ 35
+pub few : (rate n : ℕ) (bs : List Burst) → n ≤ capacity rate → Row rate n 0 bs → length bs ≤ flushFrames
 few rate n bs h r = at-most (length bs) (taking rate n 0 bs (omega arith) r)
   where
-    at-most : (m : ℕ) → m * (third rate + gap rate + 2) + 0 ≤ n + gap rate + 1 → m ≤ 35
+    at-most : (m : ℕ) → m * (third rate + gap rate + 2) + 0 ≤ n + gap rate + 1 → m ≤ flushFrames
     at-most m t =
         ⊎-elim
-        (λ e. leb-true m 35 e)
-        (λ e. let q : 36 * (third rate + gap rate + 2) ≤ m * (third rate + gap rate + 2) = mul-le-mul-right (third rate + gap rate + 2) (leb-false m 35 e) in absurd (omega arith))
-        (either (leb m 35))
+        (λ e. leb-true m flushFrames e)
+        (λ e. let q : suc flushFrames * (third rate + gap rate + 2) ≤ m * (third rate + gap rate + 2) = mul-le-mul-right (third rate + gap rate + 2) (leb-false m flushFrames e) in absurd (omega arith))
+        (either (leb m flushFrames))

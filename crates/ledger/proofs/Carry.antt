@@ -168,7 +168,7 @@ order-carry rate l = rw (length-map (l .waiting) summary, unlike-carry (l .waiti
 
 pub cause-carry : (rate : ℕ) (b : Lent) (l : Ledger byFrames) (c : Call) → cause rate b (countsOf (carry l)) (carry l) c ≡ cause rate b (countsOf l) l c
 unfolding cause callCause
-cause-carry rate b l (push xs) = rw (order-carry rate l, length-map (l .waiting) summary, nan-carry (l .waiting)) refl
+cause-carry rate b l (push xs) = rw (order-carry rate l, nan-carry (l .waiting)) refl
 cause-carry rate b l flush = rw (order-carry rate l, nan-carry (l .waiting)) refl
 
 -- ---- a call, refused or not

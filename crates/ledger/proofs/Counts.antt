@@ -15,7 +15,7 @@ use Rattle.ledger.specs.Frames.{frameAt, rankOf, rightCrc, startOf}
 use Rattle.ledger.specs.Merge.{place}
 use Rattle.ledger.specs.Ledger.{Kind, Demod, capacity, half, tail, seconds, Ledger, join, hear, remember, takes, takeOne, takeEach, forget, scan, halve, amount, add, scanned, due, fill, fills}
 use Rattle.ledger.specs.Causes.{waits}
-use Rattle.ledger.specs.Room.{Fair, ThroughBursts, ThroughFill, ThroughFills, Room}
+use Rattle.ledger.specs.Room.{Fair, ThroughBursts, ThroughFill, ThroughFills, Room, pushFrames}
 use Rattle.ledger.proofs.Basics.{either, map-join}
 use Rattle.ledger.proofs.Spacing.{heardStarts, Spread, taken, one-spread, forget-spread, scanned-spread, add-spread}
 use Rattle.ledger.proofs.Pigeon.{Window, third, fits}
@@ -88,29 +88,29 @@ module _ {K : Kind} where
   pub record Run (rate base₀ w₀ : ℕ) (l : Ledger K) : Type 0 where
     pub spread : Spread rate [] l
     pub onward : base₀ ≤ l .base
-    -- a frame ended, and then came its tail
-    pub place : Window (suc base₀) (l .base + length (l .held) - tail rate) (heardStarts l)
+    -- a frame lasted 0.3 s, and then came its tail
+    pub place : Window (suc base₀) (l .base + length (l .held) - (third rate + tail rate)) (heardStarts l)
     pub waits : length (l .waiting) ≤ w₀ + length (l .heard)
     pub tidy : Tidy K (l .waiting)
 
-  -- at most 79 frames of at most 24 s
-  pub few-heard : (rate base₀ w₀ : ℕ) (l : Ledger K) → 1 ≤ rate → l .base + length (l .held) ≤ base₀ + 24 * rate → Run rate base₀ w₀ l → length (l .heard) ≤ 79
+  -- so many frames of at most 24 s
+  pub few-heard : (rate base₀ w₀ : ℕ) (l : Ledger K) → 1 ≤ rate → l .base + length (l .held) ≤ base₀ + 24 * rate → Run rate base₀ w₀ l → length (l .heard) ≤ pushFrames
   few-heard rate base₀ w₀ l h t r =
-      let n : length (heardStarts l) ≤ 79 =
-      fits rate 79 (suc base₀) (l .base + length (l .held) - tail rate) (heardStarts l) (omega arith) (r .spread .apart) (r .place) in
+      let n : length (heardStarts l) ≤ pushFrames =
+      fits rate pushFrames (suc base₀) (l .base + length (l .held) - (third rate + tail rate)) (heardStarts l) (omega arith) (r .spread .apart) (r .place) in
       omega (arith, n, length-map (l .heard) startOf)
 
   module _ (rate : ℕ) (d : Demod) (fair : Fair rate d) (laws : Lawful K) (base₀ w₀ : ℕ) where
     hear-place : (l : Ledger K) (b : Burst) (o : Option DecodedFrame) → d .decode (l .held) (seconds rate (l .base)) b ≡ o → 0 < b .start
-        → b .start + tail rate < length (l .held) → Run rate base₀ w₀ l
-        → Window (suc base₀) (l .base + length (l .held) - tail rate) (heardStarts (hear (remember l (l .base + b .start)) (l .base + b .start) o))
+        → b .start + third rate + tail rate < length (l .held) → Run rate base₀ w₀ l
+        → Window (suc base₀) (l .base + length (l .held) - (third rate + tail rate)) (heardStarts (hear (remember l (l .base + b .start)) (l .base + b .start) o))
         × Tidy K (hear (remember l (l .base + b .start)) (l .base + b .start) o .waiting)
     unfolding hear remember startOf
     hear-place l b none e h t r = (r .place, r .tidy)
     hear-place l b (some x) e h t r =
         let s = l .base + b .start in (
           rw (map-join startOf (l .heard) (frameAt s x ∷ []))
-              (window-snoc (suc base₀) (l .base + length (l .held) - tail rate) (heardStarts l) s (r .place) (omega (arith, r .onward)) (omega arith)),
+              (window-snoc (suc base₀) (l .base + length (l .held) - (third rate + tail rate)) (heardStarts l) s (r .place) (omega (arith, r .onward)) (omega arith)),
           tidy-one (rightCrc (frameAt s x)),
         )
       where
@@ -119,8 +119,8 @@ module _ {K : Kind} where
             join-tidy K laws (frameAt (l .base + b .start) x) (l .waiting) (decoded-fits rate d fair (l .held) (seconds rate (l .base)) b x (l .base + b .start) e) (r .tidy)
         tidy-one false = r .tidy
 
-    one-place : (l : Ledger K) (b : Burst) → b .start < b .end → Run rate base₀ w₀ l
-        → Window (suc base₀) (l .base + length (l .held) - tail rate) (heardStarts (takeOne rate d (tail rate) l b)) × Tidy K (takeOne rate d (tail rate) l b .waiting)
+    one-place : (l : Ledger K) (b : Burst) → b .start + third rate < b .end → Run rate base₀ w₀ l
+        → Window (suc base₀) (l .base + length (l .held) - (third rate + tail rate)) (heardStarts (takeOne rate d (tail rate) l b)) × Tidy K (takeOne rate d (tail rate) l b .waiting)
     unfolding takeOne
     one-place l b p r =
         ⊎-elim
@@ -128,7 +128,7 @@ module _ {K : Kind} where
         (λ e. rw e (r .place, r .tidy))
         (either (takes rate (tail rate) l b))
 
-    one-run : (l : Ledger K) (b : Burst) → b .start < b .end → Run rate base₀ w₀ l → Run rate base₀ w₀ (takeOne rate d (tail rate) l b)
+    one-run : (l : Ledger K) (b : Burst) → b .start + third rate < b .end → Run rate base₀ w₀ l → Run rate base₀ w₀ (takeOne rate d (tail rate) l b)
     one-run l b p r =
         let s = one-still rate d (tail rate) l b in
         let g = one-grew rate d (tail rate) l b in
@@ -142,19 +142,19 @@ module _ {K : Kind} where
         }
 
     module _ (pos : 1 ≤ rate) (back m : ℕ) (wide : capacity rate + (back + half rate) ≤ third rate * m) (above : rate ≤ back) where
-      room : (l : Ledger K) → Loose rate (back + half rate) l → l .base + length (l .held) ≤ base₀ + 24 * rate → Run rate base₀ w₀ l → Room m (w₀ + 79) 79 l
+      room : (l : Ledger K) → Loose rate (back + half rate) l → l .base + length (l .held) ≤ base₀ + 24 * rate → Run rate base₀ w₀ l → Room m (w₀ + pushFrames) pushFrames l
       room l w t r =
           let n = few-heard rate base₀ w₀ l pos t r in
           record { starts = few-starts rate (back + half rate) m l wide w; waiting = omega (arith, n, r .waits); heard = n }
 
       -- a scan
-      bursts-run : (l : Ledger K) (bs : List Burst) → Proper bs → Loose rate (back + half rate) l → l .base + length (l .held) ≤ base₀ + 24 * rate → Run rate base₀ w₀ l
-          → Run rate base₀ w₀ (takeEach rate d (tail rate) l bs) × ThroughBursts (Room m (w₀ + 79) 79) rate d (tail rate) l bs
+      bursts-run : (l : Ledger K) (bs : List Burst) → Proper rate bs → Loose rate (back + half rate) l → l .base + length (l .held) ≤ base₀ + 24 * rate → Run rate base₀ w₀ l
+          → Run rate base₀ w₀ (takeEach rate d (tail rate) l bs) × ThroughBursts (Room m (w₀ + pushFrames) pushFrames) rate d (tail rate) l bs
       unfolding takeEach
       bursts-run l [] p w t r = (r, room l w t r)
       bursts-run l (b ∷ bs) p w t r =
           let s = one-still rate d (tail rate) l b in
-          let i = bursts-run (takeOne rate d (tail rate) l b) bs (p .1) (one-loose rate d (back + half rate) (tail rate) l b (p .0) w) (rw (s .base, s .held) t) (one-run l b (p .0) r) in
+          let i = bursts-run (takeOne rate d (tail rate) l b) bs (p .1) (one-loose rate d (back + half rate) (tail rate) l b (omega (arith, p .0)) w) (rw (s .base, s .held) t) (one-run l b (p .0) r) in
           (i .0, (room l w t r, i .1))
 
       -- between fillings
@@ -177,7 +177,7 @@ module _ {K : Kind} where
 
       -- a scan that a filling makes due
       due-scan : (l : Ledger K) → Placed rate back l → l .base + length (l .held) ≤ base₀ + 24 * rate → Run rate base₀ w₀ l
-          → Going (scan rate d (tail rate) (scanned l)) × ThroughBursts (Room m (w₀ + 79) 79) rate d (tail rate) (scanned l) (d .bursts (l .held))
+          → Going (scan rate d (tail rate) (scanned l)) × ThroughBursts (Room m (w₀ + pushFrames) pushFrames) rate d (tail rate) (scanned l) (d .bursts (l .held))
       unfolding scan scanned
       due-scan l w t r =
           let k = scanned l in
@@ -196,7 +196,7 @@ module _ {K : Kind} where
           )
 
       due-going : (l : Ledger K) → Placed rate back l → l .base + length (l .held) ≤ base₀ + 24 * rate → Run rate base₀ w₀ l
-          → Going (due rate d l) × ThroughFill (Room m (w₀ + 79) 79) rate d l
+          → Going (due rate d l) × ThroughFill (Room m (w₀ + pushFrames) pushFrames) rate d l
       unfolding due
       due-going l w t r =
           let i = due-scan l w t r in (
@@ -208,17 +208,17 @@ module _ {K : Kind} where
       add-run l xs s r =
           let k = add rate (halve rate l) xs in
           let v = moved rate l xs in
-          let top : l .base + length (l .held) - tail rate ≤ k .base + length (k .held) - tail rate = omega (arith, add-length rate (halve rate l) xs, halve-sum rate l pos s, added-base rate (halve rate l) xs) in
+          let top : l .base + length (l .held) - (third rate + tail rate) ≤ k .base + length (k .held) - (third rate + tail rate) = omega (arith, add-length rate (halve rate l) xs, halve-sum rate l pos s, added-base rate (halve rate l) xs) in
           record {
             spread = add-spread rate d [] l xs (r .spread);
             onward = omega (arith, v .base, r .onward);
-            place = rw (v .heard) (window-more (suc base₀) (l .base + length (l .held) - tail rate) (k .base + length (k .held) - tail rate) (heardStarts l) top (r .place));
+            place = rw (v .heard) (window-more (suc base₀) (l .base + length (l .held) - (third rate + tail rate)) (k .base + length (k .held) - (third rate + tail rate)) (heardStarts l) top (r .place));
             waits = rw (v .heard, v .waiting) (r .waits);
             tidy = rw (v .waiting) (r .tidy);
           }
 
       fill-going : (l : Ledger K) (xs : List Float) → l .base + length (l .held) + length xs ≤ base₀ + 24 * rate → Going l
-          → Going (fill rate d l xs) × ThroughFill (Room m (w₀ + 79) 79) rate d (add rate (halve rate l) xs)
+          → Going (fill rate d l xs) × ThroughFill (Room m (w₀ + pushFrames) pushFrames) rate d (add rate (halve rate l) xs)
       unfolding fill
       fill-going l xs t g =
           let k = add rate (halve rate l) xs in
@@ -228,7 +228,7 @@ module _ {K : Kind} where
           due-going k (filled rate back l xs pos (g .quiet) (g .placed)) u (add-run l xs sm (g .run))
 
       pub fills-going : (n : ℕ) (l : Ledger K) (xs : List Float) → l .base + length (l .held) + length xs ≤ base₀ + 24 * rate → Going l
-          → Going (fills rate d n l xs) × ThroughFills (Room m (w₀ + 79) 79) rate d n l xs
+          → Going (fills rate d n l xs) × ThroughFills (Room m (w₀ + pushFrames) pushFrames) rate d n l xs
       unfolding fills
       fills-going zero l xs t g = (g, tt)
       fills-going (suc n) l [] t g = (g, tt)

@@ -15,6 +15,8 @@ pub mod Counts
 pub mod Orders
 pub mod Orderly
 pub mod NoCap
+pub mod Lasts
+pub mod Grown
 pub mod Raw
 pub mod Throughout
 pub mod Ranks

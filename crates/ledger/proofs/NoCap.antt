@@ -3,7 +3,7 @@ use mathlib.Core.Path.{_≡_, refl, ap}
 use mathlib.Core.Logic.{⊎-elim}
 use mathlib.Core.List.{List, [], _∷_}
 use mathlib.Core.Bool.{true}
-use Prim.Native.Nat.{ℕ, zero, suc, _*_, _≤_, _<_}
+use Prim.Native.Nat.{ℕ, zero, suc, _+_, _*_, _≤_, _<_}
 use native.Mathlib.Omega.{arith}
 use lib.ListN.{length, drop}
 use lib.Dec.{leb}
@@ -11,8 +11,8 @@ use lib.Ieee.{Float}
 use borrow.Author.Tests.{lt-ltb}
 use Rattle.ledger.specs.Types.{Burst}
 use Rattle.ledger.specs.Ledger.{Kind, Demod, tail, Ledger, Call, push, flush, takeOne, takeEach, forget, scan, halve, amount, add, scanned, due, fill, fills, startCall, scans}
-use Rattle.ledger.specs.Causes.{mostStarts}
-use Rattle.ledger.specs.Room.{Fair, InOrder, Accepted, ThroughBursts, ThroughFill, ThroughFills, Room, openPlaces, eventPlaces, room, takeOneIf, takeEachIf, scanIf, dueIf, fillIf, fillsIf, scansIf}
+use Rattle.ledger.specs.Causes.{mostStarts, mostWaiting}
+use Rattle.ledger.specs.Room.{Fair, InOrder, Accepted, ThroughBursts, ThroughFill, ThroughFills, Room, pushFrames, flushFrames, openPlaces, eventPlaces, room, takeOneIf, takeEachIf, scanIf, dueIf, fillIf, fillsIf, scansIf}
 use Rattle.ledger.proofs.Basics.{either}
 use Rattle.ledger.proofs.OpenKinds.{Lawful}
 use Rattle.ledger.proofs.Orderly.{bounded}
@@ -56,7 +56,7 @@ module _ {K : Kind} where
   pub no-cap : (rate : ℕ) (d : Demod) → Fair rate d → Lawful K → 1 ≤ rate → (l : Ledger K) (c : Call) → InOrder rate l → Accepted rate l c → scansIf rate d l c ≡ scans rate d l c
   unfolding scansIf scans startCall
   no-cap rate d fair laws pos l (push xs) o a =
-      fills-is (Room 84 119 79) (λ k r. room-is 84 119 79 k (omega arith) (omega arith) (omega arith) r) rate d (length xs) (startCall l) xs
+      fills-is (Room 84 (mostWaiting + pushFrames) pushFrames) (λ k r. room-is 84 (mostWaiting + pushFrames) pushFrames k (omega arith) (omega arith) (omega arith) r) rate d (length xs) (startCall l) xs
       (bounded rate d fair laws pos .in-push l xs o a)
   no-cap rate d fair laws pos l flush o a =
-      scan-is (Room 64 163 35) (λ k r. room-is 64 163 35 k (omega arith) (omega arith) (omega arith) r) rate d 0 (startCall l) (bounded rate d fair laws pos .in-flush l o)
+      scan-is (Room 64 (mostWaiting + flushFrames) flushFrames) (λ k r. room-is 64 (mostWaiting + flushFrames) flushFrames k (omega arith) (omega arith) (omega arith) r) rate d 0 (startCall l) (bounded rate d fair laws pos .in-flush l o)

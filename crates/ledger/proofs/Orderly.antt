@@ -8,23 +8,23 @@ use native.Mathlib.Omega.{arith}
 use lib.ListN.{length, take, drop}
 use lib.Dec.{eqb}
 use lib.Ieee.{Float}
-use Rattle.limits.specs.Limits.{badState, stream, longestStream}
+use Rattle.limits.specs.Limits.{stream, longestStream}
 use Rattle.limits.specs.Samples.{isDbm, allDbm}
 use Rattle.ledger.specs.Types.{Burst}
 use Rattle.ledger.specs.Merge.{place}
 use Rattle.ledger.specs.Ledger.{Kind, Demod, capacity, half, spaced, Ledger, Call, push, flush, ready, fresh, takeOne, takeEach, forget, scan, halve, amount, add, fill, fills, startCall, scans, now, closed, messages}
-use Rattle.ledger.specs.Causes.{oldestS, below, waits, unlike, allFit, countsOf, orderly, Attempt, number, afterCall, after}
-use Rattle.ledger.specs.Room.{Fair, InOrder, Accepts, Accepted, ThroughBursts, Through, Room, Bounded}
-use Rattle.ledger.proofs.Basics.{either, clash, and-true}
+use Rattle.ledger.specs.Causes.{oldestS, mostWaiting, below, waits, unlike, allFit, Attempt, number, afterCall, after}
+use Rattle.ledger.specs.Room.{Fair, InOrder, Accepts, Accepted, ThroughBursts, Through, Room, pushFrames, flushFrames, Bounded}
+use Rattle.ledger.proofs.Basics.{either, and-true}
 use Rattle.ledger.proofs.Spacing.{start-spread, none-far}
 use Rattle.ledger.proofs.Pigeon.{third, fits}
 use Rattle.ledger.proofs.Bursts.{Proper, proper, few}
 use Rattle.ledger.proofs.Sizes.{scan-still, due-held, scans-small}
 use Rattle.ledger.proofs.OpenKinds.{Lawful}
-use Rattle.ledger.proofs.Opens.{chosen-length, others-length, others-all, Tidy, others-tidy}
+use Rattle.ledger.proofs.Opens.{chosen-length, others-all, Tidy, others-tidy}
 use Rattle.ledger.proofs.Places.{since-weaken, Loose, few-starts, one-loose, each-loose, forget-loose, Placed, loose, placed}
 use Rattle.ledger.proofs.Counts.{one-grew, few-heard, Going, fills-going}
-use Rattle.ledger.proofs.Orders.{order-holds, passed, five, rate-pos}
+use Rattle.ledger.proofs.Orders.{passed}
 
 -- ---- samples in range
 
@@ -68,8 +68,8 @@ module _ {K : Kind} where
   module _ (rate : ℕ) (d : Demod) (fair : Fair rate d) (laws : Lawful K) (pos : 1 ≤ rate) where
     -- startsFrom a ledger whose starts are at most `back` before its base
     module _ (back m : ℕ) (wide : capacity rate + (back + half rate) ≤ third rate * m) (above : rate ≤ back)
-        (l : Ledger K) (w : Placed rate back l) (quiet : 2 * l .unscanned < rate) (few : length (l .waiting) ≤ 40) (tidy : Tidy K (l .waiting)) where
-      start-going : Going rate d fair laws (l .base) 40 pos back m wide above (startCall l)
+        (l : Ledger K) (w : Placed rate back l) (quiet : 2 * l .unscanned < rate) (few : length (l .waiting) ≤ mostWaiting) (tidy : Tidy K (l .waiting)) where
+      start-going : Going rate d fair laws (l .base) mostWaiting pos back m wide above (startCall l)
       unfolding startCall
       start-going =
           let s = start-spread rate d [] l (none-far rate l) in
@@ -80,21 +80,21 @@ module _ {K : Kind} where
           }
 
       pub push-going : (xs : List Float) → length xs ≤ capacity rate
-          → Going rate d fair laws (l .base) 40 pos back m wide above (scans rate d l (push xs)) × Through (Room m 119 79) rate d l (push xs)
+          → Going rate d fair laws (l .base) mostWaiting pos back m wide above (scans rate d l (push xs)) × Through (Room m (mostWaiting + pushFrames) pushFrames) rate d l (push xs)
       unfolding scans startCall
       push-going xs h =
-          fills-going rate d fair laws (l .base) 40 pos back m wide above (length xs) (startCall l) xs (omega (arith, w .small)) start-going
+          fills-going rate d fair laws (l .base) mostWaiting pos back m wide above (length xs) (startCall l) xs (omega (arith, w .small)) start-going
 
     -- ---- a flush
 
-    -- takeEach burst adds takeOne frame and takeOne message at most, and there are at most 35
-    bursts-flushed : (l : Ledger K) (bs : List Burst) → Proper bs → Loose rate (oldestS * rate) l → length (l .heard) + length bs ≤ 35 → length (l .waiting) ≤ 128 + length (l .heard)
-        → ThroughBursts (Room 64 163 35) rate d 0 l bs
+    -- takeEach burst adds takeOne frame and takeOne message at most, and there are at most so many
+    bursts-flushed : (l : Ledger K) (bs : List Burst) → Proper rate bs → Loose rate (oldestS * rate) l → length (l .heard) + length bs ≤ flushFrames → length (l .waiting) ≤ mostWaiting + length (l .heard)
+        → ThroughBursts (Room 64 (mostWaiting + flushFrames) flushFrames) rate d 0 l bs
     bursts-flushed l [] p w h n = record { starts = few-starts rate (oldestS * rate) 64 l (omega arith) w; waiting = omega arith; heard = omega arith }
     bursts-flushed l (b ∷ bs) p w h n =
         let g = one-grew rate d 0 l b in (
           record { starts = few-starts rate (oldestS * rate) 64 l (omega arith) w; waiting = omega arith; heard = omega arith },
-          bursts-flushed (takeOne rate d 0 l b) bs (p .1) (one-loose rate d (oldestS * rate) 0 l b (p .0) w) (omega (arith, g .heard)) (omega (arith, g .waiting)),
+          bursts-flushed (takeOne rate d 0 l b) bs (p .1) (one-loose rate d (oldestS * rate) 0 l b (omega (arith, p .0)) w) (omega (arith, g .heard)) (omega (arith, g .waiting)),
         )
 
     through-end : (P : Ledger K → Type 0) (wait : ℕ) (l : Ledger K) (bs : List Burst) → ThroughBursts P rate d wait l bs → P (takeEach rate d wait l bs)
@@ -102,7 +102,7 @@ module _ {K : Kind} where
     through-end P wait l [] t = t
     through-end P wait l (b ∷ bs) t = through-end P wait (takeOne rate d wait l b) bs (t .1)
 
-    flush-through : (l : Ledger K) → InOrder rate l → Through (Room 64 163 35) rate d l flush
+    flush-through : (l : Ledger K) → InOrder rate l → Through (Room 64 (mostWaiting + flushFrames) flushFrames) rate d l flush
     unfolding startCall
     flush-through l o =
         bursts-flushed (startCall l) (d .bursts (l .held)) (proper rate (length (l .held)) 0 (d .bursts (l .held)) (fair .row (l .held) (o .room)))
@@ -114,24 +114,24 @@ module _ {K : Kind} where
     given l o = record { small = o .room; below = o .below; apart = o .apart; recent = inl (o .recent) }
 
     -- 25 s hold at most 84
-    in-push : (l : Ledger K) (xs : List Float) → InOrder rate l → Accepts rate l xs → Through (Room 84 119 79) rate d l (push xs)
-    in-push l xs o a = push-going (oldestS * rate) 84 (omega arith) (omega arith) l (given l o) (o .unscanned) (a .waiting) (o .fits, o .unlike) xs (a .size) .1
+    in-push : (l : Ledger K) (xs : List Float) → InOrder rate l → Accepts rate l xs → Through (Room 84 (mostWaiting + pushFrames) pushFrames) rate d l (push xs)
+    in-push l xs o a = push-going (oldestS * rate) 84 (omega arith) (omega arith) l (given l o) (o .unscanned) (o .waiting) (o .fits, o .unlike) xs (a .size) .1
 
     said-length : (c : Call) (l : Ledger K) → length (l .heard) + length (messages rate c l) ≤ length (l .heard) + length (l .waiting)
     unfolding messages
     said-length c l = omega (arith, chosen-length (ready K c (now rate l)) (l .waiting))
 
-    events : (l : Ledger K) (c : Call) → InOrder rate l → Accepted rate l c → length (scans rate d l c .heard) + length (messages rate c (scans rate d l c)) ≤ 198
+    events : (l : Ledger K) (c : Call) → InOrder rate l → Accepted rate l c → length (scans rate d l c .heard) + length (messages rate c (scans rate d l c)) ≤ mostWaiting + 2 * pushFrames
     unfolding scans scan forget startCall
     events l (push xs) o a =
         let s = scans rate d l (push xs) in
-        let g = push-going (oldestS * rate) 84 (omega arith) (omega arith) l (given l o) (o .unscanned) (a .waiting) (o .fits, o .unlike) xs (a .size) .0 .run in
+        let g = push-going (oldestS * rate) 84 (omega arith) (omega arith) l (given l o) (o .unscanned) (o .waiting) (o .fits, o .unlike) xs (a .size) .0 .run in
         let t = scans-small rate d l (push xs) pos (o .room) .1 in
         let u : s .base + length (s .held) ≤ l .base + 24 * rate = omega (arith, t, o .room, a .size) in
-        let n = few-heard rate (l .base) 40 s pos u g in
+        let n = few-heard rate (l .base) mostWaiting s pos u g in
         omega (arith, said-length (push xs) s, g .waits, n)
     events l flush o a =
-        let r = through-end (Room 64 163 35) 0 (startCall l) (d .bursts (l .held)) (flush-through l o) in
+        let r = through-end (Room 64 (mostWaiting + flushFrames) flushFrames) 0 (startCall l) (d .bursts (l .held)) (flush-through l o) in
         omega (arith, said-length flush (scans rate d l flush), r .heard, r .waiting)
 
     -- ---- a ledger that grew
@@ -141,24 +141,20 @@ module _ {K : Kind} where
       quiet : 2 * l .unscanned < rate
       samples : allDbm (l .held) ≡ true
       stream : l .base + length (l .held) ≤ longestStream
-      few : length (l .waiting) ≤ 128
       tidy : Tidy K (l .waiting)
 
-    push-ok : (l : Ledger K) (xs : List Float) → Accepts rate l xs → Ok l → Ok (closed rate (push xs) (scans rate d l (push xs)))
+    push-ok : (l : Ledger K) (xs : List Float) → Accepts rate l xs → length (l .waiting) ≤ mostWaiting → Ok l → Ok (closed rate (push xs) (scans rate d l (push xs)))
     unfolding closed scans startCall
-    push-ok l xs a o =
+    push-ok l xs a few o =
         let s = scans rate d l (push xs) in
         let p = ready K (push xs) (now rate s) in
-        let g = push-going rate 64 (omega arith) (omega arith) l (o .placed) (o .quiet) (a .waiting) (o .tidy) xs (a .size) .0 in
+        let g = push-going rate 64 (omega arith) (omega arith) l (o .placed) (o .quiet) few (o .tidy) xs (a .size) .0 in
         let t = scans-small rate d l (push xs) pos (o .placed .small) .1 in
-        let u : s .base + length (s .held) ≤ l .base + 24 * rate = omega (arith, t, o .placed .small, a .size) in
-        let n = few-heard rate (l .base) 40 s pos u (g .run) in
         record {
           placed = record { small = g .placed .small; below = g .placed .below; apart = g .placed .apart; recent = g .placed .recent };
           quiet = g .quiet;
           samples = fills-valid rate d (length xs) (startCall l) xs (o .samples) (a .samples);
           stream = omega (arith, t, a .stream);
-          few = omega (arith, others-length p (s .waiting), g .run .waits, n);
           tidy = others-tidy K p (s .waiting) (g .run .tidy);
         }
 
@@ -177,17 +173,16 @@ module _ {K : Kind} where
           quiet = rw (z .unscanned) (o .quiet);
           samples = rw (z .held) (o .samples);
           stream = rw (z .held, z .base) (o .stream);
-          few = rw (others-all K (now rate s) (s .waiting)) (omega arith);
           tidy = rw (others-all K (now rate s) (s .waiting)) (refl, refl);
         }
 
     call-ok : (l : Ledger K) (a : Attempt) (n : ℕ) → number rate l a ≡ n → Ok l → Ok (afterCall rate d l (a .call) n)
     unfolding afterCall
-    call-ok l a zero e o = accepted-ok (a .call) (passed rate (a .lent) l (a .call) e .accepted)
+    call-ok l a zero e o = let p = passed rate (a .lent) l (a .call) e in accepted-ok (a .call) (p .accepted) (p .order .waiting)
       where
-        accepted-ok : (c : Call) → Accepted rate l c → Ok (closed rate c (scans rate d l c))
-        accepted-ok (push xs) h = push-ok l xs h o
-        accepted-ok flush h = flush-ok l o
+        accepted-ok : (c : Call) → Accepted rate l c → length (l .waiting) ≤ mostWaiting → Ok (closed rate c (scans rate d l c))
+        accepted-ok (push xs) h few = push-ok l xs h few o
+        accepted-ok flush h few = flush-ok l o
     call-ok l a (suc n) e o = o
 
     after-ok : (l : Ledger K) (cs : List Attempt) → Ok l → Ok (after rate d l cs)
@@ -198,10 +193,11 @@ module _ {K : Kind} where
     fresh-ok : Ok fresh
     unfolding fresh allDbm spaced allFit unlike
     fresh-ok =
-        record { placed = record { small = omega arith; below = tt; apart = refl; recent = inl tt }; quiet = omega arith; samples = refl; stream = omega arith; few = omega arith; tidy = (refl, refl) }
+        record { placed = record { small = omega arith; below = tt; apart = refl; recent = inl tt }; quiet = omega arith; samples = refl; stream = omega arith; tidy = (refl, refl) }
 
-    in-order : (cs : List Attempt) → InOrder {K = K} rate (after rate d fresh cs)
-    in-order cs =
+    -- where no list of calls leaves more waiting than the order allows
+    pub in-order : ((cs : List Attempt) → length (after rate d (fresh {K = K}) cs .waiting) ≤ mostWaiting) → (cs : List Attempt) → InOrder {K = K} rate (after rate d fresh cs)
+    in-order wait cs =
         let l = after rate d fresh cs in
         let o = after-ok fresh cs fresh-ok in
         let w = loose rate rate l (o .placed) in
@@ -214,17 +210,10 @@ module _ {K : Kind} where
           below = w .below;
           recent = since-weaken (l .base) (rate + half rate) (oldestS * rate) (l .starts) (omega arith) (w .recent);
           apart = w .apart;
-          waiting = o .few;
+          waiting = wait cs;
           unlike = o .tidy .1;
           fits = o .tidy .0;
         }
 
     pub bounded : Bounded K rate d
-    bounded = record { in-order = in-order; in-push = in-push; in-flush = flush-through; events = events }
-
--- no call of a run is refused with 5
-pub never-five : {K : Kind} (rate : ℕ) (d : Demod) → Fair rate d → Lawful K → (cs : List Attempt) (a : Attempt) → number rate (after rate d (fresh {K = K}) cs) a ≡ badState → ⊥
-never-five {K} rate d fair laws cs a e =
-    let l = after rate d (fresh {K = K}) cs in
-    let f = five rate (a .lent) l (a .call) e in
-    clash (orderly rate (countsOf l) l) (order-holds rate l (bounded rate d fair laws (rate-pos rate (f .0)) .in-order cs)) (f .1)
+    bounded = record { in-push = in-push; in-flush = flush-through; events = events }

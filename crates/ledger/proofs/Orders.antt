@@ -7,11 +7,10 @@ use native.Mathlib.Omega.{arith}
 use lib.ListN.{length}
 use lib.Dec.{leb, ltb}
 use borrow.Author.Tests.{ltb-true, ltb-false, leb-true, lt-ltb, le-leb, not-false}
-use Rattle.limits.specs.Limits as limits
 use Rattle.limits.specs.Limits.{badRate, short, long, badSample, badState, stream, badNumber, lowestRate, highestRate, longestStream}
 use Rattle.limits.specs.Samples.{rateOk, allDbm}
 use Rattle.ledger.specs.Ledger.{Kind, capacity, spaced, Ledger, Call, push, flush}
-use Rattle.ledger.specs.Causes.{mostStarts, oldestS, mostWaiting, waitingAtPush, below, since, unlike, allFit, countsOf, orderly, anyNan, Lent, tooShort, callCause, cause}
+use Rattle.ledger.specs.Causes.{mostStarts, oldestS, mostWaiting, below, since, unlike, allFit, countsOf, orderly, anyNan, Lent, tooShort, callCause, cause}
 use Rattle.ledger.specs.Room.{Below, Since, InOrder, Accepted}
 use Rattle.ledger.proofs.Basics.{and-true}
 use Rattle.ledger.proofs.Pigeon.{fits}
@@ -112,12 +111,10 @@ module _ {K : Kind} where
       let a = zero-then (ltb (capacity rate) (length xs)) long _ (omega arith) e in
       let b = zero-then (not (allDbm xs)) badSample _ (omega arith) (a .1) in
       let c = zero-then (not (orderly rate (countsOf l) l)) badState _ (omega arith) (b .1) in
-      let f = zero-then (ltb waitingAtPush (length (l .waiting))) limits.waiting _ (omega arith) (c .1) in
-      let g = zero-then (ltb longestStream (l .base + length (l .held) + length xs)) stream _ (omega arith) (f .1) in (
+      let g = zero-then (ltb longestStream (l .base + length (l .held) + length xs)) stream _ (omega arith) (c .1) in (
         record {
           size = ltb-false (capacity rate) (length xs) (a .0);
           samples = not-false (allDbm xs) (b .0);
-          waiting = ltb-false waitingAtPush (length (l .waiting)) (f .0);
           stream = ltb-false longestStream (l .base + length (l .held) + length xs) (g .0);
         },
         order-says rate l (not-false (orderly rate (countsOf l) l) (c .0)),
@@ -146,13 +143,12 @@ module _ {K : Kind} where
       let a = other-then badState (ltb (capacity rate) (length xs)) long _ (λ h. omega arith) e in
       let b = other-then badState (not (allDbm xs)) badSample _ (λ h. omega arith) (a .1) in
       at-last badState (orderly rate (countsOf l) l) _
-      (late (ltb waitingAtPush (length (l .waiting))) (ltb longestStream (l .base + length (l .held) + length xs)) (anyNan K (l .waiting))) (b .1)
+      (late (ltb longestStream (l .base + length (l .held) + length xs)) (anyNan K (l .waiting))) (b .1)
     where
-      late : (p q r : Bool) → _≡_ {A = ℕ} (cond p limits.waiting (cond q stream (cond r badNumber 0))) badState → ⊥
-      late true q r e = omega arith
-      late false true r e = omega arith
-      late false false true e = omega arith
-      late false false false e = omega arith
+      late : (q r : Bool) → _≡_ {A = ℕ} (cond q stream (cond r badNumber 0)) badState → ⊥
+      late true r e = omega arith
+      late false true e = omega arith
+      late false false e = omega arith
   five-call rate l flush e = at-last badState (orderly rate (countsOf l) l) _ (late (anyNan K (l .waiting))) e
     where
       late : (r : Bool) → _≡_ {A = ℕ} (cond r badNumber 0) badState → ⊥

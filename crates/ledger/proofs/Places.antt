@@ -106,10 +106,10 @@ module _ {K : Kind} where
         (λ e. rw e w)
         (either (takes rate wait l b))
 
-    pub each-loose : (l : Ledger K) (bs : List Burst) → Proper bs → Loose rate back l → Loose rate back (takeEach rate d wait l bs)
+    pub each-loose : (l : Ledger K) (bs : List Burst) → Proper rate bs → Loose rate back l → Loose rate back (takeEach rate d wait l bs)
     unfolding takeEach
     each-loose l [] p w = w
-    each-loose l (b ∷ bs) p w = each-loose (takeOne rate d wait l b) bs (p .1) (one-loose l b (p .0) w)
+    each-loose l (b ∷ bs) p w = each-loose (takeOne rate d wait l b) bs (p .1) (one-loose l b (omega (arith, p .0)) w)
 
   pub forget-loose : (rate back : ℕ) (l : Ledger K) → Loose rate back l → Loose rate rate (forget rate l)
   unfolding forget spaced

@@ -58,10 +58,10 @@ module _ (rate : ℕ) (lo : lowestRate ≤ rate) (hi : rate ≤ highestRate) whe
         start = omega arith;
       }
 
-  all-give : (held : List Float) (base : ℕ) (bs : List Burst) → Proper bs → SinglePeaks bs → base + length held ≤ longestStream
+  all-give : (held : List Float) (base : ℕ) (bs : List Burst) → Proper rate bs → SinglePeaks bs → base + length held ≤ longestStream
       → Every (Gives rate (demodOf rate) Readable held base) bs
   all-give held base [] p s h = tt
-  all-give held base (b ∷ bs) p s h = (one-gives held base b (p .0) (s .0) h, all-give held base bs (p .1) (s .1) h)
+  all-give held base (b ∷ bs) p s h = (one-gives held base b (omega (arith, p .0)) (s .0) h, all-give held base bs (p .1) (s .1) h)
 
   gives : (held xs : List Float) (base : ℕ) → Fed rate held base xs → Every (Gives rate (demodOf rate) Readable held base) (heldBursts rate held)
   gives held xs base q =

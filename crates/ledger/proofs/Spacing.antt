@@ -56,7 +56,7 @@ spaced-snoc rate acc l x p n = spaced-join rate acc l (x ∷ []) p (spaced-cons 
 -- ---- the walk
 
 -- a start over a second before the base is near nothing behind the base
-from-far : (rate base : ℕ) (l : List ℕ) (x : ℕ) → base < x → near rate (startsFrom (base - rate) l) x ≡ false → near rate l x ≡ false
+pub from-far : (rate base : ℕ) (l : List ℕ) (x : ℕ) → base < x → near rate (startsFrom (base - rate) l) x ≡ false → near rate l x ≡ false
 unfolding near startsFrom
 from-far rate base [] x b e = refl
 from-far rate base (s ∷ l) x b e =
@@ -83,7 +83,7 @@ module _ {K : Kind} where
     pub far : Far rate (seen ++ heardStarts l) l
 
   -- takeOne more start
-  far-more : (rate : ℕ) (seen : List ℕ) (l : Ledger K) (s : ℕ) → Far rate seen l → (x : ℕ) → l .base < x → near rate (l .starts ++ (s ∷ [])) x ≡ false
+  pub far-more : (rate : ℕ) (seen : List ℕ) (l : Ledger K) (s : ℕ) → Far rate seen l → (x : ℕ) → l .base < x → near rate (l .starts ++ (s ∷ [])) x ≡ false
       → (near rate seen x ≡ false) × (close rate s x ≡ false)
   unfolding near
   far-more rate seen l s far x b e =

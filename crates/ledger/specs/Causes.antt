@@ -6,7 +6,6 @@ use lib.ListN.{length}
 use lib.Dec.{leb, ltb, eqb}
 use lib.Ieee.{isNan}
 use Rattle.limits.specs.Limits.{badRate, short, long, badSample, badState, stream, badNumber, eventsSize, scratch64, longestStream}
-use Rattle.limits.specs.Limits as limits
 use Rattle.limits.specs.Samples.{rateOk, allDbm}
 use Rattle.ledger.specs.Types.{FrameSpan, FirstFrameEnd, Known, Unknown, Pending}
 use Rattle.ledger.specs.Frames.{Key, same}
@@ -23,13 +22,9 @@ mostStarts = 96
 abbrev pub oldestS : ℕ
 oldestS = 7
 
--- "at most 128 waiting"
+-- 02, request 08: "count over 40 waiting as a state not in order"
 abbrev pub mostWaiting : ℕ
-mostWaiting = 128
-
--- "push with over 40 messages waiting"
-abbrev pub waitingAtPush : ℕ
-waitingAtPush = 40
+mostWaiting = 40
 
 -- "payload at most 12 and auth at most 5 bytes"
 abbrev pub mostPayload : ℕ
@@ -93,7 +88,7 @@ abbrev pub countsOf : {K : Kind} → Ledger K → Counts
 countsOf l = record { held = length (l .held); starts = length (l .starts); waiting = length (l .waiting) }
 
 -- "held at most 12×rate, those samples valid, base + held at most 2^40, twice the unscanned count under the rate, at most 96 remembered starts, below
--- base + held, not before base − 7×rate, pairwise at least 0.3 s apart; at most 128 waiting, no two alike in device and counter, each with .."
+-- base + held, not before base − 7×rate, pairwise at least 0.3 s apart; at most 128 [02: 40] waiting, no two alike in device and counter, each with .."
 unfoldable pub orderly : {K : Kind} → ℕ → Counts → Ledger K → Bool
 orderly {K} rate n l =
     leb (n .held) (capacity rate)
@@ -146,9 +141,8 @@ callCause {K} rate n l (push xs) =
     cond (ltb (capacity rate) (length xs)) long
     (cond (not (allDbm xs)) badSample
     (cond (not (orderly rate n l)) badState
-    (cond (ltb waitingAtPush (n .waiting)) limits.waiting
     (cond (ltb longestStream (l .base + n .held + length xs)) stream
-    (cond (anyNan K (l .waiting)) badNumber 0)))))
+    (cond (anyNan K (l .waiting)) badNumber 0))))
 callCause {K} rate n l flush = cond (not (orderly rate n l)) badState (cond (anyNan K (l .waiting)) badNumber 0)
 
 -- "Checks run by number": the first cause that applies, 0 where none does

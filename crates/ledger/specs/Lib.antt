@@ -10,6 +10,8 @@ pub mod Causes
 pub mod Demand3
 pub mod History
 pub mod Room
+pub mod Grown
+pub mod GrownExample
 pub mod EitherOrder
 pub mod EitherOrderExample
 pub mod Example

@@ -11,8 +11,8 @@ use lib.Ieee.{Float}
 use Rattle.limits.specs.Limits.{longestStream}
 use Rattle.limits.specs.Samples.{allDbm}
 use Rattle.ledger.specs.Types.{DecodedFrame, Burst}
-use Rattle.ledger.specs.Ledger.{Kind, Demod, capacity, tail, spaced, Ledger, fresh, takeOne, forget, halve, amount, add, scanned, fill, Call, push, flush, startCall, scans, messages}
-use Rattle.ledger.specs.Causes.{mostStarts, mostWaiting, waitingAtPush, mostPayload, mostAuth, oldestS, unlike, allFit, Attempt, after}
+use Rattle.ledger.specs.Ledger.{Kind, Demod, capacity, tail, spaced, Ledger, takeOne, forget, halve, amount, add, scanned, fill, Call, push, flush, startCall, scans, messages}
+use Rattle.ledger.specs.Causes.{mostStarts, mostWaiting, mostPayload, mostAuth, oldestS, unlike, allFit}
 
 -- ---- what the bounds need of demodulation
 
@@ -54,11 +54,10 @@ pub record InOrder {K : Kind} (rate : ℕ) (l : Ledger K) : Type 0 where
   pub unlike : unlike K (l .waiting) ≡ true
   pub fits : allFit K (l .waiting) ≡ true
 
--- a push that causes 3, 4, 6 and 7 do not refuse
+-- a push that causes 3, 4 and 7 do not refuse
 pub record Accepts {K : Kind} (rate : ℕ) (l : Ledger K) (xs : List Float) : Type 0 where
   pub size : length xs ≤ capacity rate
   pub samples : allDbm xs ≡ true
-  pub waiting : length (l .waiting) ≤ waitingAtPush
   pub stream : l .base + length (l .held) + length xs ≤ longestStream
 
 abbrev pub Accepted : {K : Kind} → ℕ → Ledger K → Call → Type 0
@@ -93,22 +92,28 @@ pub record Room {K : Kind} (s w h : ℕ) (l : Ledger K) : Type 0 where
   pub waiting : length (l .waiting) ≤ w
   pub heard : length (l .heard) ≤ h
 
+-- the frames that a push can hear: starts 0.3 s apart in the 24 s that were held or are pushed, less the last frame's 0.3 s and its tail
+abbrev pub pushFrames : ℕ
+pushFrames = 78
+
+-- the frames that a flush can hear: bursts of 0.3 s with 40 ms between two, in 12 s
+abbrev pub flushFrames : ℕ
+flushFrames = 35
+
 -- the bounds, for every rate from 1 on
 pub record Bounded (K : Kind) (rate : ℕ) (d : Demod) : Type 0 where
-  -- a ledger that grew from a fresh one is in order: no call is refused with 5 for a state that the port made itself
-  pub in-order : (cs : List Attempt) → InOrder {K = K} rate (after rate d fresh cs)
   -- from any state that is in order, grown or given
-  pub in-push : (l : Ledger K) (xs : List Float) → InOrder rate l → Accepts rate l xs → Through (Room 84 119 79) rate d l (push xs)
-  pub in-flush : (l : Ledger K) → InOrder rate l → Through (Room 64 163 35) rate d l flush
+  pub in-push : (l : Ledger K) (xs : List Float) → InOrder rate l → Accepts rate l xs → Through (Room 84 (mostWaiting + pushFrames) pushFrames) rate d l (push xs)
+  pub in-flush : (l : Ledger K) → InOrder rate l → Through (Room 64 (mostWaiting + flushFrames) flushFrames) rate d l flush
   -- 30,720 bytes are 256 records
   pub events : (l : Ledger K) (c : Call) → InOrder rate l → Accepted rate l c
-      → length (scans rate d l c .heard) + length (messages rate c (scans rate d l c)) ≤ 198
+      → length (scans rate d l c .heard) + length (messages rate c (scans rate d l c)) ≤ mostWaiting + 2 * pushFrames
 
 -- ---- a call by a program that tests for room
 
--- the places for open messages: 163 are needed inside a flush
+-- the places for open messages: a push of a given state needs 40 and 78, and one is free before each burst
 abbrev pub openPlaces : ℕ
-openPlaces = 168
+openPlaces = 119
 
 -- the records that an event buffer of 30,720 bytes holds
 abbrev pub eventPlaces : ℕ

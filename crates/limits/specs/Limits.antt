@@ -19,9 +19,6 @@ badSample = 4
 abbrev pub badState : ℕ
 badState = 5
 
-abbrev pub waiting : ℕ
-waiting = 6
-
 abbrev pub stream : ℕ
 stream = 7
 

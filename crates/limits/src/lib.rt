@@ -16,9 +16,6 @@ pub const BAD_SAMPLE: u8 = 4;
 // The state is not in order.
 pub const BAD_STATE: u8 = 5;
 
-// A push with too many messages waiting.
-pub const WAITING: u8 = 6;
-
 // The stream would be too long.
 pub const STREAM: u8 = 7;
 

@@ -10,7 +10,7 @@ use lib.Dec.{leb, ltb}
 use lib.Ieee.{Float}
 use lib.ListN.{getD, length}
 use borrow.Author.Tests.{le-ltb, lt-ltb, ltb-false}
-use Rattle.ledger.specs.Causes.{Lent, allFit, anyNan, callCause, cause, mostWaiting, orderly, tooShort, unlike, waitingAtPush}
+use Rattle.ledger.specs.Causes.{Lent, allFit, anyNan, callCause, cause, mostWaiting, orderly, tooShort, unlike}
 use Rattle.ledger.proofs.Basics.{and-true, either}
 use Rattle.ledger.specs.Ledger.{byEntry, capacity, flush, push}
 use Rattle.ledger.specs.Room.{Below}
@@ -18,7 +18,6 @@ use Rattle.limits.specs.Limits.{badNumber, badRate, badSample, badState, events
 use Rattle.limits.specs.Samples.{allDbm, rateOk}
 use Rattle.receiver.proofs.StateLaws.{orderly-is}
 use Rattle.receiver.specs.State.{countsOf, givenCause, ledgerOf, messagesCause, samplesOk, stateCause}
-use Rattle.limits.specs.Limits as limits
 use Rattle.waiting.specs.Waiting as waiting
 use Rattle.waiting.specs.declared.Condition.{Condition}
 use Rattle.waiting.specs.declared.Waiting.{Waiting}
@@ -171,13 +170,9 @@ module _ (s : SigfoxReceiver) (buf : List Float) where
         no-five false q = omega arith
 
     module _ (g : x ≡ badState → ⊥) where
-      pub state-waiting : waitingAtPush < s .waiting .count → limits.waiting ≡ stateCause s buf n
-      unfolding stateCause
-      state-waiting q = rw (orders g, lt-ltb waitingAtPush (s .waiting .count) q) refl
-
-      pub state-last : s .waiting .count ≤ waitingAtPush → (y : ℕ) → y ≡ cond (ltb longestStream (s .base + s .held + n)) stream x → y ≡ stateCause s buf n
+      pub state-last : (y : ℕ) → y ≡ cond (ltb longestStream (s .base + s .held + n)) stream x → y ≡ stateCause s buf n
       unfolding orderCause stateCause
-      state-last q y p = p ∙ rw (h, orders g, le-ltb waitingAtPush (s .waiting .count) q) refl
+      state-last y p = p ∙ rw (h, orders g) refl
 
 pub below-all : (hi : ℕ) (l : List ℕ) → ((i : ℕ) → i < length l → getD l i 0 < hi) → Below hi l
 below-all hi [] h = tt

@@ -11,7 +11,7 @@ use Rattle.demod.specs.Capture.{joined}
 use Rattle.ledger.specs.Ledger.{Ledger, Call, push, flush, byEntry, seconds, ready, chosen, others, now, scans, startCall, closed, messages, events, eventOf, ofFrame}
 use Rattle.ledger.specs.Ledger as ledger
 use Rattle.ledger.specs.Causes as causes
-use Rattle.ledger.specs.Causes.{mostStarts}
+use Rattle.ledger.specs.Causes.{mostStarts, mostWaiting}
 use Rattle.ledger.specs.Room.{Accepted, openPlaces, scansIf, scanIf}
 use Rattle.ledger.specs.Demodulation.{demodOf}
 use Rattle.ledger.specs.Records.{Sized, recordOf, withRecords}
@@ -64,7 +64,7 @@ module _ (s : SigfoxReceiver) (samples : List Float) (old : List ℕ) (scratch :
     starts-few : s .starts .count ≤ 96
     starts-few = let e : s .starts .count ≡ length (starts.remembered (s .starts)) = ap (λ (k : causes.Counts). k .starts) (p .counts) in omega (arith, p .order .few)
 
-    pub waiting-few : s .waiting .count ≤ 128
+    pub waiting-few : s .waiting .count ≤ mostWaiting
     waiting-few = let e : s .waiting .count ≡ length (waitingOf (s .waiting)) = ap (λ (k : causes.Counts). k .waiting) (p .counts) in omega (arith, p .order .waiting)
 
     begins : Within (record { starts = s .starts; waiting = s .waiting; count = 0 })

@@ -6,10 +6,9 @@ use lib.ListN.{length, take}
 use lib.Dec.{leb, ltb}
 use lib.Ieee.{Float}
 use Rattle.limits.specs.Limits.{badRate, short, long, badState, stream, badNumber, longestStream}
-use Rattle.limits.specs.Limits as limits
 use Rattle.limits.specs.Samples.{allDbm, rateOk}
 use Rattle.ledger.specs.Ledger.{Ledger, byEntry, capacity}
-use Rattle.ledger.specs.Causes.{Counts, Lent, tooShort, waitingAtPush, orderly, anyNan}
+use Rattle.ledger.specs.Causes.{Counts, Lent, tooShort, orderly, anyNan}
 use Rattle.starts.specs.Starts as starts
 use Rattle.waiting.specs.Waiting as waiting
 use Rattle.starts.specs.declared.Starts.{Starts}
@@ -75,6 +74,5 @@ messagesCause w = cond (not (waiting.waitingOk w)) badState (cond (anyNan byEntr
 unfoldable pub stateCause : SigfoxReceiver → List Float → ℕ → ℕ
 stateCause s buf n =
     cond (not (orderly (s .rate) (countsOf s) (ledgerOf s buf))) badState
-    (cond (ltb waitingAtPush (s .waiting .count)) limits.waiting
     (cond (ltb longestStream (s .base + s .held + n)) stream
-    (cond (anyNan byEntry (waiting.waitingOf (s .waiting))) badNumber 0)))
+    (cond (anyNan byEntry (waiting.waitingOf (s .waiting))) badNumber 0))

@@ -16,9 +16,6 @@ use ledger::Pending;
 use starts::Starts;
 use waiting::Waiting;
 
-// A push with more messages waiting is refused.
-const WAITING_AT_PUSH: usize = 40;
-
 // Rate, samples held in the lent buffer, absolute index of its first, samples not looked at yet, remembered starts, open messages.
 pub struct SigfoxReceiver {
     pub rate: u32,
@@ -216,7 +213,7 @@ fn given_cause(rate: u32, lent: Lengths, n: usize) -> u8
 }
 
 // Cause 5 or 9 of the first n messages; 0 for none.
-fn messages_cause(messages: [Pending; 168], n: usize) -> u8
+fn messages_cause(messages: [Pending; waiting::OPEN_PLACES], n: usize) -> u8
     ensures { λ r. ⌜ r ≡ messagesCause (record { messages = messages; count = n }) ⌝ }
 {
     let c = waiting::check(messages, n);
@@ -257,9 +254,6 @@ fn state_cause(s: SigfoxReceiver, samples: &[f32], n: usize) -> u8
     let order = messages_cause(messages, count);
     if order == limits::BAD_STATE {
         return order;
-    }
-    if WAITING_AT_PUSH < count {
-        return limits::WAITING;
     }
     stream_cause(s.base, s.held, n, order)
 }

@@ -151,7 +151,7 @@ fn read_waiting(waiting: Waiting) -> GivenWaiting {
         let a = replay::read_part(&mut r);
         let b = replay::read_part(&mut part);
         whole = whole & (a & b);
-        if i < 168 {
+        if i < waiting::OPEN_PLACES {
             let message = message_of(&r);
             t.messages[i] = Pending {
                 message,

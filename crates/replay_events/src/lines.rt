@@ -31,7 +31,7 @@ fn print_message(p: Pending) {
 fn print_waiting(w: Waiting) {
     let n = w.count;
     let mut i: usize = 0;
-    while i < 168 {
+    while i < waiting::OPEN_PLACES {
         if i == n {
             return;
         }

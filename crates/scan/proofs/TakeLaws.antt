@@ -115,7 +115,7 @@ room-fits a b c e =
     let y = and-true (ltb b openPlaces) (ltb c eventPlaces) (x .1) in
     (ltb-true a mostStarts (x .0), ltb-true b openPlaces (y .0), ltb-true c eventPlaces (y .1))
 
-module _ (held : List Float) (base : ℕ) (s : Scanned) (e : List ℕ) (inside : Within s) (h : length (s .starts .at) ≡ 96) (k : length (s .waiting .messages) ≡ 168) where
+module _ (held : List Float) (base : ℕ) (s : Scanned) (e : List ℕ) (inside : Within s) (h : length (s .starts .at) ≡ 96) (k : length (s .waiting .messages) ≡ openPlaces) where
   room-of : (l : Ledger byEntry) (old : List ℕ) → Midway l old (s .starts) (s .waiting) (s .count) e → room l ≡ hasRoom (s .starts .count) (s .waiting .count) (s .count)
   unfolding room
   room-of l old m =

@@ -22,9 +22,6 @@ use record::Reception;
 use starts::Starts;
 use waiting::Waiting;
 
-// Places for open messages: 163 are needed inside a flush.
-const OPEN_PLACES: usize = 168;
-
 // The records that the event buffer holds.
 const EVENT_PLACES: usize = 256;
 
@@ -61,7 +58,7 @@ fn has_room(starts: usize, waiting: usize, count: usize) -> bool
     ensures { λ r. ⌜ r ≡ hasRoom starts waiting count ⌝ }
 {
     let start = starts < starts::MOST_STARTS;
-    let message = waiting < OPEN_PLACES;
+    let message = waiting < waiting::OPEN_PLACES;
     let record = count < EVENT_PLACES;
     start & (message & record)
 }

@@ -105,11 +105,11 @@ pub record Seen (l : List Pending) (r : Looked) : Type 0 where
   pub fit : r .fit ≡ allFit byEntry l
   pub nan : r .nan ≡ anyNan byEntry l
 
--- "at most 128 waiting, no two alike in device and counter, each with .."
+-- "at most 128 [02: 40] waiting, no two alike in device and counter, each with .."
 abbrev pub waitingOk : Waiting → Bool
 waitingOk w = leb (w .count) mostWaiting && (unlike byEntry (waitingOf w) && allFit byEntry (waitingOf w))
 
--- of more than 128 none is looked at
+-- of more than 40 none is looked at
 pub record Checked (w : Waiting) (r : Condition) : Type 0 where
   pub ok : r .ok ≡ waitingOk w
   pub nan : r .nan ≡ leb (w .count) mostWaiting && anyNan byEntry (waitingOf w)

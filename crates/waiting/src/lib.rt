@@ -6,7 +6,7 @@ ghost use lib.ListN.{length, take};
 ghost use lib.Seq.{slice};
 ghost use Rattle.ledger.specs.Merge.{expires};
 ghost use Rattle.ledger.specs.Ledger.{byEntry, join, others};
-ghost use Rattle.ledger.specs.Causes.{anyNan};
+ghost use Rattle.ledger.specs.Causes.{mostWaiting, anyNan};
 ghost use Rattle.ledger.specs.Room.{openPlaces};
 ghost use Rattle.message.specs.Messages.{frameOf};
 ghost use Rattle.waiting.specs.Waiting.{waitingOf, keyNumber, keyIs, findKey, blank, leaves, anyExpires, none, over, numberIn, distinct, Seen, waitingOk, Checked};
@@ -18,21 +18,24 @@ use record::FrameSpan;
 use record::Reception;
 use record::SigfoxMessage;
 
-// A state in order has no more.
-const MOST_WAITING: usize = 128;
+// A state in order has no more (02: over 40 is not in order). A receiver grown from a fresh one has at most 34.
+const MOST_WAITING: usize = 40;
+
+// Places for open messages: a push of a state that is given with 40 can hear 78 frames, and one place is free before each burst.
+pub const OPEN_PLACES: usize = 119;
 
 // One more than the largest counter of the field.
 const COUNTERS: u64 = 65_536;
 
-// The first `count` places: a flush of a state in order needs 163.
+// The first `count` places.
 pub struct Waiting {
-    pub messages: [Pending; 168],
+    pub messages: [Pending; OPEN_PLACES],
     pub count: usize,
 }
 
 // What one look at every message finds.
 struct Looked {
-    keys: [u64; 168],
+    keys: [u64; MOST_WAITING],
     fit: bool,
     nan: bool,
 }
@@ -134,13 +137,13 @@ pub fn none() -> Waiting
 {
     let p = blank();
     Waiting {
-        messages: [p; 168],
+        messages: [p; OPEN_PLACES],
         count: 0,
     }
 }
 
 // Whether a push writes one of the first n messages.
-pub fn any_expires(messages: [Pending; 168], n: usize, now: f64) -> bool
+pub fn any_expires(messages: [Pending; OPEN_PLACES], n: usize, now: f64) -> bool
     requires { ⌜ n ≤ openPlaces ⌝ }
     ensures { λ r. ⌜ r ≡ anyExpires now (take n messages) ⌝ }
 {
@@ -186,11 +189,11 @@ fn key_of(p: Pending) -> u64
 }
 
 // One look at each of the first n messages, so that the array is handed on once.
-fn look(messages: [Pending; 168], n: usize) -> Looked
-    requires { ⌜ n ≤ openPlaces ⌝ }
+fn look(messages: [Pending; OPEN_PLACES], n: usize) -> Looked
+    requires { ⌜ n ≤ mostWaiting ⌝ }
     ensures { λ r. ⌜ Seen (take n messages) r ⌝ }
 {
-    let mut keys = [0u64; 168];
+    let mut keys = [0u64; MOST_WAITING];
     let mut fit = true;
     let mut nans = false;
     let mut i: usize = 0;
@@ -241,7 +244,7 @@ fn all_distinct(keys: &[u64], n: usize) -> bool
 }
 
 // Whether the first n messages are in order, and whether one has a NaN.
-pub fn check(messages: [Pending; 168], n: usize) -> Condition
+pub fn check(messages: [Pending; OPEN_PLACES], n: usize) -> Condition
     ensures { λ r. ⌜ Checked (record { messages = messages; count = n }) r ⌝ }
 {
     if MOST_WAITING < n {

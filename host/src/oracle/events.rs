@@ -51,7 +51,6 @@ impl Receiver {
     /// Causes 5 to 9 of a push of n samples.
     fn state_takes(&self, n: usize) -> limits::Checked {
         limits::order(self.in_order())?;
-        limits::waiting(self.inner.pending.len())?;
         limits::stream(self.inner.base + self.inner.len + n)?;
         limits::number(!given::any_nan(&self.inner.pending))
     }

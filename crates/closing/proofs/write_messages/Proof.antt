@@ -4,6 +4,7 @@ use Prim.Native.Nat.{_-_}
 use native.Mathlib.Omega.{arith}
 use lib.ListN.{length}
 use borrow.Author.Needs.{needs}
+use Rattle.ledger.specs.Room.{openPlaces}
 use Rattle.message.proofs.SpanLaws.{length-mapped}
 use Rattle.waiting.proofs.WaitingLaws.{outside-message}
 use Rattle.closing.proofs.WrittenLaws.{WrittenAt, written-start, written-room, written-turn, written-all}
@@ -30,7 +31,7 @@ write-message-requires c κs =
     let s = c .before .before .before .before .before in
     let a = s .args in
     let l = c .before .before .before .loop in
-    let h : length (a .t1 .messages) ≡ 168 = search (needs, length-mapped) in
+    let h : length (a .t1 .messages) ≡ openPlaces = search (needs, length-mapped) in
     written-room (a .all) (a .time) (a .t1 .messages) (a .t1 .count) (a .count) (a .events .now) (l .i) (l .k) (l .events) (l .inv) outside-message (omega arith) (omega arith) (s .pre .1)
 
 add-i : tie.Need-add-i Inv-loop μ-loop
@@ -45,7 +46,7 @@ loop-again c =
     let a = s .args in
     let l = c .before .before .before .before .before .before .loop in
     let w = c .before .before .write-message in
-    let h : length (a .t1 .messages) ≡ 168 = search (needs, length-mapped) in
+    let h : length (a .t1 .messages) ≡ openPlaces = search (needs, length-mapped) in
     written-turn (a .all) (a .time) (a .t1 .messages) (a .t1 .count) (a .count) (a .events .now) (l .i) (l .k) (l .events) (l .inv) outside-message (omega arith) (omega arith) (w .result) _ (w .ensures .2) (w .ensures .0) (w .ensures .1)
 
 same-length : tie.Need-same-length Inv-loop μ-loop

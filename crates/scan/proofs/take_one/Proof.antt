@@ -4,6 +4,7 @@ use mathlib.Core.Path.{_≡_, sym, _∙_}
 use native.Mathlib.Omega.{arith}
 use lib.ListN.{length}
 use borrow.Author.Tests.{not-true, not-false}
+use Rattle.ledger.specs.Room.{openPlaces}
 use Rattle.message.proofs.SpanLaws.{length-mapped}
 use Rattle.scan.proofs.TakeLaws.{room-fits, does-full, does-not, does-take}
 use Rattle.scan.proofs.take_one.Statement.{statement}
@@ -18,7 +19,7 @@ returns c =
     let a = s .args in
     let g = s .good .1 .1 .1 .1 .1 .0 in
     let h : length (a .s .starts .at) ≡ 96 = search (needs, g) in
-    let k : length (a .s .waiting .messages) ≡ 168 = search (needs, length-mapped, g) in
+    let k : length (a .s .waiting .messages) ≡ openPlaces = search (needs, length-mapped, g) in
     does-full (a .held .now) (a .base) (a .s) (a .events .now) (s .pre .3) h k (a .rate) (a .wait) (a .burst) (sym (c .before .has-room .ensures) ∙ not-true (c .before .has-room .result) (c .if1 .taken))
 
 takes-requires : tie.Need-takes-requires
@@ -32,7 +33,7 @@ returns-2 c =
     let a = s .args in
     let g = s .good .1 .1 .1 .1 .1 .0 in
     let h : length (a .s .starts .at) ≡ 96 = search (needs, g) in
-    let k : length (a .s .waiting .messages) ≡ 168 = search (needs, length-mapped, g) in
+    let k : length (a .s .waiting .messages) ≡ openPlaces = search (needs, length-mapped, g) in
     does-not (a .held .now) (a .base) (a .s) (a .events .now) (s .pre .3) h k (a .rate) (a .wait) (a .burst) (sym (c .before .before .before .has-room .ensures) ∙ not-false (c .before .before .before .has-room .result) (c .before .before .if1 .left))
     (sym (c .before .takes .ensures) ∙ not-true (c .before .takes .result) (c .if2 .taken))
 
@@ -56,7 +57,7 @@ returns-3 c =
     let a = s .args in
     let g = s .good .1 .1 .1 .1 .1 .0 in
     let h : length (a .s .starts .at) ≡ 96 = search (needs, g) in
-    let k : length (a .s .waiting .messages) ≡ 168 = search (needs, length-mapped, g) in
+    let k : length (a .s .waiting .messages) ≡ openPlaces = search (needs, length-mapped, g) in
     does-take (a .held .now) (a .base) (a .s) (a .events .now) (s .pre .3) h k (a .rate) (a .wait) (a .burst) (sym (c .before .before .before .before .before .before .before .before .before .before .has-room .ensures) ∙ not-false (c .before .before .before .before .before .before .before .before .before .before .has-room .result) (c .before .before .before .before .before .before .before .before .before .if1 .left))
     (sym (c .before .before .before .before .before .before .before .before .takes .ensures) ∙ not-false (c .before .before .before .before .before .before .before .before .takes .result) (c .before .before .before .before .before .before .before .if2 .left)) (c .before .before .before .before .take-burst .result) _ (c .before .before .before .before .take-burst .ensures)
 

@@ -5,6 +5,7 @@ use native.Mathlib.Omega.{arith}
 use lib.ListN.{length, take}
 use lib.Seq.{slice, slice-empty}
 use borrow.Author.Needs.{needs}
+use Rattle.ledger.specs.Room.{openPlaces}
 use Rattle.message.proofs.SpanLaws.{length-mapped}
 use Rattle.waiting.proofs.WaitingLaws.{expires-hit, expires-miss, outside-message}
 use Rattle.waiting.specs.Waiting.{anyExpires}
@@ -32,7 +33,7 @@ expires-requires c κs = search needs
 returns : tie.Need-returns Inv-loop μ-loop
 returns c = let a = c .before .before .before .before .before .args in
     let l = c .before .before .before .before .loop in
-    let h : length (a .t1) ≡ 168 = search (needs, length-mapped) in
+    let h : length (a .t1) ≡ openPlaces = search (needs, length-mapped) in
     sym (l .inv .1 ∙ expires-hit (a .t1) (a .n) (l .i) (a .now) outside-message (omega arith) (omega arith) (sym (c .before .expires .ensures) ∙ c .if1 .taken))
 
 add-i : tie.Need-add-i Inv-loop μ-loop
@@ -44,7 +45,7 @@ loop-less c = search needs
 loop-again : tie.Need-loop-again Inv-loop μ-loop
 loop-again c = let a = c .before .before .before .before .before .args in
     let l = c .before .before .before .before .loop in
-    let h : length (a .t1) ≡ 168 = search (needs, length-mapped) in
+    let h : length (a .t1) ≡ openPlaces = search (needs, length-mapped) in
     (omega arith, l .inv .1 ∙ expires-miss (a .t1) (a .n) (l .i) (a .now) outside-message (omega arith) (omega arith) (sym (c .before .expires .ensures) ∙ c .if1 .left))
 
 returns-2 : tie.Need-returns-2 Inv-loop μ-loop

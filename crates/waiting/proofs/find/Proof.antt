@@ -5,6 +5,7 @@ use native.Mathlib.Omega.{arith}
 use lib.ListN.{length, take}
 use lib.Seq.{slice}
 use borrow.Author.Needs.{needs}
+use Rattle.ledger.specs.Room.{openPlaces}
 use Rattle.message.proofs.SpanLaws.{length-mapped}
 use Rattle.waiting.proofs.WaitingLaws.{find-hit, find-miss, find-none, outside-message}
 use Rattle.waiting.specs.Waiting.{findKey}
@@ -32,7 +33,7 @@ is-of-requires c κs = search needs
 returns : tie.Need-returns Inv-loop μ-loop
 returns c = let a = c .before .before .before .before .before .args in
     let l = c .before .before .before .before .loop in
-    let h : length (a .t1 .messages) ≡ 168 = search (needs, length-mapped) in
+    let h : length (a .t1 .messages) ≡ openPlaces = search (needs, length-mapped) in
     let e = find-hit (a .t1 .messages) (a .t1 .count) (l .i) (a .device-id) (a .counter) outside-message (omega arith) (omega arith) (sym (c .before .is-of .ensures) ∙ c .if1 .taken) in
     omega (arith, e, l .inv .1)
 
@@ -45,7 +46,7 @@ loop-less c = search needs
 loop-again : tie.Need-loop-again Inv-loop μ-loop
 loop-again c = let a = c .before .before .before .before .before .args in
     let l = c .before .before .before .before .loop in
-    let h : length (a .t1 .messages) ≡ 168 = search (needs, length-mapped) in
+    let h : length (a .t1 .messages) ≡ openPlaces = search (needs, length-mapped) in
     let e = find-miss (a .t1 .messages) (a .t1 .count) (l .i) (a .device-id) (a .counter) outside-message (omega arith) (omega arith) (sym (c .before .is-of .ensures) ∙ c .if1 .left) in
     (omega arith, omega (arith, e, l .inv .1))
 

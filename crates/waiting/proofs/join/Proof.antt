@@ -5,6 +5,7 @@ use native.Mathlib.Omega.{arith}
 use lib.ListN.{length, length-set, set, take}
 use lib.Seq.{drop-set-lt}
 use borrow.Author.Needs.{needs}
+use Rattle.ledger.specs.Room.{openPlaces}
 use Rattle.message.proofs.SpanLaws.{length-mapped}
 use Rattle.waiting.proofs.WaitingLaws.{joined-at, opened-at, outside-message, over-by}
 use Rattle.waiting.specs.Waiting.{findKey}
@@ -31,7 +32,7 @@ element-set-from-p c = search needs
 
 returns : tie.Need-returns
 returns c = let a = c .before .before .before .before .args in
-    let h : length (a .t1 .messages) ≡ 168 = search (needs, length-mapped) in
+    let h : length (a .t1 .messages) ≡ openPlaces = search (needs, length-mapped) in
     let n = a .t1 .count in
     let k = c .before .before .before .find .result in
     let l = a .t1 .messages in
@@ -54,7 +55,7 @@ add-t c = search needs
 
 returns-2 : tie.Need-returns-2
 returns-2 c = let a = c .before .before .before .args in
-    let h : length (a .t1 .messages) ≡ 168 = search (needs, length-mapped) in
+    let h : length (a .t1 .messages) ≡ openPlaces = search (needs, length-mapped) in
     let k : a .t1 .count ≤ findKey (a .f .«device_id») (a .f .counter) (take (a .t1 .count) (a .t1 .messages)) = omega (arith, c .before .before .find .ensures, c .before .if1 .left) in
     let n = a .t1 .count in
     let l = a .t1 .messages in

@@ -5,6 +5,7 @@ use native.Mathlib.Omega.{arith}
 use lib.ListN.{length}
 use borrow.Author.Needs.{needs}
 use borrow.Author.Tests.{not-false, not-true}
+use Rattle.ledger.specs.Room.{openPlaces}
 use Rattle.message.proofs.SpanLaws.{length-mapped}
 use Rattle.waiting.proofs.WaitingLaws.{Kept, keep-all, keep-leaves, keep-none, keep-stays, outside-message}
 use Rattle.waiting.specs.Waiting.{leaves}
@@ -48,8 +49,8 @@ loop-again : tie.Need-loop-again Inv-loop μ-loop
 loop-again c = let s = c .before .before .before .before .before in
     let a = s .args in
     let l = c .before .before .before .before .loop in
-    let h : length (a .t2 .messages) ≡ 168 = search (needs, length-mapped, s .good) in
-    let g : length (a .old .messages) ≡ 168 = search (needs, length-mapped, s .good) in
+    let h : length (a .t2 .messages) ≡ openPlaces = search (needs, length-mapped, s .good) in
+    let g : length (a .old .messages) ≡ openPlaces = search (needs, length-mapped, s .good) in
     (omega arith, omega arith, keep-stays (leaves (a .all) (a .now)) (a .t2 .messages) (a .old .messages) (l .t .messages) (l .i) (l .k) outside-message (omega arith) (l .inv .2) (omega arith) (sym (c .before .leaves .ensures) ∙ not-true (c .before .leaves .result) (c .if1 .taken)))
 
 loop-less-2 : tie.Need-loop-less-2 Inv-loop μ-loop
@@ -59,7 +60,7 @@ loop-again-2 : tie.Need-loop-again-2 Inv-loop μ-loop
 loop-again-2 c = let s = c .before .before .before .before .before in
     let a = s .args in
     let l = c .before .before .before .before .loop in
-    let h : length (a .t2 .messages) ≡ 168 = search (needs, length-mapped, s .good) in
+    let h : length (a .t2 .messages) ≡ openPlaces = search (needs, length-mapped, s .good) in
     (omega arith, omega arith, keep-leaves (leaves (a .all) (a .now)) (a .t2 .messages) (a .old .messages) (l .t .messages) (l .i) (l .k) outside-message (omega arith) (l .inv .2) (sym (c .before .leaves .ensures) ∙ not-false (c .before .leaves .result) (c .if1 .left)))
 
 returns : tie.Need-returns Inv-loop μ-loop

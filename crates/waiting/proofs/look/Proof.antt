@@ -8,7 +8,7 @@ use lib.Ieee.{nan}
 use lib.ListN.{length, length-set, take}
 use lib.Seq.{slice}
 use borrow.Author.Needs.{needs}
-use Rattle.ledger.specs.Causes.{allFit, anyNan}
+use Rattle.ledger.specs.Causes.{mostWaiting, allFit, anyNan}
 use Rattle.ledger.specs.Ledger.{byEntry}
 use Rattle.ledger.specs.Room.{openPlaces}
 use Rattle.message.proofs.SpanLaws.{length-mapped}
@@ -18,7 +18,7 @@ use Rattle.waiting.proofs.look.Statement.{statement}
 use Rattle.waiting.proofs.look.Tie as tie
 
 abbrev Inv-loop : tie.InvT-loop
-Inv-loop n messages keys₀ fit₀ nans₀ i₀ keys fit nans i = (i ≤ n) × (length keys ≡ openPlaces) × (take i keys ≡ map keyNumber (take i messages)) × Counters (take i messages) × (fit && allFit byEntry (slice i n messages) ≡ allFit byEntry (take n messages)) × (nans || anyNan byEntry (slice i n messages) ≡ anyNan byEntry (take n messages))
+Inv-loop n messages keys₀ fit₀ nans₀ i₀ keys fit nans i = (i ≤ n) × (length keys ≡ mostWaiting) × (take i keys ≡ map keyNumber (take i messages)) × Counters (take i messages) × (fit && allFit byEntry (slice i n messages) ≡ allFit byEntry (take n messages)) × (nans || anyNan byEntry (slice i n messages) ≡ anyNan byEntry (take n messages))
 
 abbrev μ-loop : tie.MeasureT-loop
 μ-loop n messages keys₀ fit₀ nans₀ i₀ keys fit nans i = n - i
@@ -57,7 +57,7 @@ loop-again : tie.Need-loop-again Inv-loop μ-loop
 loop-again c = let a = c .before .before .before .before .before .before .args in
     let l = c .before .before .before .before .before .loop in
     let k = c .before .before .key-of in
-    let h : length (a .t1) ≡ 168 = search (needs, length-mapped) in
+    let h : length (a .t1) ≡ openPlaces = search (needs, length-mapped) in
     let here : l .i < a .n = c .before .before .before .before .loop-test .taken in (
       omega arith,
       simp length-set (l .inv .1),
@@ -70,7 +70,7 @@ loop-again c = let a = c .before .before .before .before .before .before .args i
 returns : tie.Need-returns Inv-loop μ-loop
 returns c = let a = c .before .before .args in
     let l = c .before .loop in
-    let h : length (a .t1) ≡ 168 = search (needs, length-mapped) in
+    let h : length (a .t1) ≡ openPlaces = search (needs, length-mapped) in
     seen-is (a .t1) (record { keys = l .keys; fit = l .fit; nan = l .nans }) (a .n) (l .i) (omega arith) (omega arith) (l .inv .2) (l .inv .3) (l .inv .4) (l .inv .5)
 
 pub look-spec : {M : Type 1} → statement M

@@ -1,5 +1,7 @@
 //! States that are handed in: in order, or out of it by one rule.
 
+use std::ops::Range;
+
 use super::Calls;
 use crate::generate::put::Put;
 use crate::generate::rng::Rng;
@@ -102,6 +104,11 @@ fn spans(rng: &mut Rng) -> Vec<u8> {
     ranks
 }
 
+/// A message of each of these devices, last heard at 1 s.
+fn devices(rng: &mut Rng, numbers: Range<u32>) -> Vec<Waiting> {
+    numbers.map(|i| Waiting::new(rng, i, 1, &[0], 1.0)).collect()
+}
+
 /// A state in order around a stretch of air: `held` of its samples are held.
 fn in_order(rng: &mut Rng, rate: u32, dbm: &[f32], held: usize) -> State {
     let r = u64::from(rate);
@@ -121,7 +128,7 @@ fn in_order(rng: &mut Rng, rate: u32, dbm: &[f32], held: usize) -> State {
         at += (3 * r).div_ceil(10) + if rng.chance(0.3) { 0 } else { rng.next() % (3 * r) };
     }
     let now = end as f64 / f64::from(rate);
-    let count = rng.pick(&[0, 1, 3, 40, 41, 128]);
+    let count = rng.pick(&[0, 1, 3, 34, 40]);
     let waiting = (0..count)
         .map(|i| {
             let ranks = spans(rng);
@@ -164,8 +171,8 @@ fn spoiled(rng: &mut Rng, rate: u32, s: &State, rule: usize) -> State {
         11 => t.held = vec![-110.0; 12 * rate as usize + 1],
         12 => t.starts = (0..97).map(|i| t.base + i).collect(),
         _ => {
-            let count = rng.pick(&[129, 169, 255]);
-            t.waiting = (0..count).map(|i| Waiting::new(rng, i, 0, &[0], 1.0)).collect();
+            let count = rng.pick(&[41, 64, 119, 120, 128, 255]);
+            t.waiting = devices(rng, 0..count);
         }
     }
     t
@@ -194,7 +201,7 @@ pub fn random(rng: &mut Rng, rate: u32, air: &Air) -> Case {
     calls.flush().flush().case("a given state")
 }
 
-/// A frame that ends a message of a given state, and one that joins it.
+/// A frame that ends a message of a given state, and one that joins it; states with 40 messages and with more.
 pub fn directed(cases: &mut Vec<Case>) {
     let rng = &mut Rng::new(5);
     let rate = 1000;
@@ -218,17 +225,50 @@ pub fn directed(cases: &mut Vec<Case>) {
             cases.push(calls.case(format!("given, last {last}, ranks {ranks:?}")));
         }
     }
-    for waiting in [40, 41, 128] {
+    for waiting in [34, 40, 41, 64, 118, 119, 120, 128, 255] {
         let state = State {
             base: 0,
             unscanned: 0,
             held: dbm.clone(),
             starts: vec![],
-            waiting: (0..waiting).map(|i| Waiting::new(rng, i, 1, &[0], 1.0)).collect(),
+            waiting: devices(rng, 0..waiting),
         };
-        let calls = Calls::new(rate).given(&state).push(&dbm[..500]).flush();
-        cases.push(calls.case(format!("given, {waiting} waiting")));
+        let calls = || Calls::new(rate).given(&state);
+        cases.push(
+            calls()
+                .push(&dbm[..500])
+                .flush()
+                .case(format!("given, {waiting} waiting, push")),
+        );
+        cases.push(
+            calls()
+                .push_raw(&[200; 500])
+                .flush()
+                .case(format!("given, {waiting} waiting, push_raw")),
+        );
+        cases.push(
+            calls()
+                .flush()
+                .push(&dbm[..500])
+                .case(format!("given, {waiting} waiting, flush")),
+        );
     }
+    // the frame opens a 41st message: all are given back, and then the state is not in order
+    let full = State {
+        base: 0,
+        unscanned: 0,
+        held: dbm[..1000].to_vec(),
+        starts: vec![],
+        waiting: devices(rng, 100..140),
+    };
+    let calls = Calls::new(rate).given(&full).push(&dbm[1000..8000]);
+    cases.push(
+        calls
+            .push(&dbm[8000..8008])
+            .push_raw(&[200])
+            .flush()
+            .case("given, 40 waiting, and one more"),
+    );
     for i in 0..5 * RULES {
         let state = in_order(rng, rate, &dbm, 3000);
         let bad = spoiled(rng, rate, &state, i % RULES);
@@ -242,7 +282,7 @@ pub fn directed(cases: &mut Vec<Case>) {
     }
 }
 
-/// States in order and every way to spoil one, each with a push and a flush; then a state that is cut short.
+/// States in order and every way to spoil one, each with a push and a flush; 40 messages and 41; then a state that is cut short.
 pub fn sample(rate: u32, dbm: &[f32], calls: Calls) -> Calls {
     let rng = &mut Rng::new(10);
     let r = rate as usize;
@@ -254,6 +294,11 @@ pub fn sample(rate: u32, dbm: &[f32], calls: Calls) -> Calls {
         if i % 3 == 0 {
             calls = calls.given(&state).push(&dbm[r..2 * r]).flush();
         }
+    }
+    for count in [40, 41] {
+        let mut state = in_order(rng, rate, &dbm[..2 * r], r);
+        state.waiting = devices(rng, 0..count);
+        calls = calls.given(&state).push(&dbm[r..r + 8]).flush();
     }
     Calls(calls.0.u8(3).u64(1).u32(2))
 }

@@ -7,7 +7,7 @@ use crate::rust::receiver::{Pending, SigfoxReceiver};
 use crate::text::Input;
 
 const MOST_STARTS: usize = 96;
-const MOST_WAITING: usize = 128;
+const MOST_WAITING: usize = 40;
 
 /// 01: "In order: held at most 12 x rate, .."; a message's own part of it is `fits`.
 pub fn in_order(rate: u32, r: &SigfoxReceiver) -> bool {

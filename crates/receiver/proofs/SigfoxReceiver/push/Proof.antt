@@ -3,6 +3,7 @@ use mathlib.Core.Path.{_≡_, _∙_, sym}
 use native.Mathlib.Omega.{arith}
 use lib.ListN.{length}
 use borrow.Author.Needs.{needs}
+use Rattle.ledger.specs.Room.{openPlaces}
 use Rattle.ledger.specs.Ledger.{push}
 use Rattle.message.proofs.SpanLaws.{length-mapped}
 use Rattle.receiver.specs.Calls.{Memory, refusalOf}
@@ -25,7 +26,7 @@ given c = record { samples = c .args .samples .now; events = c .args .events .no
 starts-places : (c : Entry) → length (c .args .self .starts .at) ≡ 96
 starts-places c = search needs
 
-open-places : (c : Entry) → length (c .args .self .waiting .messages) ≡ 168
+open-places : (c : Entry) → length (c .args .self .waiting .messages) ≡ openPlaces
 open-places c = search (needs, length-mapped)
 
 passing : (c : Entry) → refusalOf (c .args .self) (push (c .args .dbm .now)) (given c) ≡ 0 → Passes (c .args .self) (push (c .args .dbm .now)) (c .args .samples .now) (c .args .events .now) (c .args .scratch64 .now)

@@ -4,6 +4,7 @@ use Prim.Native.Nat.{_≤_}
 use native.Mathlib.Omega.{arith}
 use lib.ListN.{length, length-map}
 use borrow.Author.Needs.{needs}
+use Rattle.ledger.specs.Room.{openPlaces}
 use Rattle.ledger.specs.Ledger.{pushRaw, dbmOf}
 use Rattle.message.proofs.SpanLaws.{length-mapped}
 use Rattle.receiver.specs.Calls.{Memory, refusalOf}
@@ -27,7 +28,7 @@ given c = record { samples = c .args .samples .now; events = c .args .events .no
 starts-places : (c : Entry) → length (c .args .self .starts .at) ≡ 96
 starts-places c = search needs
 
-open-places : (c : Entry) → length (c .args .self .waiting .messages) ≡ 168
+open-places : (c : Entry) → length (c .args .self .waiting .messages) ≡ openPlaces
 open-places c = search (needs, length-mapped)
 
 passing : (c : Entry) → refusalOf (c .args .self) (pushRaw (c .args .raw .now)) (given c) ≡ 0 → Passes (c .args .self) (pushRaw (c .args .raw .now)) (c .args .samples .now) (c .args .events .now) (c .args .scratch64 .now)

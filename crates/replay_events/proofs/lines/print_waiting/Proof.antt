@@ -1,6 +1,7 @@
 -- `replay_events::lines::print_waiting` meets its contract: the places are counted up. Assumes nothing.
 use Prim.Native.Nat.{_-_}
 use borrow.Author.Needs.{needs}
+use Rattle.ledger.specs.Room.{openPlaces}
 use Rattle.replay_events.proofs.lines.print_waiting.Statement.{statement}
 use Rattle.replay_events.proofs.lines.print_waiting.Tie as tie
 
@@ -8,7 +9,7 @@ abbrev Inv-loop : tie.InvT-loop
 Inv-loop w n i₀ i = Unit
 
 abbrev μ-loop : tie.MeasureT-loop
-μ-loop w n i₀ i = 168 - i
+μ-loop w n i₀ i = openPlaces - i
 
 loop-holds : tie.Need-loop-holds Inv-loop μ-loop
 loop-holds c = search needs
