@@ -6,9 +6,9 @@ use std::{env, fs};
 
 const MODULES: [&str; 4] = ["frame", "demod", "frequency", "receiver"];
 
-/// Module, published text, text in its place. Nothing here changes what the Rust answers, but for 01's trigonometry
-/// and 01's rule on bit indexes; the start sample is carried along because 01's records hold it, the state of `deconvolve`
-/// because request 06 starts from any, the bit grid because it is drawn.
+/// Module, published text, text in its place. Nothing here changes what the Rust answers, but for 01's trigonometry,
+/// 01's rule on bit indexes and request 07's option in decode_capture; the start sample is carried along because 01's
+/// records hold it, the state of `deconvolve` because request 06 starts from any, the bit grid because it is drawn.
 const REPLACEMENTS: &[(&str, &str, &str)] = &[
     // 01's trigonometry
     ("demod", "a.sin()", "crate::trig::sin(a)"),
@@ -37,6 +37,12 @@ const REPLACEMENTS: &[(&str, &str, &str)] = &[
         "frame",
         "            input\n        })\n        .collect()\n",
         "            input\n        })\n        .collect();\n    (decoded, state)\n",
+    ),
+    // 02, request 07: decode_capture with the default's shortest burst; the receiver keeps the Rust's own
+    (
+        "demod",
+        "find_bursts(dbm, rate, &BurstOptions::default(), floor)",
+        "find_bursts(dbm, rate, &super::default_options(), floor)",
     ),
     // the modules stand one level lower
     ("demod", "use crate::frame::", "use super::frame::"),

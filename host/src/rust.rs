@@ -6,3 +6,11 @@ include!(concat!(env!("OUT_DIR"), "/rust.rs"));
 fn bit_index(x: f64) -> Option<i64> {
     (x.abs() <= 2_147_483_648.0).then_some(x as i64)
 }
+
+/// 02, request 07: the default's shortest burst is 1,000 ms, where the Rust has 300.
+pub fn default_options() -> demod::BurstOptions {
+    demod::BurstOptions {
+        min_ms: 1000.0,
+        ..Default::default()
+    }
+}

@@ -1,4 +1,4 @@
--- At most 35 bursts lie in 12 s of samples, at the least length of 300 ms and the gap of 40 ms: each takes 0.3 s and the gap. Assumes nothing.
+-- At most 35 bursts lie in 12 s of samples, at a least length of 300 ms or more and the gap of 40 ms: each takes 0.3 s and the gap. Assumes nothing.
 use mathlib.Core.Path.{_≡_, refl, sym, _∙_}
 use mathlib.Core.Bool.{Bool, true, false}
 use mathlib.Core.List.{List}
@@ -10,9 +10,11 @@ use borrow.Author.Tests.{leb-true, leb-false}
 use lib.ListN.{length}
 use lib.Ieee.{Float}
 use Rattle.limits.specs.Limits.{lowestRate, highestRate, bufferS}
-use Rattle.rates.specs.Numbers.{minMs, gapMs}
+use Rattle.floats.specs.Number.{num}
+use Rattle.rates.specs.Numbers.{gapMs}
 use Rattle.rates.specs.Rates.{gapOf, longAt}
-use Rattle.rates.proofs.Rates.{gap-is, long-enough-is}
+use Rattle.rates.proofs.Rates.{gap-is}
+use Rattle.rates.proofs.Lengths.{long-at-is}
 use Rattle.bursts.specs.Numbers.{mostBursts}
 use Rattle.bursts.specs.Bursts.{gapSamples, burstsOf}
 use Rattle.bursts.specs.declared.BurstOptions.{BurstOptions}
@@ -41,16 +43,18 @@ module _ (dbm : List Float) (rate : ℕ) (o : BurstOptions) (floor : Float) (fit
           let m = mul-le-mul-right (34 * rate + 150) (leb-false k mostBursts e) in
           omega (arith, m)
 
--- a burst at the least length of 300 ms spans 0.3 s
-pub long-is : (rate : ℕ) → lowestRate ≤ rate → rate ≤ highestRate → (o : BurstOptions) → o .«min_ms» ≡ minMs
-    → (d : ℕ) → d ≤ bufferS * rate → longAt (o .«min_ms») rate d ≡ true → 3 * rate ≤ 10 * d
-long-is rate lo hi o e d h l =
-    let b : d ≤ 2 ^ 41 = le-trans h (le-trans (mul-le-mul-left bufferS hi) (lit≤ tt)) in
-    leb-true (3 * rate) (10 * d) (sym (long-enough-is rate lo hi d b) ∙ rw e at l)
+-- where the least length is 300 ms or more, a burst spans 0.3 s
+long-is : (ms : ℕ) → (300 ≤ ms) × (ms ≤ 10000) → (rate : ℕ) → lowestRate ≤ rate → rate ≤ highestRate
+    → (d : ℕ) → d ≤ bufferS * rate → longAt (num ms) rate d ≡ true → 3 * rate ≤ 10 * d
+long-is ms h rate lo hi d b l =
+    let c : d ≤ 2 ^ 41 = le-trans b (le-trans (mul-le-mul-left bufferS hi) (lit≤ tt)) in
+    let e : ms * rate ≤ 1000 * d = leb-true (ms * rate) (1000 * d) (sym (long-at-is ms (omega arith) rate lo hi d c) ∙ l) in
+    let m : 300 * rate ≤ ms * rate = mul-le-mul-right rate (h .0) in
+    omega arith
 
 pub bursts-few : (dbm : List Float) (rate : ℕ) (o : BurstOptions) (floor : Float) → lowestRate ≤ rate → rate ≤ highestRate → length dbm ≤ bufferS * rate
-    → o .«min_ms» ≡ minMs → o .«gap_ms» ≡ gapMs → length (burstsOf dbm rate o floor) ≤ mostBursts
+    → (ms : ℕ) → (300 ≤ ms) × (ms ≤ 10000) → o .«min_ms» ≡ num ms → o .«gap_ms» ≡ gapMs → length (burstsOf dbm rate o floor) ≤ mostBursts
 unfolding gapOf
-bursts-few dbm rate o floor lo hi fits m g =
+bursts-few dbm rate o floor lo hi fits ms h m g =
     let e : gapSamples o rate ≡ (2 * rate + 25) / 50 = rw g (gap-is rate lo hi) in
-    few dbm rate o floor fits (long-is rate lo hi o m) (rw e (omega arith)) (rw e (omega arith))
+    few dbm rate o floor fits (λ d b l. long-is ms h rate lo hi d b (rw m at l)) (rw e (omega arith)) (rw e (omega arith))

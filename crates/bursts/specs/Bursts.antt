@@ -12,17 +12,17 @@ use Rattle.floats.specs.Number.{num}
 use Rattle.limits.specs.Limits.{badRate, long, badSample, badNumber, bufferS}
 use Rattle.limits.specs.Samples.{rateOk, isDbm, allDbm}
 use Rattle.limits.specs.Answer.{Answer, refused, accepted, answer}
-use Rattle.rates.specs.Numbers.{minMs, gapMs}
+use Rattle.rates.specs.Numbers.{gapMs}
 use Rattle.rates.specs.Rates.{gapAt, longAt}
-use Rattle.bursts.specs.Numbers.{aboveDb, mostDb, mostMs, lowestPeak}
+use Rattle.bursts.specs.Numbers.{aboveDb, minMs, mostDb, mostMs, lowestPeak}
 use Rattle.bursts.specs.declared.BurstOptions.{BurstOptions}
 use Rattle.bursts.specs.declared.Burst.{Burst}
 use Rattle.bursts.specs.declared.NextBurst.{NextBurst}
 use Rattle.bursts.specs.declared.NextBurst.the-variants.{Refused, Nothing, Found}
 
--- BurstOptions::default
+-- BurstOptions::default, with request 07's min_ms
 abbrev pub defaultOptions : BurstOptions
-defaultOptions = record { «above_db» = aboveDb; «min_ms» = minMs; «gap_ms» = gapMs }
+defaultOptions = record { «above_db» = aboveDb; «min_ms» = num minMs; «gap_ms» = gapMs }
 
 -- the Rust's `start` and `last_above`: no cluster is open, or one is, with its first and its last loud sample
 pub data Open : Type 0 where

@@ -7,6 +7,10 @@ use Rattle.floats.specs.Number.{num}
 abbrev pub aboveDb : Float
 aboveDb = num 15
 
+-- BurstOptions::default, min_ms: frames last over a second. 02, request 07: "The default minimum becomes 1,000 ms"; the Rust has 300.
+abbrev pub minMs : ℕ
+minMs = 1000
+
 -- 01, cause 9: above not 0 to 100 dB, ms not 0 to 10,000
 abbrev pub mostDb : Float
 mostDb = num 100
@@ -22,6 +26,6 @@ silence = neg (num 120)
 abbrev pub lowestPeak : Float
 lowestPeak = neg (num 200)
 
--- no 12 s of samples hold more bursts, at the default's least length and gap
+-- no 12 s of samples hold more bursts, where each lasts at least 300 ms and the gap is the default's
 abbrev pub mostBursts : ℕ
 mostBursts = 35

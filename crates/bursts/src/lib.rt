@@ -48,7 +48,7 @@ pub struct BurstOptions {
 impl BurstOptions {
     pub const ABOVE_DB: f64 = 15.0;
 
-    pub const MIN_MS: f64 = 300.0;
+    pub const MIN_MS: f64 = 1_000.0;
 
     pub const GAP_MS: f64 = 40.0;
 

@@ -11,7 +11,7 @@ use Rattle.limits.specs.Limits.{lowestRate, highestRate, bufferS, recordSize}
 use Rattle.frame.specs.declared.Outcome.the-variants.{Refused, Nothing, Frame}
 use Rattle.record.specs.Record.{frameRecord}
 use Rattle.record.proofs.RecordLaws.{length-frame}
-use Rattle.bursts.specs.Numbers.{mostBursts}
+use Rattle.bursts.specs.Numbers.{minMs, mostBursts}
 use Rattle.bursts.specs.Bursts.{defaultOptions, threshold, gapSamples, burstsIn}
 use Rattle.bursts.specs.Found.{burstsFrom}
 use Rattle.bursts.specs.declared.Burst.{Burst}
@@ -90,7 +90,7 @@ module _ (dbm : List Float) (rate : ℕ) (t0 : Float) where
         let s = from-start dbm rate defaultOptions floor in
         record {
           inside = omega arith;
-          few = rw s (omega (arith, bursts-few dbm rate defaultOptions floor lo hi fits refl refl));
+          few = rw s (omega (arith, bursts-few dbm rate defaultOptions floor lo hi fits minMs (omega arith) refl refl));
           size = refl;
           count = rw s (omega arith);
           past = refl;

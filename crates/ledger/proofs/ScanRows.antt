@@ -11,11 +11,12 @@ use borrow.Author.Tests.{leb-true}
 use Rattle.limits.specs.Limits.{lowestRate, highestRate}
 use Rattle.rates.specs.Rates.{gapOf, tailOf, tooNear, scanDue, bufferOf}
 use Rattle.rates.proofs.Rates as rates
+use Rattle.rates.proofs.Lengths.{long-at-is}
 use Rattle.bursts.specs.declared.Burst.{Burst}
 use Rattle.bursts.specs.Levels.{noiseFloor}
 use Rattle.bursts.specs.Bursts.{gapSamples}
 use Rattle.bursts.proofs.Rows.{InRow, done, next, bursts-in-row}
-use Rattle.ledger.specs.Scanning.{scanOptions, heldBursts}
+use Rattle.ledger.specs.Scanning.{scanMinMs, scanOptions, heldBursts}
 use Rattle.ledger.specs.Ledger.{capacity, tail, dist, close}
 use Rattle.ledger.specs.Room.{gap, Row}
 
@@ -28,8 +29,8 @@ module _ (rate : ℕ) (lo : lowestRate ≤ rate) (hi : rate ≤ highestRate) whe
     in-row : (i : ℕ) (bs : List Burst) → InRow held rate scanOptions (noiseFloor held) i bs → Row rate (length held) i bs
     in-row i [] w = tt
     in-row i (b ∷ bs) (next p q r l e w) =
-        let d : leb (3 * rate) (10 * (b .end - 1 - b .start)) ≡ true = sym (rates.long-enough-is rate lo hi (b .end - 1 - b .start) (omega arith)) ∙ l in
-        let h = leb-true (3 * rate) (10 * (b .end - 1 - b .start)) d in
+        let d = b .end - 1 - b .start in
+        let h = leb-true (scanMinMs * rate) (1000 * d) (sym (long-at-is scanMinMs (omega arith) rate lo hi d (omega arith)) ∙ l) in
         (p, omega arith, r, rw gap-is at (in-row (b .end + gapSamples scanOptions rate + 1) bs w))
 
     pub scan-row : Row rate (length held) 0 (heldBursts rate held)

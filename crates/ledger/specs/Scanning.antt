@@ -10,12 +10,12 @@ use Rattle.bursts.specs.declared.BurstOptions.{BurstOptions}
 use Rattle.bursts.specs.Levels.{noiseFloor}
 use Rattle.bursts.specs.Bursts.{burstsOf}
 
--- 300 ms: a scan's own, because the bounds on starts, messages and records rest on it
-abbrev pub scanMinMs : Float
-scanMinMs = num 300
+-- 02, request 07: "The streaming receiver relied on 300 ms and names 300 itself"; the bounds on starts, messages and records rest on it
+abbrev pub scanMinMs : ℕ
+scanMinMs = 300
 
 abbrev pub scanOptions : BurstOptions
-scanOptions = record { «above_db» = aboveDb; «min_ms» = scanMinMs; «gap_ms» = gapMs }
+scanOptions = record { «above_db» = aboveDb; «min_ms» = num scanMinMs; «gap_ms» = gapMs }
 
 abbrev pub heldBursts : ℕ → List Float → List Burst
 heldBursts rate held = burstsOf held rate scanOptions (noiseFloor held)

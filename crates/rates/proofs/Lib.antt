@@ -6,6 +6,7 @@ pub mod Between
 pub mod Short
 pub mod Tenths
 pub mod Rates
+pub mod Lengths
 pub mod Quantiles
 pub mod Tracker
 pub mod Later

@@ -12,8 +12,8 @@ use lib.Ieee.Positive as P
 use borrow.Author.Tests.{leb-true, leb-false}
 use Rattle.floats.specs.Number.{num}
 use Rattle.limits.specs.Limits.{lowestRate, highestRate, bufferS}
-use Rattle.rates.specs.Numbers.{bitRate, sideBits, halfBits, padS, minMs, gapMs, msPerS, stepS, tailS, sameBurstS}
-use Rattle.rates.specs.Rates.{nominalOf, halfOf, winOf, padOf, gapOf, longEnough, bufferOf, tailOf, tooNear, scanDue, oldestKept}
+use Rattle.rates.specs.Numbers.{bitRate, sideBits, halfBits, padS, gapMs, msPerS, stepS, tailS, sameBurstS}
+use Rattle.rates.specs.Rates.{nominalOf, halfOf, winOf, padOf, gapOf, bufferOf, tailOf, tooNear, scanDue, oldestKept}
 use Rattle.rates.proofs.Near.{div-at, int-value}
 use Rattle.rates.proofs.Values.{holds}
 use Rattle.rates.proofs.Between.{Lies, Factor, whole-lies, whole-factor, positive-factor, quotient-lies, times-lies, left-times-lies, up-to-whole, back, rounded-up, rounded-away}
@@ -37,10 +37,6 @@ gap-value : Factor (div binary64 gapMs msPerS) 5764607523034235 (2 ^ 57)
 unfolding ofInt div round
 gap-value = record { over-zero = omega arith; value = (refl, refl) }
 
-min-value : Factor (div binary64 minMs msPerS) 5404319552844595 (2 ^ 54)
-unfolding ofInt div round
-min-value = record { over-zero = omega arith; value = (refl, refl) }
-
 step-value : Factor stepS 1 2
 unfolding round
 step-value = record { over-zero = omega arith; value = (refl, refl) }
@@ -52,33 +48,6 @@ tail-value = record { over-zero = omega arith; value = (refl, refl) }
 same-burst-value : Factor sameBurstS 5404319552844595 (2 ^ 54)
 unfolding round
 same-burst-value = record { over-zero = omega arith; value = (refl, refl) }
-
--- ---- the shortest burst
-
--- a float of 20 binary places that is below 0.3, and above (last - first) / rate of every burst that is too short
-abbrev top : Float
-top = round binary64 false 314572 (2 ^ 20)
-
-top-positive : T (P.positive top)
-unfolding round
-top-positive = tt
-
-top-below : le (div binary64 minMs msPerS) top ≡ false
-unfolding ofInt div round le lt eq
-top-below = refl
-
-refused : (b : Bool) → (T b → ⊥) → b ≡ false
-refused true h = absurd (h tt)
-refused false h = refl
-
-too-short : (x : Float) → T (le x top) → le (div binary64 minMs msPerS) x ≡ false
-too-short x k = refused (le min x) (λ h. subst T top-below (P.le-trans-positive min x top p (P.between min x top p top-positive h k) top-positive h k))
-  where
-    min : Float
-    min = div binary64 minMs msPerS
-
-    p : T (P.positive (div binary64 minMs msPerS))
-    p = positive-factor min-value
 
 -- ---- the laws
 
@@ -146,24 +115,6 @@ module _ (r : ℕ) (lo : lowestRate ≤ r) (hi : r ≤ highestRate) where
 
   pub scan-due-is : (u : ℕ) → u ≤ 2 ^ 41 → scanDue r u ≡ leb r (2 * u)
   scan-due-is u U = up-to-whole (left-times-lies rate-lies step-value (512 * r) (512 * r) (omega arith)) u (omega arith) r (2 * u) (λ h. omega arith) (λ h. omega arith)
-
-  -- d / rate is monotone in d, and a sample too few leaves it at `top` or below
-  pub long-enough-is : (d : ℕ) → d ≤ 2 ^ 41 → longEnough r d ≡ leb (3 * r) (10 * d)
-  long-enough-is d D =
-      ap (λ (x : Float). le (div binary64 minMs msPerS) x) (div-at binary64 (num d) (num r) d r (omega arith) (int-value d (omega arith)) (int-value r (omega arith)))
-      ∙ go (leb (3 * r) (10 * d)) (leb-true (3 * r) (10 * d)) (leb-false (3 * r) (10 * d))
-    where
-      least : div binary64 minMs msPerS ≡ round binary64 false 300 1000
-      least = div-at binary64 minMs msPerS 300 1000 (omega arith) (int-value 300 (omega arith)) (int-value 1000 (omega arith))
-
-      go : (t : Bool) → (t ≡ true → 3 * r ≤ 10 * d) → (t ≡ false → 10 * d < 3 * r) → le (div binary64 minMs msPerS) (round binary64 false d r) ≡ t
-      go true p q =
-          let h = p refl in
-          ap (λ (y : Float). le y (round binary64 false d r)) least
-          ∙ holds (le (round binary64 false 300 1000) (round binary64 false d r)) (round-mono binary64 300 1000 d r (omega arith) (omega arith) (omega arith))
-      go false p q =
-          let h = q refl in
-          too-short (round binary64 false d r) (round-mono binary64 d r 314572 (2 ^ 20) (omega arith) (omega arith) (omega arith))
 
   -- ---- what the callers' buffers rest on
 

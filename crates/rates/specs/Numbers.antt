@@ -30,10 +30,6 @@ floorQuantile = near 2 10
 abbrev pub levelQuantile : Float
 levelQuantile = near 9 10
 
--- BurstOptions::default, min_ms: frames last over a second
-abbrev pub minMs : Float
-minMs = num 300
-
 -- BurstOptions::default, gap_ms: the dips inside a frame are short gaps
 abbrev pub gapMs : Float
 gapMs = num 40

@@ -5,7 +5,7 @@ use lib.Ieee.{Float, binary64, mul, div, le, lt, toUnsigned}
 use Rattle.floats.specs.Floor.{floor, roundHalfUp}
 use Rattle.floats.specs.Number.{num}
 use Rattle.limits.specs.Limits.{bufferS}
-use Rattle.rates.specs.Numbers.{bitRate, sideBits, halfBits, padS, floorQuantile, levelQuantile, minMs, gapMs, msPerS, stepS, tailS, sameBurstS}
+use Rattle.rates.specs.Numbers.{bitRate, sideBits, halfBits, padS, floorQuantile, levelQuantile, gapMs, msPerS, stepS, tailS, sameBurstS}
 use Rattle.rates.specs.Rounding.{roundHalfAway}
 
 -- ---- demod.rs
@@ -33,12 +33,9 @@ gapAt ms rate = toUnsigned 64 (roundHalfUp (mul binary64 (div binary64 ms msPerS
 unfoldable pub gapOf : ℕ → ℕ
 gapOf rate = gapAt gapMs rate
 
--- find_bursts: d samples from the first loud one to the last are a burst, (last - first) / rate >= min_ms / 1000, of any min_ms and of the default
+-- find_bursts: d samples from the first loud one to the last are a burst, (last - first) / rate >= min_ms / 1000, of any min_ms
 abbrev pub longAt : Float → ℕ → ℕ → Bool
 longAt ms rate d = le (div binary64 ms msPerS) (div binary64 (num d) (num rate))
-
-abbrev pub longEnough : ℕ → ℕ → Bool
-longEnough rate d = longAt minMs rate d
 
 -- quantile: the place floor(len * q) in the sorted samples, of any q and of the two in use
 abbrev pub indexAt : Float → ℕ → ℕ

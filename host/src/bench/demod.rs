@@ -2,7 +2,8 @@
 
 use super::{Row, grouped};
 use crate::generate::load;
-use crate::rust::demod::{BIT_RATE, BurstOptions, burst_bits, decode_capture, find_bursts, find_dips, noise_floor};
+use crate::rust::default_options;
+use crate::rust::demod::{BIT_RATE, burst_bits, decode_capture, find_bursts, find_dips, noise_floor};
 
 const BUFFER_S: usize = 12;
 const DIPS: usize = 3000;
@@ -115,7 +116,7 @@ fn at(rate: u32) -> String {
 
 fn bursts_row(rate: u32) -> Row {
     let dbm = load::samples(rate);
-    let rust = move |dbm: &Vec<f32>| find_bursts(dbm, rate, &BurstOptions::default(), noise_floor(dbm)).len();
+    let rust = move |dbm: &Vec<f32>| find_bursts(dbm, rate, &default_options(), noise_floor(dbm)).len();
     assert_eq!(bursts(&dbm, rate), rust(&dbm));
     let label = format!("`noise_floor` and {} bursts, 12 s {}", rust(&dbm), at(rate));
     Row::new("demod.rs", TIMES, label, dbm, rust, move |dbm| bursts(dbm, rate))

@@ -61,13 +61,34 @@ pub fn directed() -> Vec<Case> {
     cases.push(of("12 s and one more", 200, f64::NAN, None, &few));
     cases.push(of("no samples", 400, 0.0, None, &[]));
     cases.push(of("no samples, given floor", 400, 0.0, Some(-100.0), &[]));
-    cases.push(of("as many bursts as can be", 200, 0.0, Some(-110.0), &most_bursts()));
+    cases.push(of("as many bursts as can be", 200, 0.0, Some(-110.0), &bursts(201)));
+    cases.push(of("bursts of 300 ms", 200, 0.0, Some(-110.0), &bursts(61)));
+    for rate in [1000, 2000, 3999, 4000] {
+        for span in [rate - 1, rate, rate + 1] {
+            let label = format!("a frame of {span} samples at {rate}");
+            cases.push(of(label, rate, 0.0, Some(-80.0), &spanning(rate, span as usize)));
+        }
+    }
     cases
 }
 
-/// 35 bursts of 61 samples at 200/s, 9 quiet ones between them, with dips that make bits.
-fn most_bursts() -> Vec<f32> {
-    let burst: Vec<f32> = (0..61).map(|i| if i % 4 == 2 { -90.0 } else { -60.0 }).collect();
+/// A frame of class 0 with the shortest preamble. From the first sample over -65 dBm to the last are so many samples; those around them,
+/// two bits on each side, lie under it and within a burst's segment.
+fn spanning(rate: u32, span: usize) -> Vec<f32> {
+    let uplink = Uplink::new(0, 0x00ab_cdef, 0x321, 3, true, &[]);
+    let before = rate as usize / 50;
+    let loud = before..=before + span;
+    let envelope = Shape::clean(-60.0).envelope(&uplink.bits(0, 8), rate);
+    let lower = |(i, level)| if loud.contains(&i) { level } else { level - 6.0 };
+    let envelope: Vec<f64> = envelope.into_iter().enumerate().map(lower).collect();
+    let mut air = Air::quiet(rate, envelope.len() + before, -110.0);
+    air.send(0, &envelope);
+    air.samples()
+}
+
+/// Bursts of so many samples at 200/s, 9 quiet ones between them, with dips that make bits.
+fn bursts(samples: usize) -> Vec<f32> {
+    let burst: Vec<f32> = (0..samples).map(|i| if i % 4 == 2 { -90.0 } else { -60.0 }).collect();
     let mut dbm = vec![];
     while dbm.len() + burst.len() <= 2400 {
         dbm.extend(&burst);
@@ -79,6 +100,11 @@ fn most_bursts() -> Vec<f32> {
 
 pub fn random(rng: &mut Rng) -> Case {
     let rate = signal::rate(rng);
+    if rng.chance(0.1) {
+        let second = rate as usize;
+        let dbm = spanning(rate, rng.range(second * 98 / 100, second * 102 / 100));
+        return of("a frame of about a second", rate, 0.0, Some(-80.0), &dbm);
+    }
     let most = rng.pick(&[2, 3, 4, 8, 12]) * rate as usize;
     let samples = rng.range(most / 2, most);
     let air = signal::scene(rng, rate, samples);
