@@ -158,6 +158,7 @@ fn main() {
     println!("cargo::rustc-check-cfg=cfg(has_rust, has_record, has_bench)");
     let source = env::var("BARSHUNET_RUST").map_or_else(|_| root.join("../shared/docs/src"), PathBuf::from);
     let modules = source.join("host/crates/sigfox/src");
+    println!("cargo::rustc-env=RUST_LOOKED_FOR={}", modules.display());
     if modules.is_dir() {
         println!("cargo::rerun-if-changed={}", modules.display());
         let text: String = MODULES.iter().map(|m| module(&modules, m)).collect();

@@ -11,7 +11,8 @@ fn main() -> ExitCode {
 #[cfg(not(has_rust))]
 fn main() -> ExitCode {
     eprintln!(
-        "The Rust is not at hand: neither in ../shared/docs/src beside the repository nor where BARSHUNET_RUST says."
+        "The Rust is not at hand: there is no folder {}. BARSHUNET_RUST=FOLDER names another docs/src.",
+        env!("RUST_LOOKED_FOR")
     );
     ExitCode::from(2)
 }

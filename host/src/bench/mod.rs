@@ -40,14 +40,15 @@ enum Unit {
 
 /// The rows whose first two columns hold one of the words, or all.
 pub fn run(words: &[&str]) -> Result<ExitCode, String> {
+    let rows: Vec<Row> = programs::rows()?.into_iter().chain(libraries()).collect();
+    let unknown = |word: &&&str| !rows.iter().any(|row| row.name().contains(**word));
+    if let Some(word) = words.iter().find(unknown) {
+        return Err(format!("no row has the word '{word}'"));
+    }
     println!("{}; processor time, best of {ROUNDS}\n", machine());
     println!("| of | what | unit | Rust | port | port/Rust |\n|---|---|---|---|---|---|");
-    for row in programs::rows()?.iter().chain(&libraries()) {
-        let name = row.name();
-        if words.is_empty() || words.iter().any(|word| name.contains(word)) {
-            println!("{}", row.line());
-        }
-    }
+    let chosen = |row: &&Row| words.is_empty() || words.iter().any(|word| row.name().contains(word));
+    rows.iter().filter(chosen).for_each(|row| println!("{}", row.line()));
     Ok(ExitCode::SUCCESS)
 }
 
