@@ -1,41 +1,13 @@
 //! docs/CONTRACTS.md against the crates: every exported function has its row, and every row's functions, definitions and must-fail edits are there.
 //! Needs the repository alone.
 
+mod tree;
+
 use std::collections::BTreeSet;
-use std::fs;
 use std::path::{Path, PathBuf};
+use tree::{crates, files, name, none, paths, quoted, root, table_rows, tables, text};
 
-fn root() -> PathBuf {
-    Path::new(env!("CARGO_MANIFEST_DIR")).join("..")
-}
-
-fn text(path: &Path) -> String {
-    fs::read_to_string(path).unwrap_or_else(|e| panic!("{}: {e}", path.display()))
-}
-
-/// The files below a folder that end so, in order; none where there is no such folder.
-fn files(folder: &Path, end: &str) -> Vec<PathBuf> {
-    let Ok(entries) = fs::read_dir(folder) else {
-        return vec![];
-    };
-    let mut paths: Vec<PathBuf> = entries.map(|e| e.expect("it can be read").path()).collect();
-    paths.sort();
-    let below = |path: PathBuf| if path.is_dir() { files(&path, end) } else { vec![path] };
-    let mut found: Vec<PathBuf> = paths.into_iter().flat_map(below).collect();
-    found.retain(|path| path.to_string_lossy().ends_with(end));
-    found
-}
-
-/// The crates' folders.
-fn crates() -> Vec<PathBuf> {
-    let folder = root().join("crates");
-    let entries = fs::read_dir(&folder).expect("the repository has crates");
-    entries.map(|e| e.expect("it can be read").path()).collect()
-}
-
-fn name(path: &Path) -> String {
-    path.file_stem().expect("it has a name").to_string_lossy().into_owned()
-}
+const CONTRACTS: &str = "docs/CONTRACTS.md";
 
 /// An exported function.
 struct Function {
@@ -104,23 +76,6 @@ struct Row {
     edits: Vec<String>,
 }
 
-/// What stands in backquotes.
-fn quoted(cell: &str) -> impl Iterator<Item = &str> {
-    cell.split('`').skip(1).step_by(2)
-}
-
-/// Names of which the first is whole; a later one without a separator has the path of the one before it.
-fn paths<'a>(names: impl Iterator<Item = &'a str>, separator: &str, home: &str) -> Vec<String> {
-    let mut folder = home.to_string();
-    let mut whole = vec![];
-    for name in names {
-        let (path, last) = name.rsplit_once(separator).unwrap_or((&folder, name));
-        folder = path.to_string();
-        whole.push(format!("{folder}{separator}{last}"));
-    }
-    whole
-}
-
 fn row(cells: &[&str], of_crates: bool) -> Row {
     let [first, .., definition, edits] = cells else {
         panic!("a row has at least three columns: {cells:?}");
@@ -143,43 +98,13 @@ fn row(cells: &[&str], of_crates: bool) -> Row {
     }
 }
 
-/// The rows of the tables whose first column has this name, as cells.
-fn table_rows(name: &str) -> Vec<Vec<String>> {
-    let page = text(&root().join("docs/CONTRACTS.md"));
-    let (mut rows, mut table) = (vec![], String::new());
-    for line in page.lines() {
-        if line.starts_with("|---") {
-            continue;
-        }
-        let Some(inner) = line.strip_prefix('|').and_then(|line| line.strip_suffix('|')) else {
-            table.clear();
-            continue;
-        };
-        let cells: Vec<String> = inner.split('|').map(|cell| cell.trim().to_string()).collect();
-        if table.is_empty() {
-            table.clone_from(&cells[0]);
-            let known = ["function", "crate", "number"].contains(&table.as_str());
-            assert!(known, "a table of {table}");
-        } else if table == name {
-            rows.push(cells);
-        }
-    }
-    rows
-}
-
 fn rows() -> Vec<Row> {
     let of = |name: &str| {
-        let rows = table_rows(name).into_iter();
+        let rows = table_rows(CONTRACTS, name).into_iter();
         let of_crates = name == "crate";
         rows.map(move |cells| row(&cells.iter().map(String::as_str).collect::<Vec<_>>(), of_crates))
     };
     of("function").chain(of("crate")).collect()
-}
-
-/// Fails with the list.
-fn none(what: &str, list: impl IntoIterator<Item = String>) {
-    let list: Vec<String> = list.into_iter().collect();
-    assert!(list.is_empty(), "{what}:\n  {}", list.join("\n  "));
 }
 
 #[test]
@@ -208,7 +133,7 @@ fn every_cause_is_named() {
         text(&folder.join("src/lib.rt")),
         text(&folder.join("specs/Limits.antt")),
     );
-    let rows = table_rows("number");
+    let rows = table_rows(CONTRACTS, "number");
     for cells in &rows {
         let [number, _, names, _] = &cells[..] else {
             panic!("a cause has four columns: {cells:?}");
@@ -328,4 +253,15 @@ fn every_crate_stands_in_a_row() {
     let of_crates = rows.iter().filter(|r| r.of_crates).flat_map(|r| &r.names);
     let unknown = of_crates.filter(|c| !root().join("crates").join(c).is_dir());
     none("crates in docs/CONTRACTS.md that aren't there", unknown.cloned());
+}
+
+/// Every table of the document is read by some test above.
+#[test]
+fn every_table_is_known() {
+    let tables = tables(&text(&root().join(CONTRACTS)));
+    let unknown = tables.iter().map(|table| table[0][0].clone());
+    none(
+        "tables of docs/CONTRACTS.md that no test reads",
+        unknown.filter(|first| !["function", "crate", "number"].contains(&first.as_str())),
+    );
 }
