@@ -1,0 +1,10 @@
+pub mod NumberLaws
+pub mod TableLaws
+pub mod PlaceLaws
+pub mod TakenLaws
+pub mod RowLaws
+pub mod DeviceLaws
+pub mod FlatLaws
+pub mod StandLaws
+pub mod SheetLaws
+pub mod ReportLaws
