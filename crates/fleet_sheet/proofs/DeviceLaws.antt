@@ -136,7 +136,7 @@ or-false : (a b : Bool) → a || b ≡ false → (a ≡ false) × (b ≡ false)
 or-false true b e = absurd (true≢false e)
 or-false false b e = (refl, e)
 
-has-insert : (e d : ℕ) (l : List ℕ) → has e (insert d l) ≡ eqb d e || has e l
+pub has-insert : (e d : ℕ) (l : List ℕ) → has e (insert d l) ≡ eqb d e || has e l
 has-insert e d [] = ap (has e) (insert-none d)
 has-insert e d (x ∷ l) =
     three d x

@@ -8,3 +8,6 @@ pub mod FlatLaws
 pub mod StandLaws
 pub mod SheetLaws
 pub mod ReportLaws
+pub mod Claims
+pub mod Contracts
+pub mod Example
