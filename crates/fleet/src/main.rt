@@ -13,14 +13,18 @@ const MOST_DEVICES: usize = 256;
 // Numbers of a row.
 const WIDTH: usize = 9;
 
+// 8 hexadecimal digits; a device's number is not below 0.
+fn print_device(z: i64) {
+    if z >= 0 {
+        replay::print_hex(z as u64, 8);
+    }
+}
+
 // A row: the device in 8 hexadecimal digits, then its eight numbers.
 fn print_row(rows: &[i64; 2304], p: usize)
     requires { ⌜ p ≤ 255 ⌝ }
 {
-    let device = rows[WIDTH * p];
-    if 0 <= device {
-        replay::print_hex(device as u64, 8);
-    }
+    print_device(rows[WIDTH * p]);
     let mut j: usize = 1;
     while j < WIDTH {
         replay::print(b" ");
