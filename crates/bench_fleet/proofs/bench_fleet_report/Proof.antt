@@ -22,7 +22,7 @@ same-length c = search needs
 
 returns : tie.Need-returns
 returns c =
-    let w = c .before .before .before .before .fleet-report in
+    let w = c .before .before .before .fleet-report in
     told (w .result) _ _ _ _ _ _ (w .ensures) (ap (λ (x : Sheet). rowsOf (said x)) (sym (c .enum-told .given .1)))
 
 same-length-2 : tie.Need-same-length-2
@@ -30,7 +30,7 @@ same-length-2 c = search needs
 
 returns-2 : tie.Need-returns-2
 returns-2 c =
-    let w = c .before .before .before .before .before .fleet-report in
+    let w = c .before .before .before .before .fleet-report in
     told (w .result) _ _ _ _ _ _ (w .ensures) (ap (λ (x : Sheet). rowsOf (said x)) (sym (c .before .n .given .1)))
 
 pub bench-fleet-report-spec : {M : Type 1} → statement M
