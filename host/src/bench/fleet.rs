@@ -46,7 +46,11 @@ fn rust(records: &Vec<u8>) -> Vec<i64> {
             MESSAGE if (-200.0..=100.0).contains(&rssi) && (1..=7).contains(&record[1]) => {}
             _ => return vec![],
         }
-        let fresh = || Device { lowest: ppm, highest: ppm, ..Device::default() };
+        let fresh = || Device {
+            lowest: ppm,
+            highest: ppm,
+            ..Device::default()
+        };
         let device = devices.entry(four(8)).or_insert_with(fresh);
         device.by_ranks[record[1].count_ones() as usize - 1] += 1;
         device.lowest = device.lowest.min(ppm);
@@ -59,7 +63,17 @@ fn rust(records: &Vec<u8>) -> Vec<i64> {
     let row = |(&number, d): (&u32, &Device)| {
         let [one, two, three] = d.by_ranks;
         let count = one + two + three;
-        [i64::from(number), count, one, two, three, d.lowest, d.highest, d.halves, count]
+        [
+            i64::from(number),
+            count,
+            one,
+            two,
+            three,
+            d.lowest,
+            d.highest,
+            d.halves,
+            count,
+        ]
     };
     devices.iter().flat_map(row).collect()
 }

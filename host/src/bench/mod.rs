@@ -80,7 +80,13 @@ fn libraries() -> Vec<Row> {
     let fleet = fleet::rows();
     #[cfg(not(has_bench_fleet))]
     let fleet = missing("bench_fleet", "fleet");
-    order.into_iter().chain(frame).chain(writer).chain(demod).chain(fleet).collect()
+    order
+        .into_iter()
+        .chain(frame)
+        .chain(writer)
+        .chain(demod)
+        .chain(fleet)
+        .collect()
 }
 
 #[cfg(not(all(has_record, has_bench, has_bench_fleet)))]
