@@ -2,16 +2,11 @@
 ghost use Prim.Native.Nat.{_≤_};
 ghost use lib.ListN.{length};
 ghost use Rattle.fleet_sheet.specs.Tallies.{Tallied};
+use fleet_sheet::NUMBERS;
 use fleet_sheet::Sheet;
 use fleet_sheet::Tally;
 use libc::STDERR_FILENO;
 use reading::Fetched;
-
-// The most devices of a report.
-const MOST_DEVICES: usize = 256;
-
-// Numbers of a row.
-const WIDTH: usize = 9;
 
 // 8 hexadecimal digits; a device's number is not below 0.
 fn print_device(z: i64) {
@@ -24,11 +19,11 @@ fn print_device(z: i64) {
 fn print_row(rows: &[i64; 2304], p: usize)
     requires { ⌜ p ≤ 255 ⌝ }
 {
-    print_device(rows[WIDTH * p]);
+    print_device(rows[NUMBERS * p]);
     let mut j: usize = 1;
-    while j < WIDTH {
+    while j < NUMBERS {
         replay::print(b" ");
-        replay::print_i64(rows[WIDTH * p + j]);
+        replay::print_i64(rows[NUMBERS * p + j]);
         j += 1;
     }
     replay::print_end();
@@ -36,7 +31,7 @@ fn print_row(rows: &[i64; 2304], p: usize)
 
 fn print_rows(rows: &[i64; 2304], n: usize) {
     let mut p: usize = 0;
-    while p < MOST_DEVICES {
+    while p < fleet_sheet::MOST_DEVICES {
         if p == n {
             return;
         }

@@ -14,11 +14,15 @@ ghost use Rattle.fleet_sheet.specs.Report.{said, nine, sheet, sheetPlace
 ghost use Rattle.fleet_sheet.specs.Table.{rowsMost, hintsMost, mostRecords, nines};
 ghost use Rattle.fleet_sheet.specs.Tallies.{Tallied, Adds, Reported};
 use crate::rows::Row;
-use crate::table::MOST_DEVICES;
 use crate::table::WIDTH;
 use crate::table::taken;
 
-// Places of the result list: nine a device.
+// The most devices of a report.
+pub const MOST_DEVICES: usize = 256;
+
+// Numbers of a device in the result list, and its places.
+pub const NUMBERS: usize = 9;
+
 pub const SHEET: usize = 2304;
 
 // What `fleet_report` answers.
@@ -115,7 +119,7 @@ fn put_sheet(ids: &[u32], sums: &[i64], n: usize, rows: &mut [i64])
     let mut p: usize = 0;
     while p < n {
         let row = rows::row_at(sums, WIDTH * p);
-        put_nine(rows, 9 * p, ids[p], row);
+        put_nine(rows, NUMBERS * p, ids[p], row);
         p += 1;
     }
 }

@@ -4,13 +4,11 @@ ghost use Prim.Native.Nat.{ℕ, _+_, _*_, _≤_, _<_};
 ghost use lib.ListN.{length, take};
 ghost use Rattle.limits.specs.Limits.{recordSize};
 ghost use Rattle.fleet_sheet.specs.Table.{Small, rowAt, placeOf, Rising, shifted, isThere, takenCount, takenIds, takenTable, rowsMost, hintsMost};
+use crate::MOST_DEVICES;
 use crate::rows;
 use record::read;
 
-// The most devices of a report.
-pub const MOST_DEVICES: usize = 256;
-
-// Numbers of a row.
+// Numbers of a row in the table.
 pub const WIDTH: usize = 7;
 
 // Places of hints: a device's is by the last 12 bits of its number.

@@ -3,17 +3,12 @@ ghost use mathlib.Core.Path.{_≡_};
 ghost use Prim.Native.Nat.{_+_, _≤_};
 ghost use lib.ListN.{length};
 ghost use Rattle.endian.specs.Bytes.{signedOf};
+use fleet_sheet::NUMBERS;
 use fleet_sheet::Sheet;
 use replay::Head;
 
 // The longest list that is lent.
 const MOST_PLACES: usize = 2400;
-
-// The most devices of a report.
-const MOST_DEVICES: usize = 256;
-
-// Numbers of a row.
-const WIDTH: usize = 9;
 
 // A signed number from its two's complement.
 fn signed(n: u64) -> i64
@@ -30,7 +25,7 @@ fn print_row(rows: &[i64], at: usize)
 {
     replay::print_i64(rows[at]);
     let mut j: usize = 1;
-    while j < WIDTH {
+    while j < NUMBERS {
         replay::print(b" ");
         replay::print_i64(rows[at + j]);
         j += 1;
@@ -40,13 +35,13 @@ fn print_row(rows: &[i64], at: usize)
 
 // A line a row, as many as `n` says, of those that the list can hold.
 fn print_rows(rows: &[i64], n: usize) {
-    let most = rows.len() / WIDTH;
+    let most = rows.len() / NUMBERS;
     let mut p: usize = 0;
     while p < most {
         if p == n {
             return;
         }
-        print_row(rows, WIDTH * p);
+        print_row(rows, NUMBERS * p);
         p += 1;
     }
 }
@@ -85,8 +80,8 @@ fn report_into(records: &[u8], rows: &mut [i64], places: usize, fill: i64) -> bo
             replay::print_number(n as u64);
             replay::print_end();
             print_rows(rows, n);
-            let from = least(n, MOST_DEVICES);
-            print_kept(rows, WIDTH * from, places, fill)
+            let from = least(n, fleet_sheet::MOST_DEVICES);
+            print_kept(rows, NUMBERS * from, places, fill)
         }
     }
 }
