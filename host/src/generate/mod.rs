@@ -9,6 +9,7 @@ mod capture;
 mod dips;
 mod events;
 pub(crate) mod frame;
+pub mod given;
 mod listen;
 pub mod load;
 mod misc;

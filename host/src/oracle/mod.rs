@@ -7,6 +7,7 @@ mod bursts;
 mod capture;
 mod dips;
 mod events;
+pub mod given;
 pub mod listen;
 mod misc;
 pub mod record;
