@@ -78,6 +78,11 @@ pub fn records(holds: bool) -> Checked {
     check(holds, 12)
 }
 
+/// Request 09: at most 256 devices.
+pub fn devices(holds: bool) -> Checked {
+    check(holds, 13)
+}
+
 /// No NaN lies in a range.
 fn is_dbm(v: &f32) -> bool {
     (-200.0..=100.0).contains(v)
