@@ -7,6 +7,8 @@ mod bursts;
 mod capture;
 mod dips;
 mod events;
+mod fleet;
+pub mod given;
 pub mod listen;
 mod misc;
 pub mod record;
@@ -25,6 +27,7 @@ fn replay(name: &str) -> Option<Replay> {
     Some(match name {
         "bits" => bits::case,
         "events" => events::stream,
+        "fleet" => fleet::case,
         "bursts" => bursts::case,
         "dips" => dips::case,
         "burstbits" => burstbits::case,
