@@ -68,6 +68,16 @@ pub fn uplink(holds: bool) -> Checked {
     check(holds, 10)
 }
 
+/// Request 09: a list of event records.
+pub fn records(holds: bool) -> Checked {
+    check(holds, 12)
+}
+
+/// Request 09: at most 256 devices.
+pub fn devices(holds: bool) -> Checked {
+    check(holds, 13)
+}
+
 /// No NaN lies in a range.
 fn is_dbm(v: &f32) -> bool {
     (-200.0..=100.0).contains(v)

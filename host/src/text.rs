@@ -42,6 +42,10 @@ impl<'a> Input<'a> {
         self.array().map(u64::from_le_bytes)
     }
 
+    pub fn i64(&mut self) -> Option<i64> {
+        self.array().map(i64::from_le_bytes)
+    }
+
     pub fn f32(&mut self) -> Option<f32> {
         self.array().map(f32::from_le_bytes)
     }

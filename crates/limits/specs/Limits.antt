@@ -32,6 +32,13 @@ badNumber = 9
 abbrev pub badUplink : ℕ
 badUplink = 10
 
+-- 02, request 09: bytes that are no whole event records, each a frame or a message as it must be; a 257th device
+abbrev pub badRecords : ℕ
+badRecords = 12
+
+abbrev pub manyDevices : ℕ
+manyDevices = 13
+
 -- rate not 200 to 4,000
 abbrev pub lowestRate : ℕ
 lowestRate = 200
@@ -52,6 +59,10 @@ mostReadings = 4096
 
 abbrev pub mostBits : ℕ
 mostBits = 1024
+
+-- 02, request 09: 'over 120,000,000 bytes of records are refusal 3'
+abbrev pub mostRecordBytes : ℕ
+mostRecordBytes = 120000000
 
 -- events 30,720 bytes (C function: 120), scratch 3,000 f64
 abbrev pub recordSize : ℕ

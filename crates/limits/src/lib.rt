@@ -27,6 +27,12 @@ pub const BAD_NUMBER: u8 = 9;
 // An uplink that no frame carries (02, request 01).
 pub const BAD_UPLINK: u8 = 10;
 
+// Bytes that are no whole event records, each a frame or a message as it must be (02, request 09).
+pub const BAD_RECORDS: u8 = 12;
+
+// A 257th device (02, request 09).
+pub const MANY_DEVICES: u8 = 13;
+
 // Samples per second.
 pub const LOWEST_RATE: u32 = 200;
 
@@ -41,6 +47,9 @@ pub const MOST_SAMPLES: usize = 48_000;
 pub const MOST_READINGS: usize = 4096;
 
 pub const MOST_BITS: usize = 1024;
+
+// The most bytes of event records handed in: a million records (02, request 09).
+pub const MOST_RECORD_BYTES: usize = 120_000_000;
 
 // Bytes of an event record, and of an event buffer.
 pub const RECORD: usize = 120;

@@ -1,8 +1,5 @@
-// Standard input: what is there of it, and its records.
-ghost use Prim.Native.Nat.{_+_, _≤_, _<_};
-ghost use lib.ListN.{length};
-ghost use Rattle.listening.specs.Input.{brought};
-use libc::STDIN_FILENO;
+// The records of standard input.
+ghost use Prim.Native.Nat.{_+_, _≤_};
 
 // Bytes of a record.
 pub const RECORD: usize = 16;
@@ -15,24 +12,6 @@ pub struct Record {
     pub raw: [u8; 8],
     pub cfo: u16,
     pub hz: u32,
-}
-
-// What a read brings: bytes, none of them where the input has ended, or an error.
-pub enum Fetched {
-    Bytes(usize),
-    Failed,
-}
-
-// What is there of standard input, behind the first bytes of the buffer, without waiting for more.
-pub fn fetch(input: &mut [u8], from: usize) -> Fetched
-    requires { ⌜ from < length (now input) ⌝ }
-    ensures { λ r. ⌜ from + brought r ≤ length (now (input .exit)) ⌝ }
-{
-    let got = libc::read(STDIN_FILENO, &mut input[from..]);
-    if got < 0 {
-        return Fetched::Failed;
-    }
-    Fetched::Bytes(io::count(got, &input[from..]))
 }
 
 // The record at a place of the buffer.

@@ -1,5 +1,5 @@
 // What the program `listen` does (01, frequency.rs): the tracker and the receiver side by side on one stream of 16-byte records from standard input, a line for each retune and each message.
-mod input; // standard input and its records
+mod input; // the records of standard input
 mod listener; // the tracker's side, and what was counted
 mod lines; // what is printed
 mod messages; // what a call of the receiver brings
@@ -7,10 +7,8 @@ mod writing; // a line, put together and written at once
 
 ghost use Prim.Native.Nat.{_≤_, _<_};
 use crate::input::BUFFER;
-use crate::input::Fetched;
 use crate::input::RECORD;
 use crate::input::Record;
-use crate::input::fetch;
 use crate::input::record_at;
 use crate::lines::print_end;
 use crate::lines::print_failure;
@@ -18,6 +16,8 @@ use crate::lines::print_refusal;
 use crate::listener::Listener;
 use crate::listener::track;
 use crate::messages::emit_all;
+use reading::Fetched;
+use reading::fetch;
 use receiver::Received;
 use receiver::SigfoxReceiver;
 

@@ -310,6 +310,16 @@ pub fn print_signed(z: i32) {
     print_number(0x1_0000_0000 - bits);
 }
 
+// The same of 64 bits; `!z` is -(z + 1).
+pub fn print_i64(z: i64) {
+    if z >= 0 {
+        print_number(z as u64);
+        return;
+    }
+    print(b"-");
+    print_number((!z) as u64 + 1);
+}
+
 // The first n bytes of a text.
 pub fn print_front(text: &[u8], n: usize)
     requires { ⌜ n ≤ length (now text) ⌝ }

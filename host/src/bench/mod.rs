@@ -3,6 +3,8 @@
 mod clock;
 #[cfg(has_bench)]
 mod demod;
+#[cfg(has_bench_fleet)]
+mod fleet;
 #[cfg(has_record)]
 mod frame;
 mod listen;
@@ -32,7 +34,7 @@ pub struct Row {
 
 enum Unit {
     /// Microseconds for a call, of so many that are timed together
-    #[cfg_attr(not(any(has_record, has_bench)), expect(dead_code))]
+    #[cfg_attr(not(any(has_record, has_bench, has_bench_fleet)), expect(dead_code))]
     Call(usize),
     /// Milliseconds for a run
     Run,
@@ -75,10 +77,20 @@ fn libraries() -> Vec<Row> {
     let frame = frame::rows();
     #[cfg(not(has_record))]
     let frame = missing("record", "frame.rs");
-    order.into_iter().chain(frame).chain(writer).chain(demod).collect()
+    #[cfg(has_bench_fleet)]
+    let fleet = fleet::rows();
+    #[cfg(not(has_bench_fleet))]
+    let fleet = missing("bench_fleet", "fleet");
+    order
+        .into_iter()
+        .chain(frame)
+        .chain(writer)
+        .chain(demod)
+        .chain(fleet)
+        .collect()
 }
 
-#[cfg(not(all(has_record, has_bench)))]
+#[cfg(not(all(has_record, has_bench, has_bench_fleet)))]
 fn missing(library: &str, of: &str) -> Vec<Row> {
     eprintln!("no rows of {of}: rt staticlib {library} makes their library");
     vec![]
@@ -86,7 +98,7 @@ fn missing(library: &str, of: &str) -> Vec<Row> {
 
 impl Row {
     /// Both sides on one input, so many times.
-    #[cfg(any(has_record, has_bench))]
+    #[cfg(any(has_record, has_bench, has_bench_fleet))]
     pub fn new<T: Clone + 'static, A: 'static, B: 'static>(
         of: &'static str,
         times: usize,

@@ -9,7 +9,9 @@ mod bytes;
 mod capture;
 mod dips;
 mod events;
+mod fleet;
 pub(crate) mod frame;
+pub mod given;
 mod listen;
 pub mod load;
 mod misc;
@@ -62,6 +64,14 @@ pub const FORMATS: &[Format] = &[
         directed: events::directed,
         random: events::random,
         runs: Some(|| vec![("replay_events", events::sample())]),
+    },
+    Format {
+        name: "fleet",
+        stream: false,
+        rows: 0,
+        directed: fleet::directed,
+        random: fleet::random,
+        runs: Some(|| vec![("replay_fleet", fleet::sample())]),
     },
     Format {
         name: "bursts",

@@ -8,6 +8,8 @@ mod bytes;
 mod capture;
 mod dips;
 mod events;
+mod fleet;
+pub mod given;
 pub mod listen;
 mod misc;
 pub mod record;
@@ -26,6 +28,7 @@ fn replay(name: &str) -> Option<Replay> {
     Some(match name {
         "bits" => bits::case,
         "events" => events::stream,
+        "fleet" => fleet::case,
         "bursts" => bursts::case,
         "dips" => dips::case,
         "burstbits" => burstbits::case,

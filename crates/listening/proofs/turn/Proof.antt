@@ -2,7 +2,7 @@
 use mathlib.Core.Path.{_≡_, ap}
 use native.Mathlib.Omega.{arith}
 use lib.ListN.{length}
-use Rattle.listening.specs.Input.{brought}
+use Rattle.reading.specs.Input.{brought}
 use borrow.Author.Needs.{needs}
 use Rattle.listening.proofs.turn.Statement.{statement}
 use Rattle.listening.proofs.turn.Tie as tie

@@ -1,0 +1,83 @@
+-- Laws of a list of event records: the record at each place, the tests of a list that goes on, and of one in another order. Assumes nothing.
+use mathlib.Core.Path.{_≡_, refl, sym, ap, _∙_}
+use mathlib.Core.Bool.{Bool, true, false, _&&_}
+use mathlib.Core.List.{List, [], _∷_, List·Permᴰ, List·Permᴰ·nil, List·Permᴰ·cons, List·Permᴰ·swap, List·Permᴰ·trans}
+use Prim.Native.Nat.{ℕ, zero, suc, _+_, _-_, _*_, _^_, _≤_, _<_}
+use native.Mathlib.Omega.{arith}
+use native.Mathlib.Numerals.{add-one}
+use lib.ListN.{length, getD, take, drop}
+use lib.Seq.{drop-cons, drop-drop, drop-length}
+use Rattle.limits.specs.Limits.{recordSize, mostRecordBytes}
+use Rattle.limits.proofs.Samples.{and-assoc, and-true}
+use Rattle.event_list.specs.Events.{recordsOf, wholes, eventsOf, recordOk, allOk, listOk, Reordered}
+
+-- ---- the record at a place
+
+pub length-records : (n : ℕ) (l : List ℕ) → length (recordsOf n l) ≡ n
+unfolding recordsOf
+length-records zero l = refl
+length-records (suc n) l = ap suc (length-records n (drop recordSize l))
+
+pub record-at : (n i : ℕ) (l : List ℕ) → i < n → getD (recordsOf n l) i [] ≡ take recordSize (drop (recordSize * i) l)
+unfolding recordsOf
+record-at zero i l h = absurd (omega arith)
+record-at (suc n) zero l h = refl
+record-at (suc n) (suc i) l h =
+    record-at n i (drop recordSize l) (omega arith)
+    ∙ ap (take recordSize) (drop-drop (recordSize * i) recordSize l ∙ ap (λ (k : ℕ). drop k l) (place i))
+  where
+    place : (i : ℕ) → 120 + 120 * i ≡ 120 * suc i
+    place i = omega arith
+
+-- a whole record ends inside the list
+pub inside : (l : List ℕ) (i : ℕ) → i < wholes l → 120 * i + 120 ≤ length l
+inside l i h = omega arith
+
+-- the part that the code takes for it
+pub event-part : (l : List ℕ) (i : ℕ) → i < wholes l → take (120 * i + 120 - 120 * i) (drop (120 * i) l) ≡ getD (eventsOf l) i []
+event-part l i h = ap (λ (k : ℕ). take k (drop (120 * i) l)) (size i) ∙ sym (record-at (wholes l) i l h)
+  where
+    size : (i : ℕ) → 120 * i + 120 - 120 * i ≡ 120
+    size i = omega arith
+
+-- a list that is not refused with 3 has at most a million
+pub events-few : (l : List ℕ) → length l ≤ mostRecordBytes → length (eventsOf l) ≤ 2 ^ 20
+events-few l h = omega (arith, length-records (wholes l) l)
+
+-- ---- the test
+
+-- one more record looked at
+pub ok-turn : (ok : Bool) (es : List (List ℕ)) (i : ℕ) (r w : Bool) → i < length es → r ≡ recordOk (getD es i [])
+    → ok && allOk (drop i es) ≡ w → (ok && r) && allOk (drop (i + 1) es) ≡ w
+unfolding allOk
+ok-turn ok es i r w h e p =
+    ap (λ (t : Bool). (ok && t) && allOk (drop (i + 1) es)) e
+    ∙ and-assoc ok (recordOk (getD es i [])) (allOk (drop (i + 1) es))
+    ∙ ap (λ (j : ℕ). ok && (recordOk (getD es i []) && allOk (drop j es))) (add-one i)
+    ∙ ap (λ (d : List (List ℕ)). ok && allOk d) (sym (drop-cons es i [] h))
+    ∙ p
+
+pub ok-end : (ok : Bool) (es : List (List ℕ)) (i : ℕ) (w : Bool) → i ≡ length es → ok && allOk (drop i es) ≡ w → ok ≡ w
+unfolding allOk
+ok-end ok es i w e p =
+    sym (and-true ok)
+    ∙ ap (λ (d : List (List ℕ)). ok && allOk d) (sym (drop-length es) ∙ ap (λ (j : ℕ). drop j es) (sym e))
+    ∙ p
+
+-- ---- another order
+
+pub ok-perm : {a b : List (List ℕ)} → List·Permᴰ a b → allOk a ≡ allOk b
+unfolding allOk
+ok-perm List·Permᴰ·nil = refl
+ok-perm (List·Permᴰ·cons e p) = cc (ap recordOk e, ok-perm p)
+ok-perm (List·Permᴰ·swap {a} {b} {a′} {b′} {l} e g) = swap (recordOk a) (recordOk b) (allOk l) ∙ cc (ap recordOk e, ap recordOk g)
+  where
+    swap : (x y z : Bool) → x && (y && z) ≡ y && (x && z)
+    swap true true z = refl
+    swap true false z = refl
+    swap false true z = refl
+    swap false false z = refl
+ok-perm (List·Permᴰ·trans p q) = ok-perm p ∙ ok-perm q
+
+pub ok-reordered : {l k : List ℕ} → Reordered l k → listOk l ≡ listOk k
+ok-reordered r = cc (r .size, ok-perm (r .records))

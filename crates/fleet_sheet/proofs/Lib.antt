@@ -1,0 +1,13 @@
+pub mod NumberLaws
+pub mod TableLaws
+pub mod PlaceLaws
+pub mod TakenLaws
+pub mod RowLaws
+pub mod DeviceLaws
+pub mod FlatLaws
+pub mod StandLaws
+pub mod SheetLaws
+pub mod ReportLaws
+pub mod Claims
+pub mod Contracts
+pub mod Example

@@ -1,0 +1,24 @@
+-- `fleet_sheet::rows::lower` meets its contract. Assumes nothing.
+use mathlib.Core.Path.{_∙_}
+use mir.Syntax.{w64}
+use mir.ValLaws.{toZ-ofZ}
+use Rattle.fleet_sheet.proofs.NumberLaws.{low-second, low-first}
+use Rattle.fleet_sheet.proofs.rows.lower.Statement.{statement}
+use Rattle.fleet_sheet.proofs.rows.lower.Tie as tie
+
+returns : tie.Need-returns
+returns c =
+    let a = c .before .args in
+    let ea = toZ-ofZ w64 (a .a) (c .before .fits .a) in
+    let eb = toZ-ofZ w64 (a .b) (c .before .fits .b) in
+    eb ∙ low-second (a .a) (a .b) (cc (ea, eb, c .if1 .taken))
+
+returns-2 : tie.Need-returns-2
+returns-2 c =
+    let a = c .before .args in
+    let ea = toZ-ofZ w64 (a .a) (c .before .fits .a) in
+    let eb = toZ-ofZ w64 (a .b) (c .before .fits .b) in
+    ea ∙ low-first (a .a) (a .b) (cc (ea, eb, c .if1 .left))
+
+pub lower-spec : {M : Type 1} → statement M
+lower-spec = tie.close (tie.spec returns returns-2)

@@ -1,2 +1,0 @@
--- The crate's specification. Assumes nothing.
-pub mod Input

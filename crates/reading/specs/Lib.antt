@@ -1,0 +1,2 @@
+-- The definitions that the contracts of `reading` cite.
+pub mod Input
