@@ -10,6 +10,7 @@ mod dips;
 mod events;
 pub(crate) mod frame;
 pub mod given;
+mod grip;
 mod listen;
 pub mod load;
 mod misc;
@@ -110,6 +111,14 @@ pub const FORMATS: &[Format] = &[
         directed: tracker::directed,
         random: tracker::random,
         runs: Some(|| vec![("replay_tracker", tracker::sample())]),
+    },
+    Format {
+        name: "grip",
+        stream: false,
+        rows: grip::ROWS,
+        directed: grip::directed,
+        random: grip::random,
+        runs: Some(|| vec![("replay_grip", grip::sample())]),
     },
     Format {
         name: "listen",

@@ -8,6 +8,7 @@ mod capture;
 mod dips;
 mod events;
 pub mod given;
+mod grip;
 pub mod listen;
 mod misc;
 pub mod record;
@@ -32,6 +33,7 @@ fn replay(name: &str) -> Option<Replay> {
         "burst" => burst::case,
         "capture" => capture::case,
         "tracker" => tracker::stream,
+        "grip" => grip::case,
         "misc" => misc::case,
         "writer" => writer::case,
         _ => return None,
