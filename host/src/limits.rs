@@ -103,6 +103,11 @@ pub fn time(s: f64) -> Checked {
     number((-1e9..=1e9).contains(&s))
 }
 
+/// Request 11: a time or a distance in seconds.
+pub fn seconds(holds: bool) -> Checked {
+    check(holds, 14)
+}
+
 pub fn burst_index(i: u64) -> Checked {
     number(i <= LONGEST_STREAM as u64)
 }

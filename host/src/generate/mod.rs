@@ -12,6 +12,7 @@ mod events;
 mod fleet;
 pub(crate) mod frame;
 pub mod given;
+mod grip;
 mod listen;
 pub mod load;
 mod misc;
@@ -128,6 +129,14 @@ pub const FORMATS: &[Format] = &[
         directed: tracker::directed,
         random: tracker::random,
         runs: Some(|| vec![("replay_tracker", tracker::sample())]),
+    },
+    Format {
+        name: "grip",
+        stream: false,
+        rows: grip::ROWS,
+        directed: grip::directed,
+        random: grip::random,
+        runs: Some(|| vec![("replay_grip", grip::sample())]),
     },
     Format {
         name: "listen",

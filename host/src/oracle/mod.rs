@@ -10,6 +10,7 @@ mod dips;
 mod events;
 mod fleet;
 pub mod given;
+mod grip;
 pub mod listen;
 mod misc;
 pub mod record;
@@ -36,6 +37,7 @@ fn replay(name: &str) -> Option<Replay> {
         "burst" => burst::case,
         "capture" => capture::case,
         "tracker" => tracker::stream,
+        "grip" => grip::case,
         "misc" => misc::case,
         "writer" => writer::case,
         _ => return None,
