@@ -6,6 +6,7 @@ mod burst;
 mod burstbits;
 mod bursts;
 mod capture;
+mod charges;
 mod dips;
 mod events;
 pub(crate) mod frame;
@@ -102,6 +103,14 @@ pub const FORMATS: &[Format] = &[
         directed: capture::directed,
         random: capture::random,
         runs: None,
+    },
+    Format {
+        name: "charges",
+        stream: false,
+        rows: 0,
+        directed: charges::directed,
+        random: charges::random,
+        runs: Some(|| vec![("replay_charges", charges::sample())]),
     },
     Format {
         name: "tracker",

@@ -5,6 +5,7 @@ mod burst;
 mod burstbits;
 mod bursts;
 mod capture;
+mod charges;
 mod dips;
 mod events;
 pub mod given;
@@ -31,6 +32,7 @@ fn replay(name: &str) -> Option<Replay> {
         "burstbits" => burstbits::case,
         "burst" => burst::case,
         "capture" => capture::case,
+        "charges" => charges::case,
         "tracker" => tracker::stream,
         "misc" => misc::case,
         "writer" => writer::case,
