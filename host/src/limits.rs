@@ -116,6 +116,16 @@ pub fn rank(rank: u8) -> Checked {
     number(rank <= 2)
 }
 
+/// Request 13: a plan and the month's start.
+pub fn plan(holds: bool) -> Checked {
+    check(holds, 15)
+}
+
+/// Request 13: a message's time.
+pub fn in_month(holds: bool) -> Checked {
+    check(holds, 16)
+}
+
 /// Bytes of bits as bits.
 pub fn bits(bytes: &[u8]) -> Result<Vec<bool>, u8> {
     number(bytes.iter().all(|&b| b <= 1))?;

@@ -7,6 +7,7 @@ mod burstbits;
 mod bursts;
 mod bytes;
 mod capture;
+mod charges;
 mod dips;
 mod events;
 mod fleet;
@@ -121,6 +122,14 @@ pub const FORMATS: &[Format] = &[
         directed: capture::directed,
         random: capture::random,
         runs: None,
+    },
+    Format {
+        name: "charges",
+        stream: false,
+        rows: 0,
+        directed: charges::directed,
+        random: charges::random,
+        runs: Some(|| vec![("replay_charges", charges::sample())]),
     },
     Format {
         name: "tracker",

@@ -6,6 +6,7 @@ mod burstbits;
 mod bursts;
 mod bytes;
 mod capture;
+mod charges;
 mod dips;
 mod events;
 mod fleet;
@@ -36,6 +37,7 @@ fn replay(name: &str) -> Option<Replay> {
         "bytes" => bytes::case,
         "burst" => burst::case,
         "capture" => capture::case,
+        "charges" => charges::case,
         "tracker" => tracker::stream,
         "grip" => grip::case,
         "misc" => misc::case,
