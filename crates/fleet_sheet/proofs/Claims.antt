@@ -1,5 +1,5 @@
 -- The proof of request 09's claims. Assumes nothing.
-use mathlib.Core.Path.{_≡_, refl, sym, ap, ap₂, _∙_, subst}
+use mathlib.Core.Path.{_≡_, refl, sym, ap, ap₂, _∙_}
 use mathlib.Core.Bool.{Bool, true, false, cond, _||_, true≢false}
 use mathlib.Core.List.{List, [], _∷_, _++_, List·Permᴰ, List·Permᴰ·nil, List·Permᴰ·cons, List·Permᴰ·swap, List·Permᴰ·trans}
 use Prim.Native.Nat.{ℕ, zero, suc, _+_, _*_, _≤_, _<_}
@@ -13,14 +13,14 @@ use lib.Signed.{mag}
 use Rattle.limits.specs.Limits.{short, long, badRecords, manyDevices, mostRecordBytes}
 use Rattle.limits.specs.Answer.{Answer, accepted, answer, number, leaves}
 use Rattle.record.specs.Readers.{deviceOf, ppmOf}
-use Rattle.event_list.specs.Events.{isMessage, listOk, Reordered}
+use Rattle.event_list.specs.Events.{isMessage, listOk}
 use Rattle.event_list.specs.Sums.{those, sumOf}
 use Rattle.event_list.proofs.EventLaws.{ok-reordered}
 use Rattle.event_list.proofs.SumLaws.{sum-perm, those-perm}
 use Rattle.fleet_sheet.specs.declared.Sheet.{Sheet}
 use Rattle.fleet_sheet.specs.Fleet.{each, hasRanks, halvesOf, minZ, maxZ, overFrom, over, isOf, rowFrom, rowOf, devicesOf}
 use Rattle.fleet_sheet.specs.Report.{said, mostDevices, sheetPlaces, nine, sheetOf, sheet, fleetMessages, sheetCause, fleetCause}
-use Rattle.fleet_sheet.specs.Claims.{Call, deviceAt, RowFor, MessageOf, Devices, EveryDevice, column, Sums, EverySum, AnyOrder}
+use Rattle.fleet_sheet.specs.Claims.{Call, deviceAt, MessageOf, Devices, EveryDevice, column, EverySum, AnyOrder}
 use Rattle.fleet_sheet.proofs.NumberLaws.{min-assoc, max-assoc, min-comm, max-comm}
 use Rattle.fleet_sheet.proofs.DeviceLaws.{has, has-insert, has-at, devices-perm, rising-devices, none-of, delta, delta-once, sum-insert}
 

@@ -5,7 +5,7 @@ use Prim.Native.Nat.{ℕ, zero, suc, _+_, _*_, _≤_, _<_}
 use native.Mathlib.Omega.{arith}
 use native.Mathlib.Numerals.{add-one}
 use lib.ListN.{length, take, getD, length-append, length-map, List·getD-map}
-use lib.Seq.{sets, take-suc, take-length, length-take-le, getD-take, length-sets}
+use lib.Seq.{sets, take-suc, take-length, length-take-le, getD-take}
 use lib.IntN.{ℤ}
 use Rattle.event_list.specs.Events.{isMessage, messagesOf}
 use Rattle.event_list.specs.Sums.{those}

@@ -1,7 +1,6 @@
 -- REQUEST 09'S CLAIMS, over every call of `fleet_report`: which devices have a row, 'the sums over all devices equal those over all message records', and that the order of the records doesn't matter.
 -- `Call` is what the contract of `fleet_report` ensures of a call; proofs/Contracts.antt takes it from the contract itself. Assumes nothing.
 use mathlib.Core.Path.{_≡_}
-use mathlib.Core.Bool.{true}
 use mathlib.Core.List.{List, []}
 use Prim.Native.Nat.{ℕ, zero, suc, _+_, _*_, _<_}
 use lib.ListN.{length, getD, drop}
@@ -12,7 +11,7 @@ use Rattle.record.specs.Readers.{deviceOf}
 use Rattle.event_list.specs.Events.{Reordered}
 use Rattle.event_list.specs.Sums.{those, sumOf}
 use Rattle.fleet_sheet.specs.declared.Sheet.{Sheet}
-use Rattle.fleet_sheet.specs.Fleet.{each, hasRanks, halvesOf, isOf, devicesOf}
+use Rattle.fleet_sheet.specs.Fleet.{each, hasRanks, halvesOf, devicesOf}
 use Rattle.fleet_sheet.specs.Report.{said, sheet, fleetMessages, fleetCause}
 
 -- a call: the records, the result list before and after it, and its answer

@@ -1,7 +1,7 @@
 -- The fleet report by counting and adding up over a device's messages (02, request 09). Assumes nothing.
 use Prim.Native.Nat.{ℕ, _+_, _/_, _%_, min, max}
 use mathlib.Core.Bool.{Bool, cond}
-use mathlib.Core.List.{List, [], _∷_, map}
+use mathlib.Core.List.{List, [], _∷_}
 use lib.Dec.{ltb, eqb}
 use lib.IntN.{ℤ, pos, negsuc}
 use lib.Ieee.{Float, binary64, mul, toSigned}
