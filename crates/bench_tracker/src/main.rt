@@ -2,8 +2,8 @@
 // are made for each of them, or `samples` and `cfo` alone.
 ghost use Prim.Native.Nat.{_≤_, _<_};
 use frequency::FrequencyTracker;
+use frequency_measure::Frequency;
 use libc::STDIN_FILENO;
-use measure::Frequency;
 
 const RATE: u32 = 1000;
 

@@ -21,9 +21,9 @@ use Rattle.bursts.specs.Bursts.{Cluster, cluster, none, loud, clusters, longEno
 use Rattle.bursts.proofs.Runs.{one, joined, parted}
 use Rattle.limits.specs.Answer.{answer}
 use Rattle.cfo.specs.Cfo.{signed, mantissa, cfFs, stepOf, stepCause, stepHz, roundHz}
-use Rattle.lists.specs.Lists.{lastOr}
-use Rattle.lists.specs.Marks.{retained}
-use Rattle.measure.specs.Measured.{median, frameOf, frameFrequency, direct, middle, ofRank, frame1}
+use Rattle.frequency_lists.specs.Lists.{lastOr}
+use Rattle.frequency_lists.specs.Marks.{retained}
+use Rattle.frequency_measure.specs.Measured.{median, frameOf, frameFrequency, direct, middle, ofRank, frame1}
 use Rattle.edges.specs.Edges.{options, floor, spans, heard, high, low, readings, measured, onAir, Edges}
 
 -- ---- P5

@@ -22,10 +22,10 @@ use Rattle.bursts.specs.declared.Burst.{Burst}
 use Rattle.bursts.specs.declared.BurstOptions.{BurstOptions}
 use Rattle.limits.specs.Answer.{accepted}
 use Rattle.cfo.specs.Cfo.{signed, stepHz}
-use Rattle.lists.specs.Lists.{Reading}
-use Rattle.measure.specs.Measured.{frame1}
+use Rattle.frequency_lists.specs.Lists.{Reading}
+use Rattle.frequency_measure.specs.Measured.{frame1}
 use Rattle.record.specs.declared.FrameSpan.{FrameSpan}
-use Rattle.measure.specs.declared.Frequency.the-variants as frequency
+use Rattle.frequency_measure.specs.declared.Frequency.the-variants as frequency
 
 -- ---- P5 and P6: what is heard over a floor of -100 dBm
 

@@ -13,12 +13,12 @@ use Rattle.limits.specs.Answer.{accepted}
 use Rattle.limits.specs.Answer as lent
 use Rattle.limits.proofs.Samples.{and-left, and-right}
 use Rattle.limits.proofs.AnswerLaws.{refused-answer, done-answer}
-use Rattle.lists.specs.Lists.{Reading, noNan, lastOr}
+use Rattle.frequency_lists.specs.Lists.{Reading, noNan, lastOr}
 use Rattle.record.specs.declared.FrameSpan.{FrameSpan}
-use Rattle.measure.specs.declared.Frequency.{Frequency}
-use Rattle.measure.specs.declared.Measured.{Measured}
-use Rattle.measure.specs.Gathered.{Free}
-use Rattle.measure.specs.Measured.{frameFrequency, frame1, ofRank, direct, middle}
+use Rattle.frequency_measure.specs.declared.Frequency.{Frequency}
+use Rattle.frequency_measure.specs.declared.Measured.{Measured}
+use Rattle.frequency_measure.specs.Gathered.{Free}
+use Rattle.frequency_measure.specs.Measured.{frameFrequency, frame1, ofRank, direct, middle}
 use Rattle.record.specs.Spans.{spanOk, spansOk}
 use Rattle.frequency.specs.declared.FrequencyTracker.{FrequencyTracker}
 use Rattle.frequency.specs.declared.Freq.the-variants as freq

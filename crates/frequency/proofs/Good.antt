@@ -14,17 +14,17 @@ use Rattle.limits.specs.Samples.{rateOk, allDbm}
 use Rattle.limits.proofs.Samples.{and-left, and-right}
 use Rattle.cfo.specs.Cfo.{readingHz}
 use Rattle.cfo.proofs.Numbers.{reading-number}
-use Rattle.signal.specs.Seconds.{kept, settling}
-use Rattle.signal.specs.Heard.{heard}
-use Rattle.signal.proofs.Hearing.{heard-n}
-use Rattle.signal.specs.Order.{floorOk}
-use Rattle.signal.proofs.Kept.{heard-last, heard-from}
-use Rattle.signal.proofs.Ranges.{heard-floor}
-use Rattle.lists.specs.Lists.{Reading, Tuning, cfoEvery, every, upTo, noNan, lastOr, readingsFrom}
-use Rattle.lists.specs.Marks.{retained}
-use Rattle.lists.proofs.Gather.{map-retained, every-retained}
-use Rattle.retain.specs.Retain.{stays}
-use Rattle.tuning.specs.Ranges.{stepOk}
+use Rattle.frequency_signal.specs.Seconds.{kept, settling}
+use Rattle.frequency_signal.specs.Heard.{heard}
+use Rattle.frequency_signal.proofs.Hearing.{heard-n}
+use Rattle.frequency_signal.specs.Order.{floorOk}
+use Rattle.frequency_signal.proofs.Kept.{heard-last, heard-from}
+use Rattle.frequency_signal.proofs.Ranges.{heard-floor}
+use Rattle.frequency_lists.specs.Lists.{Reading, Tuning, cfoEvery, every, upTo, noNan, lastOr, readingsFrom}
+use Rattle.frequency_lists.specs.Marks.{retained}
+use Rattle.frequency_lists.proofs.Gather.{map-retained, every-retained}
+use Rattle.frequency_retain.specs.Retain.{stays}
+use Rattle.frequency_tuning.specs.Ranges.{stepOk}
 use Rattle.frequency.specs.Order.{ahead}
 use Rattle.frequency.specs.Tracker.{Tracker, freqOf, due, tuned, samples, cfo, afterTuning}
 use Rattle.frequency.proofs.Held.{map-append}

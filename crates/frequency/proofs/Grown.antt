@@ -11,17 +11,17 @@ use lib.Seq.{take-at}
 use lib.Ieee.{Float}
 use Rattle.limits.specs.Limits.{longestStream}
 use Rattle.limits.specs.Samples.{rateOk}
-use Rattle.signal.specs.declared.Sample.{Sample}
-use Rattle.signal.specs.declared.Sample.the-variants.{Never, At}
-use Rattle.signal.specs.declared.Signal.{Signal}
-use Rattle.signal.specs.Order.{Index, indexOk, signalOk}
-use Rattle.signal.specs.Heard.{heard}
-use Rattle.signal.specs.Seconds.{kept}
-use Rattle.retain.specs.Retain.{stays}
-use Rattle.lists.specs.Lists.{Reading, Tuning, every, upTo, noNan, lastOr, readingsFrom}
-use Rattle.lists.specs.Marks.{retained}
-use Rattle.measure.specs.Measured.{readingsOf}
-use Rattle.tuning.specs.Ranges.{stepOk}
+use Rattle.frequency_signal.specs.declared.Sample.{Sample}
+use Rattle.frequency_signal.specs.declared.Sample.the-variants.{Never, At}
+use Rattle.frequency_signal.specs.declared.Signal.{Signal}
+use Rattle.frequency_signal.specs.Order.{Index, indexOk, signalOk}
+use Rattle.frequency_signal.specs.Heard.{heard}
+use Rattle.frequency_signal.specs.Seconds.{kept}
+use Rattle.frequency_retain.specs.Retain.{stays}
+use Rattle.frequency_lists.specs.Lists.{Reading, Tuning, every, upTo, noNan, lastOr, readingsFrom}
+use Rattle.frequency_lists.specs.Marks.{retained}
+use Rattle.frequency_measure.specs.Measured.{readingsOf}
+use Rattle.frequency_tuning.specs.Ranges.{stepOk}
 use Rattle.frequency.specs.declared.FrequencyTracker.{FrequencyTracker}
 use Rattle.frequency.specs.Calls.{fresh}
 use Rattle.frequency.specs.Grown.{Grown, new, tuned, samples, cfo, next}

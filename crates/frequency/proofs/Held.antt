@@ -8,12 +8,12 @@ use native.Mathlib.Numerals.{add-one}
 use lib.ListN.{length, take, drop, length-map, length-append, take-append-drop}
 use lib.Seq.{length-take-le, set-split, append-snoc}
 use lib.Ieee.{Float}
-use Rattle.lists.specs.Lists.{Reading, Tuning}
-use Rattle.lists.specs.Marks.{marked, retained, gathered, put}
-use Rattle.lists.proofs.Gather.{length-retained, map-retained, retained-take}
-use Rattle.retain.specs.Retain.{Compacted, CompactedTunings}
-use Rattle.measure.specs.Measured.{readingsOf}
-use Rattle.measure.proofs.Frames.{ats-of, los-of, hzs-of}
+use Rattle.frequency_lists.specs.Lists.{Reading, Tuning}
+use Rattle.frequency_lists.specs.Marks.{marked, retained, gathered, put}
+use Rattle.frequency_lists.proofs.Gather.{length-retained, map-retained, retained-take}
+use Rattle.frequency_retain.specs.Retain.{Compacted, CompactedTunings}
+use Rattle.frequency_measure.specs.Measured.{readingsOf}
+use Rattle.frequency_measure.proofs.Frames.{ats-of, los-of, hzs-of}
 use Rattle.frequency.specs.declared.FrequencyTracker.{FrequencyTracker}
 use Rattle.frequency.specs.Lent.{Lists, tuningsOf, over}
 use Rattle.frequency.proofs.Ordered.{Counts}

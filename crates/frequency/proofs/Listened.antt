@@ -13,11 +13,11 @@ use lib.Ieee.{Float}
 use Rattle.limits.specs.Limits.{mostReadings, longestStream}
 use Rattle.limits.specs.Samples.{rateOk}
 use Rattle.cfo.specs.Cfo.{readingHz}
-use Rattle.signal.specs.Seconds.{Rate, settling}
-use Rattle.lists.specs.Lists.{Reading, Tuning, cfoEvery, lastOr, readingsFrom, fitsReadings}
-use Rattle.lists.specs.Columns.{Appended}
-use Rattle.lists.proofs.Lasts.{last-none, last-at}
-use Rattle.lists.proofs.Every.{up-to-at}
+use Rattle.frequency_signal.specs.Seconds.{Rate, settling}
+use Rattle.frequency_lists.specs.Lists.{Reading, Tuning, cfoEvery, lastOr, readingsFrom, fitsReadings}
+use Rattle.frequency_lists.specs.Columns.{Appended}
+use Rattle.frequency_lists.proofs.Lasts.{last-none, last-at}
+use Rattle.frequency_lists.proofs.Every.{up-to-at}
 use Rattle.frequency.specs.declared.FrequencyTracker.{FrequencyTracker}
 use Rattle.frequency.specs.Lent.{Lists, lists, tracker, packed, over, stored}
 use Rattle.frequency.specs.Order.{inOrder, causeCfo}

@@ -11,14 +11,14 @@ use lib.Ieee.{Float}
 use Rattle.limits.specs.Limits.{longestStream}
 use Rattle.limits.specs.Samples.{rateOk}
 use Rattle.limits.proofs.Samples.{and-left, and-right, rate-low, rate-high}
-use Rattle.signal.specs.declared.Sample.{Sample}
-use Rattle.signal.specs.declared.Sample.the-variants.{Never, At}
-use Rattle.signal.specs.declared.Signal.{Signal}
-use Rattle.signal.specs.Order.{Index, indexOk, signalOk}
-use Rattle.signal.specs.Seconds.{Rate}
-use Rattle.lists.specs.Lists.{upTo, fitsReadings, fitsTunings}
-use Rattle.lists.proofs.Every.{up-to-at}
-use Rattle.retain.specs.Retain.{Held, HeldTunings}
+use Rattle.frequency_signal.specs.declared.Sample.{Sample}
+use Rattle.frequency_signal.specs.declared.Sample.the-variants.{Never, At}
+use Rattle.frequency_signal.specs.declared.Signal.{Signal}
+use Rattle.frequency_signal.specs.Order.{Index, indexOk, signalOk}
+use Rattle.frequency_signal.specs.Seconds.{Rate}
+use Rattle.frequency_lists.specs.Lists.{upTo, fitsReadings, fitsTunings}
+use Rattle.frequency_lists.proofs.Every.{up-to-at}
+use Rattle.frequency_retain.specs.Retain.{Held, HeldTunings}
 use Rattle.frequency.specs.declared.FrequencyTracker.{FrequencyTracker}
 use Rattle.frequency.specs.Calls.{Beside}
 use Rattle.frequency.specs.Lent.{Lists}

@@ -9,11 +9,11 @@ use lib.ListN.{length, take, length-map}
 use lib.Ieee.{Float}
 use Rattle.limits.specs.Limits.{bufferS, longestStream}
 use Rattle.limits.specs.Samples.{rateOk, allDbm}
-use Rattle.signal.specs.declared.Signal.{Signal}
-use Rattle.signal.specs.Seconds.{Rate, kept}
-use Rattle.signal.specs.Heard.{heard}
-use Rattle.retain.specs.Retain.{stays, Compacted, CompactedTunings}
-use Rattle.retain.proofs.Retaining.{length-stays}
+use Rattle.frequency_signal.specs.declared.Signal.{Signal}
+use Rattle.frequency_signal.specs.Seconds.{Rate, kept}
+use Rattle.frequency_signal.specs.Heard.{heard}
+use Rattle.frequency_retain.specs.Retain.{stays, Compacted, CompactedTunings}
+use Rattle.frequency_retain.proofs.Retaining.{length-stays}
 use Rattle.frequency.specs.declared.FrequencyTracker.{FrequencyTracker}
 use Rattle.frequency.specs.Lent.{Lists, lists, tracker, packed, stored}
 use Rattle.frequency.specs.Order.{inOrder, causeSamples}

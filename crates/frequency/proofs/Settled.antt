@@ -13,17 +13,17 @@ use Rattle.limits.specs.Limits.{longestStream}
 use Rattle.limits.specs.Samples.{rateOk}
 use Rattle.limits.proofs.Samples.{and-right}
 use Rattle.cfo.specs.Cfo.{roundHz}
-use Rattle.signal.specs.Seconds.{Rate, quiet, late}
-use Rattle.signal.specs.declared.Sample.{Sample}
-use Rattle.signal.specs.declared.Sample.the-variants.{Never, At}
-use Rattle.signal.specs.Order.{Index}
-use Rattle.lists.specs.Lists.{Reading, noNan, lastOr}
-use Rattle.lists.specs.Marks.{marked, retained, gathered}
-use Rattle.lists.proofs.Gather.{marked-le, map-retained, retained-take, length-retained, every-retained, length-gathered, gathered-front}
-use Rattle.measure.specs.declared.Frequency.the-variants.{Nothing, Hz}
-use Rattle.measure.specs.Measured.{fewest, median}
-use Rattle.tuning.specs.declared.Step.the-variants.{Stay, Base, Settled}
-use Rattle.tuning.specs.Steps.{waits, isAsked, pickStep, settledBy, target, asked, retunes, withRetuned}
+use Rattle.frequency_signal.specs.Seconds.{Rate, quiet, late}
+use Rattle.frequency_signal.specs.declared.Sample.{Sample}
+use Rattle.frequency_signal.specs.declared.Sample.the-variants.{Never, At}
+use Rattle.frequency_signal.specs.Order.{Index}
+use Rattle.frequency_lists.specs.Lists.{Reading, noNan, lastOr}
+use Rattle.frequency_lists.specs.Marks.{marked, retained, gathered}
+use Rattle.frequency_lists.proofs.Gather.{marked-le, map-retained, retained-take, length-retained, every-retained, length-gathered, gathered-front}
+use Rattle.frequency_measure.specs.declared.Frequency.the-variants.{Nothing, Hz}
+use Rattle.frequency_measure.specs.Measured.{fewest, median}
+use Rattle.frequency_tuning.specs.declared.Step.the-variants.{Stay, Base, Settled}
+use Rattle.frequency_tuning.specs.Steps.{waits, isAsked, pickStep, settledBy, target, asked, retunes, withRetuned}
 use Rattle.frequency.specs.declared.FrequencyTracker.{FrequencyTracker}
 use Rattle.frequency.specs.Lent.{Lists, tracker, packed}
 use Rattle.frequency.specs.Order.{inOrder, floatsOk, numbersOk, causeNext}

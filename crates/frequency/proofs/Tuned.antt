@@ -9,10 +9,10 @@ use lib.Dec.{eqb, eqb·suc-zero}
 use lib.ListN.{length, length-append}
 use lib.Ieee.{Float}
 use Rattle.limits.specs.Samples.{rateOk}
-use Rattle.lists.specs.Lists.{Reading, Tuning, lastOr, fitsTunings}
-use Rattle.lists.specs.Columns.{PutTuning}
-use Rattle.measure.specs.declared.Frequency.{Frequency}
-use Rattle.tuning.specs.Steps.{answered}
+use Rattle.frequency_lists.specs.Lists.{Reading, Tuning, lastOr, fitsTunings}
+use Rattle.frequency_lists.specs.Columns.{PutTuning}
+use Rattle.frequency_measure.specs.declared.Frequency.{Frequency}
+use Rattle.frequency_tuning.specs.Steps.{answered}
 use Rattle.frequency.specs.declared.FrequencyTracker.{FrequencyTracker}
 use Rattle.frequency.specs.Calls.{Beside}
 use Rattle.frequency.specs.Lent.{Lists, lists, tracker, packed, stored}

@@ -6,15 +6,15 @@ use mathlib.Core.List.{List}
 use lib.ListN.{length, take}
 use lib.Ieee.{Float}
 use Rattle.limits.specs.Answer.{Answer, refused, accepted, answer, Free}
-use Rattle.signal.specs.declared.Floor.the-variants.{Unknown}
-use Rattle.signal.specs.declared.Sample.the-variants.{Never}
-use Rattle.lists.specs.Lists.{Reading, lastOr}
-use Rattle.measure.specs.declared.Frequency.{Frequency}
-use Rattle.measure.specs.declared.Frequency.the-variants.{Nothing, Hz}
-use Rattle.measure.specs.declared.Measured.{Measured}
-use Rattle.measure.specs.declared.Measured.the-variants.{Unmeasured, Found}
+use Rattle.frequency_signal.specs.declared.Floor.the-variants.{Unknown}
+use Rattle.frequency_signal.specs.declared.Sample.the-variants.{Never}
+use Rattle.frequency_lists.specs.Lists.{Reading, lastOr}
+use Rattle.frequency_measure.specs.declared.Frequency.{Frequency}
+use Rattle.frequency_measure.specs.declared.Frequency.the-variants.{Nothing, Hz}
+use Rattle.frequency_measure.specs.declared.Measured.{Measured}
+use Rattle.frequency_measure.specs.declared.Measured.the-variants.{Unmeasured, Found}
 use Rattle.record.specs.declared.FrameSpan.{FrameSpan}
-use Rattle.measure.specs.Measured.{readingsOf, frameFrequency, frame1}
+use Rattle.frequency_measure.specs.Measured.{readingsOf, frameFrequency, frame1}
 use Rattle.record.specs.Spans.{spanOk, spansOk}
 use Rattle.frequency.specs.declared.FrequencyTracker.{FrequencyTracker}
 use Rattle.frequency.specs.declared.Freq.{Freq}

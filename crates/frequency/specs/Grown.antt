@@ -3,7 +3,7 @@ use Prim.Native.Nat.{ℕ, _<_, _^_}
 use mathlib.Core.Path.{_≡_}
 use mathlib.Core.List.{List}
 use lib.Ieee.{Float}
-use Rattle.measure.specs.declared.Frequency.{Frequency}
+use Rattle.frequency_measure.specs.declared.Frequency.{Frequency}
 use Rattle.frequency.specs.declared.FrequencyTracker.{FrequencyTracker}
 use Rattle.frequency.specs.Calls.{SamplesEnd, CfoEnd, TunedEnd, NextEnd, fresh}
 use Rattle.frequency.specs.Lent.{Lists, lists}

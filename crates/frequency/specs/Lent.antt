@@ -3,8 +3,8 @@ use Prim.Native.Nat.{ℕ}
 use mathlib.Core.List.{List, [], _∷_, _++_, map}
 use lib.ListN.{length, take, drop}
 use lib.Ieee.{Float}
-use Rattle.lists.specs.Lists.{Reading, Tuning}
-use Rattle.measure.specs.Measured.{readingsOf}
+use Rattle.frequency_lists.specs.Lists.{Reading, Tuning}
+use Rattle.frequency_measure.specs.Measured.{readingsOf}
 use Rattle.frequency.specs.declared.FrequencyTracker.{FrequencyTracker}
 use Rattle.frequency.specs.Tracker.{Tracker}
 

@@ -7,9 +7,9 @@ use lib.ListN.{length, take}
 use lib.Ieee.{Float}
 use Rattle.limits.specs.Limits.{badRate, short, long, badSample, badState, stream, full, badNumber, bufferS, mostReadings, longestStream}
 use Rattle.limits.specs.Samples.{rateOk, allDbm}
-use Rattle.signal.specs.Order.{signalOk, floorOk}
-use Rattle.lists.specs.Lists.{upTo, noNan, lastOr, fitsReadings, fitsTunings}
-use Rattle.tuning.specs.Ranges.{stepOk}
+use Rattle.frequency_signal.specs.Order.{signalOk, floorOk}
+use Rattle.frequency_lists.specs.Lists.{upTo, noNan, lastOr, fitsReadings, fitsTunings}
+use Rattle.frequency_tuning.specs.Ranges.{stepOk}
 use Rattle.frequency.specs.declared.FrequencyTracker.{FrequencyTracker}
 use Rattle.frequency.specs.Lent.{Lists}
 

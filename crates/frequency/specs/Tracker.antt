@@ -5,16 +5,16 @@ use mathlib.Core.List.{List, [], _∷_, _++_, map}
 use lib.Dec.{ltb, eqb}
 use lib.ListN.{length}
 use lib.Ieee.{Float}
-use Rattle.signal.specs.declared.Signal.{Signal}
-use Rattle.signal.specs.Seconds.{quiet, late, kept}
-use Rattle.signal.specs.Heard.{heard}
-use Rattle.lists.specs.Lists.{Reading, Tuning, lastOr, readingsFrom}
-use Rattle.lists.specs.Marks.{retained}
-use Rattle.retain.specs.Retain.{stays}
-use Rattle.measure.specs.declared.Frequency.{Frequency}
-use Rattle.tuning.specs.declared.Step.{Step}
-use Rattle.tuning.specs.declared.Step.the-variants.{Stay, Base}
-use Rattle.tuning.specs.Steps.{answered, waits, isAsked, pickStep, settledBy, target, asked, retunes, withRetuned}
+use Rattle.frequency_signal.specs.declared.Signal.{Signal}
+use Rattle.frequency_signal.specs.Seconds.{quiet, late, kept}
+use Rattle.frequency_signal.specs.Heard.{heard}
+use Rattle.frequency_lists.specs.Lists.{Reading, Tuning, lastOr, readingsFrom}
+use Rattle.frequency_lists.specs.Marks.{retained}
+use Rattle.frequency_retain.specs.Retain.{stays}
+use Rattle.frequency_measure.specs.declared.Frequency.{Frequency}
+use Rattle.frequency_tuning.specs.declared.Step.{Step}
+use Rattle.frequency_tuning.specs.declared.Step.the-variants.{Stay, Base}
+use Rattle.frequency_tuning.specs.Steps.{answered, waits, isAsked, pickStep, settledBy, target, asked, retunes, withRetuned}
 
 -- FrequencyTracker; requested is the Rust's Option<u32>
 pub record Tracker : Type 0 where

@@ -5,14 +5,14 @@ use mathlib.Core.Bool.{true}
 use mathlib.Core.List.{List, map}
 use lib.ListN.{take}
 use lib.Ieee.{Float}
-use Rattle.signal.specs.Seconds.{quiet, late}
-use Rattle.lists.specs.Lists.{noNan}
-use Rattle.lists.specs.Marks.{retained}
-use Rattle.measure.specs.Gathered.{Lined}
+use Rattle.frequency_signal.specs.Seconds.{quiet, late}
+use Rattle.frequency_lists.specs.Lists.{noNan}
+use Rattle.frequency_lists.specs.Marks.{retained}
+use Rattle.frequency_measure.specs.Gathered.{Lined}
 use Rattle.frequency.specs.declared.FrequencyTracker.{FrequencyTracker}
-use Rattle.tuning.specs.declared.Step.{Step}
-use Rattle.tuning.specs.declared.Step.the-variants.{Stay, Base}
-use Rattle.tuning.specs.Steps.{Steady, isAsked, waits, settledBy, pickStep}
+use Rattle.frequency_tuning.specs.declared.Step.{Step}
+use Rattle.frequency_tuning.specs.declared.Step.the-variants.{Stay, Base}
+use Rattle.frequency_tuning.specs.Steps.{Steady, isAsked, waits, settledBy, pickStep}
 
 -- readings in order, none of whose frequencies is a NaN, and scratch for as many
 pub record Settling (s : FrequencyTracker) (at : List ℕ) (hz out : List Float) : Type 0 where

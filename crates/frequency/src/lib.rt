@@ -3,10 +3,10 @@ ghost use mathlib.Core.Path.{_≡_};
 ghost use mathlib.Core.Bool.{true};
 ghost use Prim.Native.Nat.{_+_, _≤_};
 ghost use lib.ListN.{length, take};
-ghost use Rattle.signal.specs.Seconds.{oldestOf};
-ghost use Rattle.lists.specs.Lists.{upTo};
-ghost use Rattle.retain.specs.Retain.{Looked};
-ghost use Rattle.tuning.specs.Steps.{settledBy};
+ghost use Rattle.frequency_signal.specs.Seconds.{oldestOf};
+ghost use Rattle.frequency_lists.specs.Lists.{upTo};
+ghost use Rattle.frequency_retain.specs.Retain.{Looked};
+ghost use Rattle.frequency_tuning.specs.Steps.{settledBy};
 ghost use Rattle.frequency.specs.Lent.{lists};
 ghost use Rattle.frequency.specs.Order.{ahead, tuningsInOrder, readingsInOrder, inOrder, floatsOk, numbersOk, causeNew, causeFreq, causeTuned, causeSamples, causeCfo, causeNext, causeFrame};
 ghost use Rattle.limits.specs.Answer.{accepted};
@@ -24,8 +24,8 @@ pub struct FrequencyTracker {
     pub line_start: u64,
     pub readings: usize,
     pub tunings: usize,
-    pub requested: measure::Frequency,
-    pub signal: signal::Signal,
+    pub requested: frequency_measure::Frequency,
+    pub signal: frequency_signal::Signal,
 }
 
 // A call's answer: 0 and the tracker, or the number of its refusal and the tracker as it was.
@@ -38,7 +38,7 @@ pub struct Tracked {
 pub struct Next {
     pub refused: u8,
     pub tracker: FrequencyTracker,
-    pub tune: measure::Frequency,
+    pub tune: frequency_measure::Frequency,
 }
 
 // `freq`'s answer.
@@ -66,8 +66,8 @@ fn floats_ok(t: FrequencyTracker) -> bool
 {
     let signal = t.signal;
     let floor = signal.floor;
-    let step = tuning::step_ok(t.step_hz);
-    step & signal::floor_ok(floor)
+    let step = frequency_tuning::step_ok(t.step_hz);
+    step & frequency_signal::floor_ok(floor)
 }
 
 fn numbers_ok(t: FrequencyTracker, hz: &[f64]) -> bool
@@ -75,33 +75,33 @@ fn numbers_ok(t: FrequencyTracker, hz: &[f64]) -> bool
     ensures { λ r. ⌜ r ≡ numbersOk t (now (hz .entry)) ⌝ }
 {
     let floats = floats_ok(t);
-    floats & lists::no_nan(hz, t.readings)
+    floats & frequency_lists::no_nan(hz, t.readings)
 }
 
 fn tunings_in_order(t: FrequencyTracker, tuned: &[u64], freq: &[u32]) -> bool
     ensures { λ r. ⌜ r ≡ tuningsInOrder t (now (tuned .entry)) (now (freq .entry)) ⌝ }
 {
     let signal = t.signal;
-    if !signal::signal_ok(t.line_start, signal) {
+    if !frequency_signal::signal_ok(t.line_start, signal) {
         return false;
     }
-    if !lists::fits_tunings(t.tunings, tuned, freq) {
+    if !frequency_lists::fits_tunings(t.tunings, tuned, freq) {
         return false;
     }
-    lists::within(tuned, t.tunings, signal.n)
+    frequency_lists::within(tuned, t.tunings, signal.n)
 }
 
 fn readings_in_order(t: FrequencyTracker, at: &[u64], lo: &[u32], hz: &[f64]) -> bool
     ensures { λ r. ⌜ r ≡ readingsInOrder t (now (at .entry)) (now (lo .entry)) (now (hz .entry)) ⌝ }
 {
     let signal = t.signal;
-    if !signal::signal_ok(t.line_start, signal) {
+    if !frequency_signal::signal_ok(t.line_start, signal) {
         return false;
     }
-    if !lists::fits_readings(t.readings, at, lo, hz) {
+    if !frequency_lists::fits_readings(t.readings, at, lo, hz) {
         return false;
     }
-    lists::within(at, t.readings, signal.n + AHEAD)
+    frequency_lists::within(at, t.readings, signal.n + AHEAD)
 }
 
 fn in_order(
@@ -134,18 +134,18 @@ fn in_order_looked(
 {
     if settled {
         let a = tunings_in_order(t, tuned, freq);
-        return a & lists::fits_readings(t.readings, at, lo, hz);
+        return a & frequency_lists::fits_readings(t.readings, at, lo, hz);
     }
     in_order(t, at, lo, hz, tuned, freq)
 }
 
 // A look at the readings before a line of `more` samples: one pass for their order and for what the line makes go.
-fn first_look(t: FrequencyTracker, more: usize, at: &[u64]) -> retain::Look
+fn first_look(t: FrequencyTracker, more: usize, at: &[u64]) -> frequency_retain::Look
     ensures { λ r. ⌜ (r .settled ≡ true → Looked (oldestOf (t .rate) (t .signal .n + more)) (t .signal .n + ahead) (t .readings) (r .lead) (now (at .entry))) ⌝ }
 {
     let signal = t.signal;
     let n = signal.n;
-    let none = retain::Look {
+    let none = frequency_retain::Look {
         settled: false,
         lead: 0,
     };
@@ -155,8 +155,8 @@ fn first_look(t: FrequencyTracker, more: usize, at: &[u64]) -> retain::Look
     if more > limits::MOST_SAMPLES {
         return none;
     }
-    let low = signal::oldest(t.rate, n + (more as u64));
-    retain::look_at(low, n + AHEAD, t.readings, at)
+    let low = frequency_signal::oldest(t.rate, n + (more as u64));
+    frequency_retain::look_at(low, n + AHEAD, t.readings, at)
 }
 
 // The number of the cause for which `freq` is refused, or 0.
@@ -185,8 +185,8 @@ fn cause_tuned(t: FrequencyTracker, hz: u32, tuned: &[u64], freq: &[u32]) -> u8
     if !tunings_in_order(t, tuned, freq) {
         return limits::BAD_STATE;
     }
-    let due = tuning::is_due(t.base_freq, hz, t.tunings, freq);
-    if tuning::no_room(due, t.tunings, tuned, freq) {
+    let due = frequency_tuning::is_due(t.base_freq, hz, t.tunings, freq);
+    if frequency_tuning::no_room(due, t.tunings, tuned, freq) {
         return limits::FULL;
     }
     if !floats_ok(t) {
@@ -252,7 +252,7 @@ fn cause_cfo(
     if !in_order(t, at, lo, hz, tuned, freq) {
         return limits::BAD_STATE;
     }
-    if !lists::fits_readings(t.readings + raw.len(), at, lo, hz) {
+    if !frequency_lists::fits_readings(t.readings + raw.len(), at, lo, hz) {
         return limits::FULL;
     }
     if !numbers_ok(t, hz) {
@@ -309,54 +309,59 @@ fn cause_frame(t: FrequencyTracker, at: &[u64], lo: &[u32], hz: &[f64], room: us
 }
 
 // The step to the settled readings: five of them, or nowhere.
-fn settled_step(t: FrequencyTracker, at: &[u64], hz: &[f64], out: &mut [f64]) -> tuning::Step
+fn settled_step(
+    t: FrequencyTracker,
+    at: &[u64],
+    hz: &[f64],
+    out: &mut [f64],
+) -> frequency_tuning::Step
     requires { ⌜ Settling t (now at) (now hz) (now out) ⌝ }
     ensures { λ r. ⌜ r ≡ settledBy (settledOf t (now (at .entry)) (now (hz .entry))) ⌝ }
 {
     let signal = t.signal;
     let from = signal.frame_from;
-    let m = measure::gather_late(t.rate, from, t.readings, at, hz, out);
-    if m < measure::FEWEST {
-        return tuning::Step::Stay;
+    let m = frequency_measure::gather_late(t.rate, from, t.readings, at, hz, out);
+    if m < frequency_measure::FEWEST {
+        return frequency_tuning::Step::Stay;
     }
-    tuning::Step::Settled(cfo::round_hz(measure::median_of(out, m)))
+    frequency_tuning::Step::Settled(cfo::round_hz(frequency_measure::median_of(out, m)))
 }
 
 // Where `next_tuning` goes.
-fn step_of(t: FrequencyTracker, at: &[u64], hz: &[f64], out: &mut [f64]) -> tuning::Step
+fn step_of(t: FrequencyTracker, at: &[u64], hz: &[f64], out: &mut [f64]) -> frequency_tuning::Step
     requires { ⌜ Settling t (now at) (now hz) (now out) ⌝ }
     ensures { λ r. ⌜ r ≡ stepBy t (now (at .entry)) (now (hz .entry)) ⌝ }
 {
     let requested = t.requested;
-    let measure::Frequency::Nothing = requested else {
-        return tuning::Step::Stay;
+    let frequency_measure::Frequency::Nothing = requested else {
+        return frequency_tuning::Step::Stay;
     };
     let signal = t.signal;
     let last = signal.last_signal;
-    if signal::is_quiet(t.rate, signal.n, last) {
-        return tuning::Step::Base;
+    if frequency_signal::is_quiet(t.rate, signal.n, last) {
+        return frequency_tuning::Step::Base;
     }
-    if tuning::is_waiting(t.rate, signal) {
+    if frequency_tuning::is_waiting(t.rate, signal) {
         return settled_step(t, at, hz, out);
     }
-    tuning::Step::Stay
+    frequency_tuning::Step::Stay
 }
 
-fn frame_answer(m: measure::Measured) -> FrameFrequency
+fn frame_answer(m: frequency_measure::Measured) -> FrameFrequency
     ensures { λ r. ⌜ saidFrame r ≡ accepted m ⌝ }
 {
     match m {
-        measure::Measured::Unmeasured => FrameFrequency::Unknown,
-        measure::Measured::Found(h, lo) => FrameFrequency::Found(h, lo),
+        frequency_measure::Measured::Unmeasured => FrameFrequency::Unknown,
+        frequency_measure::Measured::Found(h, lo) => FrameFrequency::Found(h, lo),
     }
 }
 
-fn first_answer(f: measure::Frequency) -> Frame1
+fn first_answer(f: frequency_measure::Frequency) -> Frame1
     ensures { λ r. ⌜ saidFirst r ≡ accepted f ⌝ }
 {
     match f {
-        measure::Frequency::Nothing => Frame1::Unknown,
-        measure::Frequency::Hz(h) => Frame1::Hz(h),
+        frequency_measure::Frequency::Nothing => Frame1::Unknown,
+        frequency_measure::Frequency::Hz(h) => Frame1::Hz(h),
     }
 }
 
@@ -365,9 +370,13 @@ impl FrequencyTracker {
     pub fn new(rate: u32, base_freq: u32, step_hz: f64) -> Tracked
         ensures { λ r. ⌜ (r .refused ≡ causeNew rate «step_hz») × (r .tracker ≡ fresh rate «base_freq» «step_hz») ⌝ }
     {
-        let number = tuning::pick_u8(!tuning::step_ok(step_hz), limits::BAD_NUMBER, 0);
+        let number = frequency_tuning::pick_u8(
+            !frequency_tuning::step_ok(step_hz),
+            limits::BAD_NUMBER,
+            0,
+        );
         Tracked {
-            refused: tuning::pick_u8(!limits::rate_ok(rate), limits::BAD_RATE, number),
+            refused: frequency_tuning::pick_u8(!limits::rate_ok(rate), limits::BAD_RATE, number),
             tracker: FrequencyTracker {
                 rate: rate,
                 base_freq: base_freq,
@@ -375,12 +384,12 @@ impl FrequencyTracker {
                 line_start: 0,
                 readings: 0,
                 tunings: 0,
-                requested: measure::Frequency::Nothing,
-                signal: signal::Signal {
+                requested: frequency_measure::Frequency::Nothing,
+                signal: frequency_signal::Signal {
                     n: 0,
-                    floor: signal::Floor::Unknown,
-                    frame_from: signal::Sample::Never,
-                    last_signal: signal::Sample::Never,
+                    floor: frequency_signal::Floor::Unknown,
+                    frame_from: frequency_signal::Sample::Never,
+                    last_signal: frequency_signal::Sample::Never,
                     retuned: false,
                 },
             },
@@ -395,7 +404,7 @@ impl FrequencyTracker {
         if cause != 0 {
             return Freq::Refused(cause);
         }
-        Freq::Hz(lists::last_freq(self.base_freq, self.tunings, freq))
+        Freq::Hz(frequency_lists::last_freq(self.base_freq, self.tunings, freq))
     }
 
     // The streamer's status line reports the frequency that it is tuned to; refusals 1, 5, 8, 9.
@@ -411,9 +420,9 @@ impl FrequencyTracker {
         }
         let signal = self.signal;
         let old = self.requested;
-        let requested = tuning::answer(old, hz);
-        let due = tuning::is_due(self.base_freq, hz, self.tunings, freq);
-        let count = lists::put_tuning(due, self.tunings, signal.n, hz, tuned, freq);
+        let requested = frequency_tuning::answer(old, hz);
+        let due = frequency_tuning::is_due(self.base_freq, hz, self.tunings, freq);
+        let count = frequency_lists::put_tuning(due, self.tunings, signal.n, hz, tuned, freq);
         Tracked {
             refused: 0,
             tracker: FrequencyTracker {
@@ -451,10 +460,10 @@ impl FrequencyTracker {
             };
         }
         let before = self.signal;
-        let after = signal::hear_all(self.rate, before, dbm);
+        let after = frequency_signal::hear_all(self.rate, before, dbm);
         let n = after.n;
-        let kept = retain::retain_looked(look, self.rate, n, self.readings, at, lo, hz);
-        let left = retain::retain_tunings(self.rate, n, self.tunings, tuned, freq);
+        let kept = frequency_retain::retain_looked(look, self.rate, n, self.readings, at, lo, hz);
+        let left = frequency_retain::retain_tunings(self.rate, n, self.tunings, tuned, freq);
         let requested = self.requested;
         Tracked {
             refused: 0,
@@ -492,9 +501,9 @@ impl FrequencyTracker {
             };
         }
         let more = 1 < self.tunings;
-        let f = lists::last_freq(self.base_freq, self.tunings, freq);
-        let last = lists::last_tuned(self.tunings, tuned);
-        let count = lists::read_values(
+        let f = frequency_lists::last_freq(self.base_freq, self.tunings, freq);
+        let last = frequency_lists::last_tuned(self.tunings, tuned);
+        let count = frequency_lists::read_values(
             self.rate,
             self.step_hz,
             more,
@@ -534,13 +543,13 @@ impl FrequencyTracker {
             return Next {
                 refused: cause,
                 tracker: self,
-                tune: measure::Frequency::Nothing,
+                tune: frequency_measure::Frequency::Nothing,
             };
         }
         let step = step_of(self, at, hz, out);
-        let tune = tuning::target_of(
+        let tune = frequency_tuning::target_of(
             self.base_freq,
-            lists::last_freq(self.base_freq, self.tunings, freq),
+            frequency_lists::last_freq(self.base_freq, self.tunings, freq),
             step,
         );
         let old = self.requested;
@@ -548,12 +557,12 @@ impl FrequencyTracker {
         let floor = signal.floor;
         let from = signal.frame_from;
         let last = signal.last_signal;
-        let heard = signal::Signal {
+        let heard = frequency_signal::Signal {
             n: signal.n,
             floor: floor,
             frame_from: from,
             last_signal: last,
-            retuned: tuning::retuned_by(step, signal.retuned),
+            retuned: frequency_tuning::retuned_by(step, signal.retuned),
         };
         Next {
             refused: 0,
@@ -564,7 +573,7 @@ impl FrequencyTracker {
                 line_start: self.line_start,
                 readings: self.readings,
                 tunings: self.tunings,
-                requested: tuning::remember(tune, old),
+                requested: frequency_tuning::remember(tune, old),
                 signal: heard,
             },
             tune: tune,
@@ -587,7 +596,16 @@ impl FrequencyTracker {
         if cause != 0 {
             return FrameFrequency::Refused(cause);
         }
-        frame_answer(measure::frame_of(self.rate, f.time, f.end, self.readings, at, lo, hz, out))
+        frame_answer(frequency_measure::frame_of(
+            self.rate,
+            f.time,
+            f.end,
+            self.readings,
+            at,
+            lo,
+            hz,
+            out,
+        ))
     }
 
     // Frame 1 of a message: the midpoint of frames 2 and 3 when the device sent them at frame 1 +/- 6 kHz and they were
@@ -619,13 +637,13 @@ impl FrequencyTracker {
             return Frame1::Refused(cause);
         }
         let count = self.readings;
-        let f1 = tuning::of_rank(self.rate, 0, a, b, c, count, at, lo, hz, out);
-        let one = measure::direct_hz(f1);
+        let f1 = frequency_tuning::of_rank(self.rate, 0, a, b, c, count, at, lo, hz, out);
+        let one = frequency_measure::direct_hz(f1);
         if !downlink {
             return first_answer(one);
         }
-        let f2 = tuning::of_rank(self.rate, 1, a, b, c, count, at, lo, hz, out);
-        let f3 = tuning::of_rank(self.rate, 2, a, b, c, count, at, lo, hz, out);
-        first_answer(measure::middle_hz(f2, f3, one))
+        let f2 = frequency_tuning::of_rank(self.rate, 1, a, b, c, count, at, lo, hz, out);
+        let f3 = frequency_tuning::of_rank(self.rate, 2, a, b, c, count, at, lo, hz, out);
+        first_answer(frequency_measure::middle_hz(f2, f3, one))
     }
 }

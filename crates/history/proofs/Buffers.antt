@@ -9,8 +9,8 @@ use lib.ListN.{length, take, drop}
 use lib.Seq.{length-paste}
 use Rattle.ledger.specs.Ledger.{Kind, Demod, capacity, Ledger, halve, amount, add, fill, fills}
 use Rattle.ledger.proofs.Sizes.{amount-room, due-held}
-use Rattle.samples.specs.Buffer.{Buffer, leftHeld, leftPlaces, share, filled, allFilled}
-use Rattle.samples.proofs.Fillings.{left-less, left-length, held-length, halve-holds, room-is, fill-holds}
+use Rattle.receiver_samples.specs.Buffer.{Buffer, leftHeld, leftPlaces, share, filled, allFilled}
+use Rattle.receiver_samples.proofs.Fillings.{left-less, left-length, held-length, halve-holds, room-is, fill-holds}
 
 -- the buffer b has n places and holds what the ledger l holds
 pub record Keeps {K : Kind} (rate n : ℕ) (b : Buffer) (l : Ledger K) : Type 0 where

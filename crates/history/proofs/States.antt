@@ -20,10 +20,10 @@ use Rattle.ledger.proofs.Orders.{passed, rate-pos}
 use Rattle.ledger.proofs.Sizes.{scan-still}
 use Rattle.ledger.proofs.Ranks.{AllRanked}
 use Rattle.ledger.proofs.Carry.{carry, cause-carry, call-carry, call-events-carry}
-use Rattle.samples.specs.Buffer.{allFilled}
-use Rattle.samples.proofs.Fillings.{held-length}
-use Rattle.starts.specs.Starts as starts
-use Rattle.waiting.specs.Waiting as waiting
+use Rattle.receiver_samples.specs.Buffer.{allFilled}
+use Rattle.receiver_samples.proofs.Fillings.{held-length}
+use Rattle.receiver_starts.specs.Starts as starts
+use Rattle.receiver_waiting.specs.Waiting as waiting
 use Rattle.receiver.specs.State.{ledgerOf, countsOf, newState, stateOver}
 use Rattle.receiver.specs.Calls.{Memory, lengthsOf, refusalOf, recordsOf, stateAfter, samplesAfter}
 use Rattle.receiver.specs.declared.SigfoxReceiver.{SigfoxReceiver}

@@ -14,7 +14,7 @@ use Rattle.ledger.specs.Records.{recordOf, withRecords}
 use Rattle.ledger.specs.EitherOrder.{joining}
 use Rattle.ledger.proofs.Basics.{map-join}
 use Rattle.ledger.proofs.EitherOrder.{frames-either, entries-either}
-use Rattle.waiting.specs.Waiting.{waitingOf, over}
+use Rattle.receiver_waiting.specs.Waiting.{waitingOf, over}
 use Rattle.receiver.specs.State.{ledgerOf, stateOver}
 use Rattle.receiver.specs.Calls.{Memory, refusalOf, recordsOf, stateAfter, Answered}
 use Rattle.receiver.specs.declared.SigfoxReceiver.{SigfoxReceiver}

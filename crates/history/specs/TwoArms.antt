@@ -11,7 +11,7 @@ use Rattle.ledger.specs.Ledger.{Ledger, byFrames, byEntry, Demod, Call, scans, 
 use Rattle.ledger.specs.Demodulation.{demodOf}
 use Rattle.ledger.specs.Records.{recordOf, withRecords}
 use Rattle.ledger.specs.EitherOrder.{joining, scansIn, EitherOrder}
-use Rattle.waiting.specs.Waiting.{waitingOf}
+use Rattle.receiver_waiting.specs.Waiting.{waitingOf}
 use Rattle.receiver.specs.State.{ledgerOf}
 use Rattle.receiver.specs.Calls.{Memory, Answered}
 use Rattle.receiver.specs.declared.SigfoxReceiver.{SigfoxReceiver}

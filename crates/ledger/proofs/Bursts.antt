@@ -22,7 +22,7 @@ pub proper : (rate n p : ℕ) (bs : List Burst) → Row rate n p bs → Proper r
 proper rate n p [] r = tt
 proper rate n p (b ∷ bs) r = (omega (arith, r .1), proper rate n (b .end + gap rate + 1) bs (r .3))
 
--- takeEach takes 0.3 s, 40 ms and two samples, but for the last takeOne's gap
+-- each takes 0.3 s, 40 ms and two samples, but for the last one's gap
 taking : (rate n p : ℕ) (bs : List Burst) → p ≤ n + gap rate + 1 → Row rate n p bs → length bs * (third rate + gap rate + 2) + p ≤ n + gap rate + 1
 taking rate n p [] h r = omega (arith, zero-mul (third rate + gap rate + 2))
 taking rate n p (b ∷ bs) h r =

@@ -1,4 +1,4 @@
--- How many frames and open messages a call can have, startsFrom any state that is in order.
+-- How many frames and open messages a call can have, from any state that is in order.
 use mathlib.Core.Path.{_≡_, refl}
 use mathlib.Core.Logic.{_⊎_, ⊎-elim}
 use mathlib.Core.List.{List, [], _∷_, _++_}
@@ -43,7 +43,7 @@ decoded-fits rate d fair held t b x s e =
     record { rank = d .ranks held t b x e; payload = fair .payload held t b x e; auth = fair .auth held t b x e }
 
 module _ {K : Kind} where
-  -- ---- takeEach burst adds takeOne frame and takeOne message at most
+  -- ---- each burst adds one frame and one message at most
 
   pub record Grew (l k : Ledger K) : Type 0 where
     pub heard : length (k .heard) ≤ suc (length (l .heard))

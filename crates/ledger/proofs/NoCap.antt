@@ -1,4 +1,4 @@
--- The test for room never fails, startsFrom any state that is in order.
+-- The test for room never fails, from any state that is in order.
 use mathlib.Core.Path.{_≡_, refl, ap}
 use mathlib.Core.Logic.{⊎-elim}
 use mathlib.Core.List.{List, [], _∷_}

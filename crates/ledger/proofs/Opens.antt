@@ -122,7 +122,7 @@ module _ (K : Kind) where
 
   -- ---- no two alike
 
-  -- takeOne more frame with another key
+  -- one more frame with another key
   waits-join : Lawful K → (k : Key) (f : Frame) (l : List (K .Open)) → same (keyOf f) k ≡ false → waits K k l ≡ false → waits K k (join K f l) ≡ false
   unfolding join
   waits-join laws k f [] h e = waits-cons k (K .opened f) [] (rw (laws .opened-key f) h) e

@@ -1,4 +1,4 @@
--- A ledger that grew startsFrom a fresh takeOne is in order; and no call, startsFrom any state that is in order, needs more room than there is.
+-- A ledger that grew from a fresh one is in order; and no call, from any state that is in order, needs more room than there is.
 use mathlib.Core.Path.{_≡_, refl}
 use mathlib.Core.Logic.{_⊎_, inl, ⊎-elim}
 use mathlib.Core.List.{List, [], _∷_, _++_}
@@ -66,7 +66,7 @@ module _ {K : Kind} where
   -- ---- a push
 
   module _ (rate : ℕ) (d : Demod) (fair : Fair rate d) (laws : Lawful K) (pos : 1 ≤ rate) where
-    -- startsFrom a ledger whose starts are at most `back` before its base
+    -- from a ledger whose starts are at most `back` before its base
     module _ (back m : ℕ) (wide : capacity rate + (back + half rate) ≤ third rate * m) (above : rate ≤ back)
         (l : Ledger K) (w : Placed rate back l) (quiet : 2 * l .unscanned < rate) (few : length (l .waiting) ≤ mostWaiting) (tidy : Tidy K (l .waiting)) where
       start-going : Going rate d fair laws (l .base) mostWaiting pos back m wide above (startCall l)
@@ -87,7 +87,7 @@ module _ {K : Kind} where
 
     -- ---- a flush
 
-    -- takeEach burst adds takeOne frame and takeOne message at most, and there are at most so many
+    -- each burst adds one frame and one message at most, and there are at most so many
     bursts-flushed : (l : Ledger K) (bs : List Burst) → Proper rate bs → Loose rate (oldestS * rate) l → length (l .heard) + length bs ≤ flushFrames → length (l .waiting) ≤ mostWaiting + length (l .heard)
         → ThroughBursts (Room 64 (mostWaiting + flushFrames) flushFrames) rate d 0 l bs
     bursts-flushed l [] p w h n = record { starts = few-starts rate (oldestS * rate) 64 l (omega arith) w; waiting = omega arith; heard = omega arith }
@@ -108,7 +108,7 @@ module _ {K : Kind} where
         bursts-flushed (startCall l) (d .bursts (l .held)) (proper rate (length (l .held)) 0 (d .bursts (l .held)) (fair .row (l .held) (o .room)))
         (record { small = o .room; below = o .below; apart = o .apart; recent = o .recent }) (omega (arith, few rate (length (l .held)) (d .bursts (l .held)) (o .room) (fair .row (l .held) (o .room)))) (omega (arith, o .waiting))
 
-    -- ---- startsFrom a given state
+    -- ---- from a given state
 
     given : (l : Ledger K) → InOrder rate l → Placed rate (oldestS * rate) l
     given l o = record { small = o .room; below = o .below; apart = o .apart; recent = inl (o .recent) }

@@ -1,4 +1,4 @@
--- How many starts, pairwise at least 0.3 s apart, fit into a window: takeOne to takeEach k samples, k being under 0.3 s and a sample.
+-- How many starts, pairwise at least 0.3 s apart, fit into a window: one to each k samples, k being under 0.3 s and a sample.
 use mathlib.Core.Path.{_≡_, refl, ap, _∙_}
 use mathlib.Core.Logic.{⊎-elim}
 use mathlib.Core.List.{List, [], _∷_, _++_, append-nil}
@@ -57,7 +57,7 @@ module _ (rate : ℕ) (p : ℕ → Bool) where
 
 -- ---- a window
 
--- takeEach start is startsFrom lo up to, not including, hi
+-- each start is from lo up to, not including, hi
 abbrev pub Window : ℕ → ℕ → List ℕ → Type 0
 Window lo hi [] = Unit
 Window lo hi (s ∷ l) = (lo ≤ s) × (s < hi) × Window lo hi l
@@ -90,7 +90,7 @@ module _ (rate k : ℕ) (narrow : 10 * k < 3 * rate + 10) where
   unfolding near
   covers b acc s p q y u v = rw (near-join rate acc (s ∷ []) y, lt-ltb (10 * dist s y) (3 * rate) (omega arith)) (or-true (near rate acc y))
 
-  -- so at most takeOne is among the top k places
+  -- so at most one is among the top k places
   top-one : (lo b : ℕ) (acc l : List ℕ) → spaced rate acc l ≡ true → Window lo (b + k) l → length l ≤ suc (length (select (low b) l))
   top-one lo b acc [] e w = omega arith
   top-one lo b acc (s ∷ l) e w =

@@ -1,4 +1,4 @@
--- Where the remembered starts stand: after every step of a call, startsFrom any state that is in order.
+-- Where the remembered starts stand: after every step of a call, from any state that is in order.
 use mathlib.Core.Path.{_≡_, refl, _∙_}
 use mathlib.Core.Logic.{_⊎_, inl, inr, ⊎-elim}
 use mathlib.Core.List.{List, [], _∷_, _++_}

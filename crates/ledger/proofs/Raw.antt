@@ -1,4 +1,4 @@
--- What push_raw hands in is always allDbm.
+-- What push_raw hands in is always valid.
 use mathlib.Core.Path.{_≡_, refl}
 use mathlib.Core.Logic.{⊎-elim}
 use mathlib.Core.List.{List, [], _∷_, map}

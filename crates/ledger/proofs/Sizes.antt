@@ -103,7 +103,7 @@ module _ {K : Kind} where
       one-of : (a b : ℕ) → 1 ≤ a → 1 ≤ b → 1 ≤ min a b
       one-of a b p q = omega arith
 
-  -- takeOne filling: room is kept, and the stream is as much longer
+  -- one filling: room is kept, and the stream is as much longer
   pub fill-small : (rate : ℕ) (d : Demod) (l : Ledger K) (xs : List Float) → 1 ≤ rate → length (l .held) ≤ capacity rate
       → (length (fill rate d l xs .held) ≤ capacity rate) × (fill rate d l xs .base + length (fill rate d l xs .held) ≡ l .base + length (l .held) + amount rate (halve rate l) xs)
   unfolding fill add

@@ -22,7 +22,7 @@ unfolding near
 near-join rate [] b x = refl
 near-join rate (s ∷ a) b x = rw (near-join rate a b x) (sym (or-assoc (close rate s x) (near rate a x) (near rate b x)))
 
--- near none: at least 0.3 s startsFrom takeEach
+-- near none: at least 0.3 s from each
 pub near-none : (rate : ℕ) (a b : List ℕ) (s x : ℕ) → near rate (a ++ s ∷ b) x ≡ false → 3 * rate ≤ 10 * dist s x
 unfolding near
 near-none rate a b s x e =
@@ -73,7 +73,7 @@ module _ {K : Kind} where
   abbrev pub heardStarts : Ledger K → List ℕ
   heardStarts l = map startOf (l .heard)
 
-  -- a start behind the base that is near no remembered takeOne is near none of the starts seen
+  -- a start behind the base that is near no remembered one is near none of the starts seen
   abbrev pub Far : ℕ → List ℕ → Ledger K → Type 0
   Far rate seen l = (x : ℕ) → l .base < x → near rate (l .starts) x ≡ false → near rate seen x ≡ false
 
@@ -82,7 +82,7 @@ module _ {K : Kind} where
     pub apart : spaced rate seen (heardStarts l) ≡ true
     pub far : Far rate (seen ++ heardStarts l) l
 
-  -- takeOne more start
+  -- one more start
   pub far-more : (rate : ℕ) (seen : List ℕ) (l : Ledger K) (s : ℕ) → Far rate seen l → (x : ℕ) → l .base < x → near rate (l .starts ++ (s ∷ [])) x ≡ false
       → (near rate seen x ≡ false) × (close rate s x ≡ false)
   unfolding near

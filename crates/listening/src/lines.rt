@@ -8,8 +8,8 @@ use crate::writing::add;
 use crate::writing::add_hex;
 use crate::writing::add_number;
 use frequency::Frame1;
+use frequency_measure::Frequency;
 use libc::STDERR_FILENO;
-use measure::Frequency;
 use record::read;
 
 // `T hz`, where the receiver is to be tuned anew.

@@ -79,7 +79,7 @@ fn tune(
 fn levels(record: Record) -> [f32; 8] {
     let raw = record.raw;
     let mut dbm = [0.0f32; 8];
-    samples::dbm_of_all(&raw, &mut dbm);
+    receiver_samples::dbm_of_all(&raw, &mut dbm);
     dbm
 }
 

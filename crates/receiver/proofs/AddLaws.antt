@@ -10,13 +10,13 @@ use lib.Ieee.{Float}
 use borrow.Author.Tests.{ne-eqb}
 use Rattle.ledger.specs.Ledger.{capacity, push, seconds}
 use Rattle.ledger.specs.Causes as causes
-use Rattle.samples.specs.Buffer.{leftHeld, leftPlaces, room}
-use Rattle.starts.proofs.StartLaws.{starts-same}
-use Rattle.waiting.specs.Waiting as waiting
-use Rattle.waiting.specs.Waiting.{waitingOf}
-use Rattle.waiting.specs.declared.Waiting.{Waiting}
-use Rattle.waiting.proofs.WaitingLaws.{none-expires}
-use Rattle.scan.specs.declared.Scanned.{Scanned}
+use Rattle.receiver_samples.specs.Buffer.{leftHeld, leftPlaces, room}
+use Rattle.receiver_starts.proofs.StartLaws.{starts-same}
+use Rattle.receiver_waiting.specs.Waiting as waiting
+use Rattle.receiver_waiting.specs.Waiting.{waitingOf}
+use Rattle.receiver_waiting.specs.declared.Waiting.{Waiting}
+use Rattle.receiver_waiting.proofs.WaitingLaws.{none-expires}
+use Rattle.receiver_scan.specs.declared.Scanned.{Scanned}
 use Rattle.receiver.specs.Running.{Passes, Answers, Addable, Adds, Added}
 use Rattle.receiver.specs.declared.SigfoxReceiver.{SigfoxReceiver}
 use Rattle.receiver.specs.declared.Received.{Received}

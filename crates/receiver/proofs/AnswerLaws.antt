@@ -20,8 +20,8 @@ use Rattle.ledger.specs.Records.{withRecords}
 use Rattle.ledger.specs.Room.{openPlaces}
 use Rattle.ledger.proofs.Basics.{and-true, or-false}
 use Rattle.ledger.proofs.Orders.{passed}
-use Rattle.starts.specs.Starts as starts
-use Rattle.waiting.specs.Waiting as waiting
+use Rattle.receiver_starts.specs.Starts as starts
+use Rattle.receiver_waiting.specs.Waiting as waiting
 use Rattle.receiver.specs.State.{ledgerOf, countsOf, samplesOk}
 use Rattle.receiver.specs.Calls.{Memory, lengthsOf, refusalOf, recordsOf, stateAfter, samplesAfter, Free, Answered}
 use Rattle.receiver.specs.Running.{Passes, Answers}

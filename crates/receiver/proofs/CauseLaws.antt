@@ -18,9 +18,9 @@ use Rattle.limits.specs.Limits.{badNumber, badRate, badSample, badState, events
 use Rattle.limits.specs.Samples.{allDbm, rateOk}
 use Rattle.receiver.proofs.StateLaws.{orderly-is}
 use Rattle.receiver.specs.State.{countsOf, givenCause, ledgerOf, messagesCause, samplesOk, stateCause}
-use Rattle.waiting.specs.Waiting as waiting
-use Rattle.waiting.specs.declared.Condition.{Condition}
-use Rattle.waiting.specs.declared.Waiting.{Waiting}
+use Rattle.receiver_waiting.specs.Waiting as waiting
+use Rattle.receiver_waiting.specs.declared.Condition.{Condition}
+use Rattle.receiver_waiting.specs.declared.Waiting.{Waiting}
 use Rattle.receiver.specs.declared.SigfoxReceiver.{SigfoxReceiver}
 
 -- ---- three tests, then what follows

@@ -19,14 +19,14 @@ use Rattle.ledger.specs.Room.{room, takeOneIf, takeEachIf, scanIf, dueIf, fillI
 use Rattle.ledger.specs.Demodulation.{demodOf}
 use Rattle.ledger.proofs.Basics.{either, and-true}
 use Rattle.ledger.proofs.Sizes.{Still, one-still, halve-less, add-length, amount-room, amount-pos}
-use Rattle.samples.specs.Buffer.{Buffer, leftHeld, leftPlaces, share, filled, allFilled}
-use Rattle.samples.specs.Buffer as buffer
-use Rattle.samples.proofs.Fillings.{runs, runs-turn, runs-none, runs-buffer, left-less, left-length, halve-holds, fill-holds, room-is, held-length}
-use Rattle.starts.specs.declared.Starts.{Starts}
-use Rattle.waiting.specs.declared.Waiting.{Waiting}
+use Rattle.receiver_samples.specs.Buffer.{Buffer, leftHeld, leftPlaces, share, filled, allFilled}
+use Rattle.receiver_samples.specs.Buffer as buffer
+use Rattle.receiver_samples.proofs.Fillings.{runs, runs-turn, runs-none, runs-buffer, left-less, left-length, halve-holds, fill-holds, room-is, held-length}
+use Rattle.receiver_starts.specs.declared.Starts.{Starts}
+use Rattle.receiver_waiting.specs.declared.Waiting.{Waiting}
 use Rattle.bursts.specs.declared.Burst.{Burst}
-use Rattle.scan.specs.Midway.{Midway, Lent, Within, Does}
-use Rattle.scan.specs.declared.Scanned.{Scanned}
+use Rattle.receiver_scan.specs.Midway.{Midway, Lent, Within, Does}
+use Rattle.receiver_scan.specs.declared.Scanned.{Scanned}
 
 -- ---- a scan that tests for room leaves the samples
 

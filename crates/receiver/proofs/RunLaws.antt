@@ -22,16 +22,16 @@ use Rattle.ledger.proofs.OpenKinds.{entries-lawful}
 use Rattle.ledger.proofs.Orderly.{bounded}
 use Rattle.ledger.proofs.NoCap.{no-cap}
 use Rattle.ledger.proofs.Fairness.{demod-fair}
-use Rattle.samples.specs.Buffer.{Buffer, allFilled}
-use Rattle.samples.proofs.Fillings.{held-length}
-use Rattle.starts.specs.Starts as starts
-use Rattle.starts.specs.declared.Starts.{Starts}
-use Rattle.waiting.specs.Waiting.{waitingOf, leaves}
-use Rattle.waiting.specs.Waiting as waiting
-use Rattle.waiting.specs.declared.Waiting.{Waiting}
-use Rattle.scan.specs.Midway.{Midway, Lent, Within, Does}
-use Rattle.scan.specs.declared.Scanned.{Scanned}
-use Rattle.closing.specs.Written.{written}
+use Rattle.receiver_samples.specs.Buffer.{Buffer, allFilled}
+use Rattle.receiver_samples.proofs.Fillings.{held-length}
+use Rattle.receiver_starts.specs.Starts as starts
+use Rattle.receiver_starts.specs.declared.Starts.{Starts}
+use Rattle.receiver_waiting.specs.Waiting.{waitingOf, leaves}
+use Rattle.receiver_waiting.specs.Waiting as waiting
+use Rattle.receiver_waiting.specs.declared.Waiting.{Waiting}
+use Rattle.receiver_scan.specs.Midway.{Midway, Lent, Within, Does}
+use Rattle.receiver_scan.specs.declared.Scanned.{Scanned}
+use Rattle.receiver_closing.specs.Written.{written}
 use Rattle.receiver.specs.State.{ledgerOf, stateOver}
 use Rattle.receiver.specs.Calls.{samplesAfter}
 use Rattle.receiver.specs.Running.{Passes, Under, Closable, EndsBy, Ended}

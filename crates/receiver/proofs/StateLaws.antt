@@ -15,9 +15,9 @@ use Rattle.limits.specs.Limits.{longestStream}
 use Rattle.limits.specs.Samples.{allDbm}
 use Rattle.ledger.proofs.Basics.{and-true}
 use Rattle.receiver.specs.State.{countsOf, ledgerOf, numbersOk, samplesOk}
-use Rattle.starts.specs.Starts as starts
-use Rattle.waiting.specs.Waiting as waiting
-use Rattle.starts.specs.declared.Starts.{Starts}
+use Rattle.receiver_starts.specs.Starts as starts
+use Rattle.receiver_waiting.specs.Waiting as waiting
+use Rattle.receiver_starts.specs.declared.Starts.{Starts}
 use Rattle.receiver.specs.declared.SigfoxReceiver.{SigfoxReceiver}
 
 either : (b : Bool) → (b ≡ true) ⊎ (b ≡ false)

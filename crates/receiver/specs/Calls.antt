@@ -9,7 +9,7 @@ use Rattle.ledger.specs.Ledger.{Call, push, flush, byEntry, closed, scans}
 use Rattle.ledger.specs.Causes.{Lent, cause, callEvents}
 use Rattle.ledger.specs.Demodulation.{demodOf}
 use Rattle.ledger.specs.Records.{recordOf, withRecords}
-use Rattle.samples.specs.Buffer.{allFilled}
+use Rattle.receiver_samples.specs.Buffer.{allFilled}
 use Rattle.receiver.specs.State.{ledgerOf, countsOf, stateOver}
 use Rattle.receiver.specs.declared.SigfoxReceiver.{SigfoxReceiver}
 use Rattle.receiver.specs.declared.Received.{Received}

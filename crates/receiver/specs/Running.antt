@@ -13,10 +13,10 @@ use Rattle.ledger.specs.Causes.{mostStarts}
 use Rattle.ledger.specs.Room.{InOrder, Accepted, openPlaces}
 use Rattle.ledger.specs.Demodulation.{demodOf}
 use Rattle.ledger.specs.Records.{recordOf, withRecords}
-use Rattle.waiting.specs.Waiting.{waitingOf, leaves, anyExpires}
-use Rattle.scan.specs.Midway.{Midway}
-use Rattle.scan.specs.declared.Scanned.{Scanned}
-use Rattle.closing.specs.Written.{written}
+use Rattle.receiver_waiting.specs.Waiting.{waitingOf, leaves, anyExpires}
+use Rattle.receiver_scan.specs.Midway.{Midway}
+use Rattle.receiver_scan.specs.declared.Scanned.{Scanned}
+use Rattle.receiver_closing.specs.Written.{written}
 use Rattle.receiver.specs.State.{ledgerOf, countsOf, stateOver}
 use Rattle.receiver.specs.Calls.{samplesAfter}
 use Rattle.receiver.specs.declared.SigfoxReceiver.{SigfoxReceiver}

@@ -9,10 +9,10 @@ use Rattle.limits.specs.Limits.{badRate, short, long, badState, stream, badNumb
 use Rattle.limits.specs.Samples.{allDbm, rateOk}
 use Rattle.ledger.specs.Ledger.{Ledger, byEntry, capacity}
 use Rattle.ledger.specs.Causes.{Counts, Lent, tooShort, orderly, anyNan}
-use Rattle.starts.specs.Starts as starts
-use Rattle.waiting.specs.Waiting as waiting
-use Rattle.starts.specs.declared.Starts.{Starts}
-use Rattle.waiting.specs.declared.Waiting.{Waiting}
+use Rattle.receiver_starts.specs.Starts as starts
+use Rattle.receiver_waiting.specs.Waiting as waiting
+use Rattle.receiver_starts.specs.declared.Starts.{Starts}
+use Rattle.receiver_waiting.specs.declared.Waiting.{Waiting}
 use Rattle.receiver.specs.declared.SigfoxReceiver.{SigfoxReceiver}
 use Rattle.receiver.specs.declared.Lengths.{Lengths}
 

@@ -13,8 +13,8 @@ ghost use Rattle.receiver.specs.Calls.{Answered};
 mod run; // an accepted call
 
 use ledger::Pending;
-use starts::Starts;
-use waiting::Waiting;
+use receiver_starts::Starts;
+use receiver_waiting::Waiting;
 
 // Rate, samples held in the lent buffer, absolute index of its first, samples not looked at yet, remembered starts, open messages.
 pub struct SigfoxReceiver {
@@ -46,8 +46,8 @@ impl SigfoxReceiver {
     pub fn new(rate: u32) -> Self
         ensures { λ r. ⌜ r ≡ newState rate ⌝ }
     {
-        let starts = starts::none();
-        let waiting = waiting::none();
+        let starts = receiver_starts::none();
+        let waiting = receiver_waiting::none();
         Self {
             rate,
             held: 0,
@@ -115,7 +115,7 @@ impl SigfoxReceiver {
                 receiver: self,
             };
         }
-        samples::dbm_of_all(raw, scratch32);
+        receiver_samples::dbm_of_all(raw, scratch32);
         let n = raw.len();
         run::hear(self, &scratch32[..n], samples, events, scratch64)
     }
@@ -154,7 +154,7 @@ impl SigfoxReceiver {
 pub fn too_short(rate: u32, lent: Lengths) -> bool
     ensures { λ r. ⌜ r ≡ tooShort rate (lentOf lent) ⌝ }
 {
-    let capacity = samples::capacity(rate);
+    let capacity = receiver_samples::capacity(rate);
     let samples = lent.samples < capacity;
     let events = lent.events < limits::EVENTS;
     let scratch32 = lent.scratch32 < capacity;
@@ -166,7 +166,7 @@ pub fn too_short(rate: u32, lent: Lengths) -> bool
 fn numbers_ok(rate: u32, held: usize, base: u64, unscanned: usize) -> bool
     ensures { λ r. ⌜ r ≡ numbersOk rate held base unscanned ⌝ }
 {
-    if samples::capacity(rate) < held {
+    if receiver_samples::capacity(rate) < held {
         return false;
     }
     let stream = base <= limits::LONGEST_STREAM - (held as u64);
@@ -190,7 +190,7 @@ fn samples_in_order(
         return false;
     }
     let valid = limits::all_dbm(&samples[..held]);
-    let apart = starts::in_order(starts, rate, base, base + (held as u64));
+    let apart = receiver_starts::in_order(starts, rate, base, base + (held as u64));
     valid & apart
 }
 
@@ -206,17 +206,17 @@ fn given_cause(rate: u32, lent: Lengths, n: usize) -> u8
     if too_short(rate, lent) {
         return limits::SHORT;
     }
-    if samples::capacity(rate) < n {
+    if receiver_samples::capacity(rate) < n {
         return limits::LONG;
     }
     0
 }
 
 // Cause 5 or 9 of the first n messages; 0 for none.
-fn messages_cause(messages: [Pending; waiting::OPEN_PLACES], n: usize) -> u8
+fn messages_cause(messages: [Pending; receiver_waiting::OPEN_PLACES], n: usize) -> u8
     ensures { λ r. ⌜ r ≡ messagesCause (record { messages = messages; count = n }) ⌝ }
 {
-    let c = waiting::check(messages, n);
+    let c = receiver_waiting::check(messages, n);
     if !c.ok {
         return limits::BAD_STATE;
     }

@@ -8,11 +8,11 @@ ghost use Rattle.limits.specs.Limits.{highestRate};
 ghost use Rattle.ledger.specs.Ledger.{Ledger, Call, byEntry, capacity, push, flush, tail};
 ghost use Rattle.ledger.specs.Room.{scanIf};
 ghost use Rattle.ledger.specs.Demodulation.{demodOf};
-ghost use Rattle.scan.specs.Midway.{Lent, Within, Does};
+ghost use Rattle.receiver_scan.specs.Midway.{Lent, Within, Does};
 ghost use Rattle.receiver.specs.Running.{Passes, Under, Closable, EndsBy, Ended, Answers, Addable, Adds, Added};
 use crate::Received;
 use crate::SigfoxReceiver;
-use scan::Scanned;
+use receiver_scan::Scanned;
 
 // 0.3 s in samples, rounded: so long ago a burst ended that is taken (TAIL_S).
 fn tail(rate: u32) -> usize
@@ -37,7 +37,7 @@ fn scan_tail(
     let starts = t.starts;
     let waiting = t.waiting;
     let wait = tail(rate);
-    scan::scan(
+    receiver_scan::scan(
         held,
         rate,
         base,
@@ -63,14 +63,14 @@ fn finish(
     requires { ⌜ Closable (s .rate) (base + held) t all (now events) ⌝ }
     ensures { λ r. ⌜ ((c : Call) (l : Ledger byEntry) (old : List ℕ) → EndsBy c all → Under l old held base unscanned t (now (events .entry)) → Ended s c l old r (now (events .exit))) ⌝ }
 {
-    let time = scan::seconds(s.rate, base + (held as u64));
+    let time = receiver_scan::seconds(s.rate, base + (held as u64));
     let open = t.waiting;
-    let written = closing::write_messages(open, all, time, events, t.count);
+    let written = receiver_closing::write_messages(open, all, time, events, t.count);
     let before = s.waiting;
-    let waiting = waiting::keep(before, open, all, time);
+    let waiting = receiver_waiting::keep(before, open, all, time);
     let remembered = t.starts;
     let first = s.starts;
-    let starts = starts::over(first, remembered);
+    let starts = receiver_starts::over(first, remembered);
     Received {
         refused: 0,
         count: written,
@@ -94,7 +94,7 @@ fn only_adds(s: SigfoxReceiver, n: usize) -> bool
     if n == 0 {
         return false;
     }
-    if samples::capacity(s.rate) < held {
+    if receiver_samples::capacity(s.rate) < held {
         return false;
     }
     if (s.rate as usize) <= 2 * (s.unscanned + n) {
@@ -104,8 +104,8 @@ fn only_adds(s: SigfoxReceiver, n: usize) -> bool
         return true;
     }
     let messages = s.waiting.messages;
-    let time = scan::seconds(s.rate, s.base + (held as u64));
-    !waiting::any_expires(messages, s.waiting.count, time)
+    let time = receiver_scan::seconds(s.rate, s.base + (held as u64));
+    !receiver_waiting::any_expires(messages, s.waiting.count, time)
 }
 
 // An accepted push that only adds its samples.
@@ -113,7 +113,7 @@ fn add(s: SigfoxReceiver, dbm: &[f32], samples: &mut [f32]) -> Received
     requires { ⌜ Adds s (length (now dbm)) × (s .rate ≤ highestRate) × (capacity (s .rate) ≤ length (now samples)) ⌝ }
     ensures { λ r. ⌜ Added s (now (dbm .entry)) (now (samples .entry)) r (now (samples .exit)) ⌝ }
 {
-    let n = samples::fill(samples, s.rate, s.held, dbm, 0);
+    let n = receiver_samples::fill(samples, s.rate, s.held, dbm, 0);
     let mut t = s;
     t.held = s.held + n;
     t.unscanned = s.unscanned + n;
@@ -148,9 +148,9 @@ fn by_fillings(
     };
     let mut from: usize = 0;
     while from < dbm.len() {
-        let left = samples::halve(samples, rate, held);
+        let left = receiver_samples::halve(samples, rate, held);
         base = base + ((held - left) as u64);
-        let n = samples::fill(samples, rate, left, dbm, from);
+        let n = receiver_samples::fill(samples, rate, left, dbm, from);
         held = left + n;
         unscanned = unscanned + n;
         from = from + n;
@@ -193,7 +193,7 @@ pub fn hear_all(
     let held = s.held;
     let starts = s.starts;
     let waiting = s.waiting;
-    let t = scan::scan(
+    let t = receiver_scan::scan(
         &samples[..held],
         s.rate,
         s.base,

@@ -12,9 +12,9 @@ use lib.ListN.{length}
 use lib.Ieee.{Float}
 use Rattle.order.proofs.Rank.{less-or-not}
 use Rattle.cfo.specs.Cfo.{roundHz}
-use Rattle.lists.specs.Lists.{lastOr}
-use Rattle.lists.specs.Marks.{retained}
-use Rattle.measure.specs.Measured.{median, near, inside, firstOf, pastOf}
+use Rattle.frequency_lists.specs.Lists.{lastOr}
+use Rattle.frequency_lists.specs.Marks.{retained}
+use Rattle.frequency_measure.specs.Measured.{median, near, inside, firstOf, pastOf}
 use Rattle.record.specs.declared.FrameSpan.{FrameSpan}
 use Rattle.register_error.specs.Bound.{RawReading, Pairwise, end, next, ReadTwice, U32, inFrame, againstLast, frame1Readings, distance, asked, least, Bound, StreamBound, Claims}
 use Rattle.register_error.proofs.Negative.{Rounds, rounds, negative-rounds}

@@ -9,14 +9,14 @@ use lib.ListN.{length}
 use lib.Ieee.{Float}
 use Rattle.limits.specs.Answer.{accepted, answer}
 use Rattle.cfo.specs.Cfo.{readingHz}
-use Rattle.signal.specs.Seconds.{settling, kept as within}
-use Rattle.signal.specs.Heard.{heard}
-use Rattle.lists.specs.Lists.{Reading, Tuning, cfoEvery, lastOr, readingsFrom}
-use Rattle.lists.specs.Marks.{retained}
-use Rattle.lists.proofs.Gather.{map-retained}
-use Rattle.measure.specs.Measured.{readingsOf, frame1}
-use Rattle.measure.specs.declared.Frequency.{Frequency}
-use Rattle.measure.specs.declared.Frequency.the-variants.{Hz}
+use Rattle.frequency_signal.specs.Seconds.{settling, kept as within}
+use Rattle.frequency_signal.specs.Heard.{heard}
+use Rattle.frequency_lists.specs.Lists.{Reading, Tuning, cfoEvery, lastOr, readingsFrom}
+use Rattle.frequency_lists.specs.Marks.{retained}
+use Rattle.frequency_lists.proofs.Gather.{map-retained}
+use Rattle.frequency_measure.specs.Measured.{readingsOf, frame1}
+use Rattle.frequency_measure.specs.declared.Frequency.{Frequency}
+use Rattle.frequency_measure.specs.declared.Frequency.the-variants.{Hz}
 use Rattle.record.specs.declared.FrameSpan.{FrameSpan}
 use Rattle.record.specs.Spans.{spansOk}
 use Rattle.frequency.specs.declared.FrequencyTracker.{FrequencyTracker}

@@ -11,10 +11,10 @@ use Rattle.floats.specs.Trig.{magnitude}
 use Rattle.order.specs.Order.{place, key, kth}
 use Rattle.order.specs.Sorted.{insert, sorted}
 use Rattle.cfo.specs.Cfo.{signed, readingHz, roundHz}
-use Rattle.lists.specs.Lists.{lastOr}
-use Rattle.lists.specs.Marks.{retained}
-use Rattle.measure.specs.Measured.{median, frame1}
-use Rattle.measure.specs.declared.Frequency.the-variants.{Hz}
+use Rattle.frequency_lists.specs.Lists.{lastOr}
+use Rattle.frequency_lists.specs.Marks.{retained}
+use Rattle.frequency_measure.specs.Measured.{median, frame1}
+use Rattle.frequency_measure.specs.declared.Frequency.the-variants.{Hz}
 use Rattle.register_error.specs.Bound.{RawReading, readingOf, distance, Corresponding, end, next, ReadTwice, frame1Readings, Answers, least, Bound}
 use Rattle.register_error.specs.Examples.{onAir, readAt, readings, steady, stepOff, lowest, highest, Instance, Examples}
 

@@ -9,13 +9,13 @@ use lib.Dec.{leb, eqb}
 use lib.ListN.{length, length-map}
 use lib.Ieee.{Float}
 use Rattle.cfo.specs.Cfo.{roundHz}
-use Rattle.lists.specs.Lists.{Reading, lastOr}
-use Rattle.lists.specs.Marks.{retained}
-use Rattle.measure.specs.Measured.{fewest, median, inside, firstOf, pastOf, pickMeasured, pickFrequency, near, frameOf, frameFrequency, direct, ofRank}
-use Rattle.measure.specs.declared.Frequency.{Frequency}
-use Rattle.measure.specs.declared.Frequency.the-variants.{Nothing, Hz}
-use Rattle.measure.specs.declared.Measured.{Measured}
-use Rattle.measure.specs.declared.Measured.the-variants.{Unmeasured, Found}
+use Rattle.frequency_lists.specs.Lists.{Reading, lastOr}
+use Rattle.frequency_lists.specs.Marks.{retained}
+use Rattle.frequency_measure.specs.Measured.{fewest, median, inside, firstOf, pastOf, pickMeasured, pickFrequency, near, frameOf, frameFrequency, direct, ofRank}
+use Rattle.frequency_measure.specs.declared.Frequency.{Frequency}
+use Rattle.frequency_measure.specs.declared.Frequency.the-variants.{Nothing, Hz}
+use Rattle.frequency_measure.specs.declared.Measured.{Measured}
+use Rattle.frequency_measure.specs.declared.Measured.the-variants.{Unmeasured, Found}
 use Rattle.record.specs.declared.FrameSpan.{FrameSpan}
 use Rattle.register_error.specs.Bound.{RawReading, readingOf, inFrame, againstLast, frame1Readings, Answers}
 use Rattle.register_error.proofs.Medians.{hz}

@@ -16,7 +16,7 @@ use Rattle.order.specs.Sorted.{sorted, below}
 use Rattle.order.proofs.Rank.{All, all-at, sorted-all, length-sorted, selected, below-all, below-zero, less-or-not}
 use Rattle.order.proofs.Places.{key-lt}
 use Rattle.cfo.specs.Cfo.{signed, readingHz}
-use Rattle.measure.specs.Measured.{median}
+use Rattle.frequency_measure.specs.Measured.{median}
 use Rattle.register_error.specs.Bound.{RawReading, step, Pairwise, end, next}
 use Rattle.register_error.proofs.Readings.{At, at-order, place, Small, signed-small, reading-at, reading-fits, moved, apart}
 

@@ -18,7 +18,7 @@ use Rattle.rates.proofs.Opposed.{sub-under}
 use Rattle.rates.proofs.Between.{Lies, rounded, whole-lies, minus-lies, up-to-whole}
 use Rattle.limits.proofs.Samples.{and-left, and-right}
 use Rattle.order.proofs.Rank.{less-or-not}
-use Rattle.measure.specs.Measured.{near, maxOffsetHz}
+use Rattle.frequency_measure.specs.Measured.{near, maxOffsetHz}
 use Rattle.register_error.specs.Bound.{least}
 use Rattle.register_error.proofs.Readings.{spread, place, Small, by-denominator}
 

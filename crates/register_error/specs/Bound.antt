@@ -9,10 +9,10 @@ use lib.IntN.{ℤ, pos, _-ℤ_, natAbs}
 use lib.Ieee.{Float}
 use Rattle.floats.specs.Number.{near}
 use Rattle.cfo.specs.Cfo.{signed, readingHz}
-use Rattle.lists.specs.Lists.{Reading, lastOr}
-use Rattle.lists.specs.Marks.{retained}
-use Rattle.measure.specs.Measured.{firstOf, pastOf, inside, direct, ofRank, frame1}
-use Rattle.measure.specs.declared.Frequency.the-variants.{Hz}
+use Rattle.frequency_lists.specs.Lists.{Reading, lastOr}
+use Rattle.frequency_lists.specs.Marks.{retained}
+use Rattle.frequency_measure.specs.Measured.{firstOf, pastOf, inside, direct, ofRank, frame1}
+use Rattle.frequency_measure.specs.declared.Frequency.the-variants.{Hz}
 use Rattle.record.specs.declared.FrameSpan.{FrameSpan}
 
 -- ---- register values, and the readings in Hz that `cfo` makes of them

@@ -6,10 +6,10 @@ use mathlib.Core.List.{List, [], _∷_, _++_, map}
 use lib.Dec.{ltb}
 use lib.ListN.{length}
 use lib.Ieee.{Float}
-use Rattle.signal.specs.Seconds.{settling, kept}
-use Rattle.signal.specs.Heard.{heard}
-use Rattle.lists.specs.Lists.{Tuning, cfoEvery, lastOr}
-use Rattle.lists.specs.Marks.{retained}
+use Rattle.frequency_signal.specs.Seconds.{settling, kept}
+use Rattle.frequency_signal.specs.Heard.{heard}
+use Rattle.frequency_lists.specs.Lists.{Tuning, cfoEvery, lastOr}
+use Rattle.frequency_lists.specs.Marks.{retained}
 use Rattle.record.specs.declared.FrameSpan.{FrameSpan}
 use Rattle.frequency.specs.declared.FrequencyTracker.{FrequencyTracker}
 use Rattle.frequency.specs.declared.Frame1.the-variants as first

@@ -13,7 +13,7 @@ fn print_answer(answer: u8, out: &mut [u8; 120]) -> bool {
         return replay::print_refusal(answer);
     }
     replay::print(b"0 ");
-    records::print_record(out);
+    replay_records::print_record(out);
     replay::print_end()
 }
 

@@ -18,7 +18,7 @@ fn print_frame(d: DecodedFrame) -> bool {
         start: 0,
     };
     record::put_frame(found, clock, &mut out, 0);
-    records::print_record(&mut out);
+    replay_records::print_record(&mut out);
     replay::print(b" ");
     replay::print_f64(d.time);
     replay::print(b" ");

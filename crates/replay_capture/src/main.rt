@@ -7,7 +7,7 @@ fn print_records(count: usize, events: &mut [u8; 30720]) -> bool {
     replay::print(b"C ");
     replay::print_number(count as u64);
     replay::print_end();
-    records::print_records(events, count)
+    replay_records::print_records(events, count)
 }
 
 fn floor_of(head: &[u8; 17]) -> Floor {

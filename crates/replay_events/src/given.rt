@@ -3,13 +3,13 @@ ghost use Prim.Native.Nat.{_<_};
 use frame::SingleBit;
 use ledger::Pending;
 use receiver::SigfoxReceiver;
+use receiver_starts::Starts;
+use receiver_waiting::Waiting;
 use record::FirstFrameEnd;
 use record::FrameSpan;
 use record::NO_RANK;
 use record::SigfoxMessage;
 use record::read;
-use starts::Starts;
-use waiting::Waiting;
 
 // A state, and whether the input had all of it.
 pub struct Given {
@@ -151,7 +151,7 @@ fn read_waiting(waiting: Waiting) -> GivenWaiting {
         let a = replay::read_part(&mut r);
         let b = replay::read_part(&mut part);
         whole = whole & (a & b);
-        if i < waiting::OPEN_PLACES {
+        if i < receiver_waiting::OPEN_PLACES {
             let message = message_of(&r);
             t.messages[i] = Pending {
                 message,

@@ -1,13 +1,13 @@
 // The lines of a call.
 use ledger::Pending;
 use receiver::SigfoxReceiver;
-use starts::Starts;
-use waiting::Waiting;
+use receiver_starts::Starts;
+use receiver_waiting::Waiting;
 
 fn print_starts(s: Starts) {
     let n = s.count;
     let mut i: usize = 0;
-    while i < starts::MOST_STARTS {
+    while i < receiver_starts::MOST_STARTS {
         if i == n {
             return;
         }
@@ -31,7 +31,7 @@ fn print_message(p: Pending) {
 fn print_waiting(w: Waiting) {
     let n = w.count;
     let mut i: usize = 0;
-    while i < waiting::OPEN_PLACES {
+    while i < receiver_waiting::OPEN_PLACES {
         if i == n {
             return;
         }
@@ -73,6 +73,6 @@ pub fn print_answer(
     replay::print(name);
     print_field(count as u64);
     replay::print_end();
-    records::print_records(events, count);
+    replay_records::print_records(events, count);
     print_state(r)
 }

@@ -4,7 +4,7 @@ use cfo::StepHz;
 use coding::Coded;
 use frame::control::ControlMessage;
 use frame::header::UplinkHeader;
-use message::Estimated;
+use receiver_message::Estimated;
 use record::FirstFrameEnd;
 use replay::Head;
 
@@ -85,7 +85,7 @@ fn uplink_header_row() -> bool {
     }
     let n = kept.count;
     let header = frame::header::uplink_header(
-        records::uplinks::fields_of(&head),
+        replay_records::uplinks::fields_of(&head),
         &payload[..n],
         &mut out,
     );
@@ -239,12 +239,12 @@ fn estimate_first_frame_end_row() -> bool {
     if !replay::read_part(&mut part) {
         return replay::print_short();
     }
-    let spans = records::spans::read_spans(part[0]);
+    let spans = replay_records::spans::read_spans(part[0]);
     if !spans.whole {
         return replay::print_short();
     }
     let three = spans.three;
-    match message::estimate_first_frame_end(three) {
+    match receiver_message::estimate_first_frame_end(three) {
         Estimated::Refused(n) => replay::print_refusal(n),
         Estimated::End(e) => print_first_frame_end(e),
     }

@@ -1,10 +1,10 @@
 // A tracker that is handed in: every field, the lists with lengths of their own, and the length of the scratch.
 use frequency::FrequencyTracker;
-use measure::Frequency;
+use frequency_measure::Frequency;
+use frequency_signal::Floor;
+use frequency_signal::Sample;
+use frequency_signal::Signal;
 use replay::Kept;
-use signal::Floor;
-use signal::Sample;
-use signal::Signal;
 
 // The length of each list that is lent, and of the scratch.
 pub struct Lengths {

@@ -3,9 +3,9 @@ use frequency::Frame1;
 use frequency::FrameFrequency;
 use frequency::Freq;
 use frequency::FrequencyTracker;
-use measure::Frequency;
-use signal::Floor;
-use signal::Sample;
+use frequency_measure::Frequency;
+use frequency_signal::Floor;
+use frequency_signal::Sample;
 
 fn print_frequency(f: Frequency) {
     match f {

@@ -15,9 +15,9 @@ use crate::lines::print_readings;
 use crate::lines::print_samples;
 use crate::lines::print_tuned;
 use frequency::FrequencyTracker;
-use records::spans::read_spans;
-use records::spans::span_of;
 use replay::Head;
+use replay_records::spans::read_spans;
+use replay_records::spans::span_of;
 
 // The program's places for readings and for tunings.
 const READINGS: usize = 8000;

@@ -68,7 +68,7 @@ fn case(head: &[u8; 8]) -> bool {
     let n = p.count;
     let m = a.count;
     write_into(
-        records::uplinks::fields_of(head),
+        replay_records::uplinks::fields_of(head),
         &payload[..n],
         &auth[..m],
         &mut out,

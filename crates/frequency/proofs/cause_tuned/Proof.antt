@@ -2,7 +2,7 @@
 use Rattle.frequency.proofs.Ordered.{ordered-t}
 use Rattle.frequency.proofs.Choices.{chosen, passed}
 use Rattle.frequency.specs.Order.{causeTuned, dueOf}
-use Rattle.lists.specs.Lists.{fitsTunings}
+use Rattle.frequency_lists.specs.Lists.{fitsTunings}
 use Prim.Native.Nat.{_+_}
 use mathlib.Core.Bool.{Bool, not, _&&_}
 use mathlib.Core.Path.{sym, ap, _∙_}

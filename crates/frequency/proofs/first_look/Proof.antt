@@ -1,5 +1,5 @@
 -- `frequency::first_look` meets its contract. Assumes nothing.
-use Rattle.retain.specs.Retain.{Looked}
+use Rattle.frequency_retain.specs.Retain.{Looked}
 use Rattle.frequency.specs.Order.{ahead}
 use mathlib.Core.Bool.{true, false}
 use mathlib.Core.Path.{_≡_, subst}

@@ -1,8 +1,8 @@
 -- `frequency::FrequencyTracker::cfo` meets its contract. Assumes nothing.
 use Rattle.frequency.proofs.Listened.{fine, last-upto, cfo-state, cfo-lists}
 use Rattle.frequency.specs.Lent.{lists}
-use Rattle.lists.specs.Columns.{Appended}
-use Rattle.lists.specs.Lists.{lastOr, readingsFrom}
+use Rattle.frequency_lists.specs.Columns.{Appended}
+use Rattle.frequency_lists.specs.Lists.{lastOr, readingsFrom}
 use Rattle.limits.specs.Limits.{longestStream}
 use lib.ListN.{take}
 use lib.Dec.{ltb}

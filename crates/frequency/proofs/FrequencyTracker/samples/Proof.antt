@@ -2,10 +2,10 @@
 use Rattle.frequency.proofs.Sampled.{made, fine, sampled-state, sampled-lists}
 use Rattle.frequency.proofs.Ordered.{counts-of, held-of, held-tunings}
 use Rattle.frequency.specs.Lent.{lists}
-use Rattle.retain.specs.Retain.{stays, Leads, Compacted, CompactedTunings}
-use Rattle.signal.proofs.Hearing.{heard-n}
-use Rattle.signal.specs.Seconds.{kept, oldestOf}
-use Rattle.signal.specs.declared.Signal.{Signal}
+use Rattle.frequency_retain.specs.Retain.{stays, Leads, Compacted, CompactedTunings}
+use Rattle.frequency_signal.proofs.Hearing.{heard-n}
+use Rattle.frequency_signal.specs.Seconds.{kept, oldestOf}
+use Rattle.frequency_signal.specs.declared.Signal.{Signal}
 use Rattle.limits.specs.Limits.{longestStream}
 use lib.ListN.{take}
 use Prim.Native.Nat.{ℕ, _≤_}

@@ -1,8 +1,8 @@
 -- `frequency::FrequencyTracker::tuned` meets its contract. Assumes nothing.
 use Rattle.frequency.proofs.Tuned.{fine, made, tuned-state, tuned-lists}
 use Rattle.frequency.specs.Order.{dueOf}
-use Rattle.measure.specs.declared.Frequency.{Frequency}
-use Rattle.lists.specs.Columns.{PutTuning}
+use Rattle.frequency_measure.specs.declared.Frequency.{Frequency}
+use Rattle.frequency_lists.specs.Columns.{PutTuning}
 use mathlib.Core.Bool.{Bool}
 use mathlib.Core.Path.{refl, sym, ap, _∙_, subst}
 use native.Mathlib.Omega.{arith}

@@ -5,7 +5,7 @@ use lib.ListN.{length}
 use borrow.Author.Needs.{needs}
 use Rattle.ledger.specs.Room.{openPlaces}
 use Rattle.ledger.specs.Ledger.{flush}
-use Rattle.message.proofs.SpanLaws.{length-mapped}
+use Rattle.receiver_message.proofs.SpanLaws.{length-mapped}
 use Rattle.receiver.specs.Calls.{Memory, refusalOf}
 use Rattle.receiver.specs.Running.{Passes}
 use Rattle.receiver.proofs.AnswerLaws.{passes, answered-no, answered-yes}

@@ -6,7 +6,7 @@ use lib.ListN.{length, length-map}
 use borrow.Author.Needs.{needs}
 use Rattle.ledger.specs.Room.{openPlaces}
 use Rattle.ledger.specs.Ledger.{pushRaw, dbmOf}
-use Rattle.message.proofs.SpanLaws.{length-mapped}
+use Rattle.receiver_message.proofs.SpanLaws.{length-mapped}
 use Rattle.receiver.specs.Calls.{Memory, refusalOf}
 use Rattle.receiver.specs.Running.{Passes}
 use Rattle.receiver.proofs.AnswerLaws.{passes, scratch-long, answered-no, answered-yes, raw-taken, raw-fits}
@@ -16,7 +16,7 @@ use Rattle.receiver.proofs.SigfoxReceiver.push_raw.Reads as reads
 use Rattle.receiver.proofs.SigfoxReceiver.push_raw.Lts as lts
 use Rattle.receiver.proofs.push_raw_cause.Reads as push-raw-cause-reads
 use Rattle.receiver.proofs.run.hear.Reads as hear-reads
-use Rattle.samples.proofs.dbm_of_all.Reads as dbm-of-all-reads
+use Rattle.receiver_samples.proofs.dbm_of_all.Reads as dbm-of-all-reads
 
 -- what is known at the entry
 abbrev Entry : Type 0

@@ -13,8 +13,8 @@ use Rattle.receiver.proofs.run.by_fillings.Tie as tie
 use Rattle.receiver.proofs.run.by_fillings.Reads as reads
 use Rattle.receiver.proofs.run.by_fillings.Lts as lts
 use Rattle.receiver.proofs.run.scan_tail.Reads as scan-tail-reads
-use Rattle.samples.proofs.fill.Reads as fill-reads
-use Rattle.samples.proofs.halve.Reads as halve-reads
+use Rattle.receiver_samples.proofs.fill.Reads as fill-reads
+use Rattle.receiver_samples.proofs.halve.Reads as halve-reads
 use Rattle.receiver.proofs.run.finish.Reads as finish-reads
 
 abbrev Inv-loop : tie.InvT-loop

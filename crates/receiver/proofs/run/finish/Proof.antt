@@ -1,5 +1,5 @@
 -- `receiver::run::finish` meets its contract. Assumes nothing.
-use Rattle.closing.proofs.WrittenLaws.{records-behind}
+use Rattle.receiver_closing.proofs.WrittenLaws.{records-behind}
 use Rattle.receiver.proofs.RunLaws.{ended}
 use borrow.Author.Needs.{needs}
 use Rattle.receiver.proofs.run.finish.Statement.{statement}

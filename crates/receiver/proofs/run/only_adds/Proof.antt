@@ -3,7 +3,7 @@ use mathlib.Core.Path.{_≡_, _∙_, refl, sym}
 use Prim.Native.Nat.{ℕ}
 use native.Mathlib.Omega.{arith}
 use borrow.Author.Needs.{needs}
-use Rattle.waiting.specs.Waiting.{anyExpires}
+use Rattle.receiver_waiting.specs.Waiting.{anyExpires}
 use Rattle.receiver.proofs.StateLaws.{not-true}
 use Rattle.receiver.proofs.run.only_adds.Statement.{statement}
 use Rattle.receiver.proofs.run.only_adds.Tie as tie
