@@ -32,12 +32,27 @@ badNumber = 9
 abbrev pub badUplink : ℕ
 badUplink = 10
 
+-- 02, request 03: a start second, windows or closed dates as they must not be
+abbrev pub badShifts : ℕ
+badShifts = 11
+
 -- 02, request 09: bytes that are no whole event records, each a frame or a message as it must be; a 257th device
 abbrev pub badRecords : ℕ
 badRecords = 12
 
 abbrev pub manyDevices : ℕ
 manyDevices = 13
+
+-- 02, request 11: a time or distance that is no finite number, or a negative distance
+abbrev pub badTime : ℕ
+badTime = 14
+
+-- 02, request 13: a plan or a month's start as it must not be; a message outside the month
+abbrev pub badPlan : ℕ
+badPlan = 15
+
+abbrev pub outsideMonth : ℕ
+outsideMonth = 16
 
 -- rate not 200 to 4,000
 abbrev pub lowestRate : ℕ

@@ -27,11 +27,23 @@ pub const BAD_NUMBER: u8 = 9;
 // An uplink that no frame carries (02, request 01).
 pub const BAD_UPLINK: u8 = 10;
 
+// A start second, windows or closed dates as they must not be (02, request 03).
+pub const BAD_SHIFTS: u8 = 11;
+
 // Bytes that are no whole event records, each a frame or a message as it must be (02, request 09).
 pub const BAD_RECORDS: u8 = 12;
 
 // A 257th device (02, request 09).
 pub const MANY_DEVICES: u8 = 13;
+
+// A time or distance that is no finite number, or a negative distance (02, request 11).
+pub const BAD_TIME: u8 = 14;
+
+// A plan or a month's start as it must not be (02, request 13).
+pub const BAD_PLAN: u8 = 15;
+
+// A message outside the month (02, request 13).
+pub const OUTSIDE_MONTH: u8 = 16;
 
 // Samples per second.
 pub const LOWEST_RATE: u32 = 200;
