@@ -8,6 +8,7 @@ use mathlib.Core.Path.{_≡_}
 use mathlib.Core.List.{List, [], _∷_, map}
 use Prim.Native.Nat.{ℕ}
 use lib.Ieee.{Float}
+use Rattle.shifts.specs.Shifts.{markBy}
 use Rattle.ledger.specs.Ledger.{byFrames, Demod, Ledger, fresh}
 use Rattle.ledger.specs.Causes.{Attempt, number, afterCall, callEvents}
 use Rattle.ledger.specs.Demodulation.{demodOf}
@@ -19,11 +20,11 @@ use Rattle.history.specs.Runs.{Exchange, Port, memoryOf, portAfter, Run,
 
 -- ---- what is said of each call
 
--- the records of 01's ledger, call by call, as bytes
+-- the records of 01's ledger, call by call, as bytes, each message with its mark (02, request 03)
 unfoldable pub ledgerRecords : ℕ → Demod → Ledger byFrames → List Attempt → List (List (List ℕ))
 ledgerRecords rate d l [] = []
 ledgerRecords rate d l (a ∷ cs) =
-    map recordOf (callEvents rate d l (a .call) (number rate l a)) ∷ ledgerRecords rate d (afterCall rate d l (a .call) (number rate l a)) cs
+    map (recordOf (markBy (a .schedule))) (callEvents rate d l (a .call) (number rate l a)) ∷ ledgerRecords rate d (afterCall rate d l (a .call) (number rate l a)) cs
 
 -- "A refused call changes nothing": neither the state nor anything lent, scratch included
 pub record Untouched (p : Port) (x : Exchange) : Type 0 where
