@@ -7,6 +7,7 @@ use crate::lines::print_answer;
 use receiver::Received;
 use receiver::SigfoxReceiver;
 use replay::Head;
+use shifts::Shifts;
 
 // Between two calls: whether there may be another one, how many there were, and the receiver.
 struct State {
@@ -55,7 +56,17 @@ fn push(
     }
     let n = kept.count;
     let receiver = s.receiver;
-    let r = receiver.push(&dbm[..n], samples, events, scratch32, scratch64);
+    let shifts = Shifts::none();
+    let closed = [0u32; 0];
+    let r = receiver.push(
+        &dbm[..n],
+        shifts,
+        &closed,
+        samples,
+        events,
+        scratch32,
+        scratch64,
+    );
     after(s, b"push", r, events)
 }
 
@@ -73,7 +84,17 @@ fn push_raw(
     }
     let n = kept.count;
     let receiver = s.receiver;
-    let r = receiver.push_raw(&raw[..n], samples, events, scratch32, scratch64);
+    let shifts = Shifts::none();
+    let closed = [0u32; 0];
+    let r = receiver.push_raw(
+        &raw[..n],
+        shifts,
+        &closed,
+        samples,
+        events,
+        scratch32,
+        scratch64,
+    );
     after(s, b"push_raw", r, events)
 }
 
@@ -85,7 +106,9 @@ fn flush(
     scratch64: &mut [f64; 3000],
 ) -> State {
     let receiver = s.receiver;
-    let r = receiver.flush(samples, events, scratch32, scratch64);
+    let shifts = Shifts::none();
+    let closed = [0u32; 0];
+    let r = receiver.flush(shifts, &closed, samples, events, scratch32, scratch64);
     after(s, b"flush", r, events)
 }
 
