@@ -5,6 +5,7 @@ use libc::STDERR_FILENO;
 use libc::STDOUT_FILENO;
 use reading::Fetched;
 use receiver::SigfoxReceiver;
+use shifts::Shifts;
 
 // Samples per second.
 const RATE: u32 = 1000;
@@ -75,6 +76,8 @@ fn hear(
     input: &[u8],
     from: usize,
     end: usize,
+    shifts: Shifts,
+    closed: &[u32],
     samples: &mut [f32; 12000],
     events: &mut [u8; 30720],
     scratch32: &mut [f32; 12000],
@@ -90,7 +93,15 @@ fn hear(
         let at = RECORD * i;
         let to = at + RAW;
         i += 1;
-        let r = receiver.push_raw(&input[at..to], samples, events, scratch32, scratch64);
+        let r = receiver.push_raw(
+            &input[at..to],
+            shifts,
+            closed,
+            samples,
+            events,
+            scratch32,
+            scratch64,
+        );
         let next = r.receiver;
         receiver = next;
         going = write_events(r.refused, r.count, events);
@@ -117,6 +128,8 @@ fn fail(s: Stream) -> Stream
 fn turn(
     s: Stream,
     input: &mut [u8; 4096],
+    shifts: Shifts,
+    closed: &[u32],
     samples: &mut [f32; 12000],
     events: &mut [u8; 30720],
     scratch32: &mut [f32; 12000],
@@ -131,7 +144,18 @@ fn turn(
         return fail(s);
     };
     let end = from + n;
-    let mut m = hear(s, input, from, end, samples, events, scratch32, scratch64);
+    let mut m = hear(
+        s,
+        input,
+        from,
+        end,
+        shifts,
+        closed,
+        samples,
+        events,
+        scratch32,
+        scratch64,
+    );
     m.filled = end % BUFFER;
     m.more = m.going & (0 < n);
     m
@@ -150,6 +174,8 @@ fn print_leftover(n: usize) {
 // The last call, and its records; nothing after a refusal.
 fn finish(
     s: Stream,
+    shifts: Shifts,
+    closed: &[u32],
     samples: &mut [f32; 12000],
     events: &mut [u8; 30720],
     scratch32: &mut [f32; 12000],
@@ -157,7 +183,7 @@ fn finish(
 ) {
     if s.going {
         let receiver = s.receiver;
-        let r = receiver.flush(samples, events, scratch32, scratch64);
+        let r = receiver.flush(shifts, closed, samples, events, scratch32, scratch64);
         write_events(r.refused, r.count, events);
         print_leftover(s.filled % RECORD);
     }
@@ -169,12 +195,16 @@ fn main() {
     let mut events = [0u8; 30720];
     let mut scratch32 = [0.0f32; 12000];
     let mut scratch64 = [0.0f64; 3000];
+    let shifts = Shifts::none();
+    let closed = [0u32; 0];
     let mut s = fresh();
     let mut left = MOST_READS;
     while left > 0 && s.more {
         s = turn(
             s,
             &mut input,
+            shifts,
+            &closed,
             &mut samples,
             &mut events,
             &mut scratch32,
@@ -182,5 +212,13 @@ fn main() {
         );
         left -= 1;
     }
-    finish(s, &mut samples, &mut events, &mut scratch32, &mut scratch64);
+    finish(
+        s,
+        shifts,
+        &closed,
+        &mut samples,
+        &mut events,
+        &mut scratch32,
+        &mut scratch64,
+    );
 }

@@ -5,10 +5,10 @@ use Rattle.events.proofs.main.Statement.{statement}
 use Rattle.events.proofs.main.Tie as tie
 
 abbrev Inv-loop : tie.InvT-loop
-Inv-loop input₀ samples₀ events₀ scratch32₀ scratch64₀ s₀ left₀ input samples events scratch32 scratch64 s left = (s .filled) < 4096
+Inv-loop input₀ samples₀ events₀ scratch32₀ scratch64₀ shifts closed s₀ left₀ input samples events scratch32 scratch64 s left = (s .filled) < 4096
 
 abbrev μ-loop : tie.MeasureT-loop
-μ-loop input₀ samples₀ events₀ scratch32₀ scratch64₀ s₀ left₀ input samples events scratch32 scratch64 s left = left
+μ-loop input₀ samples₀ events₀ scratch32₀ scratch64₀ shifts closed s₀ left₀ input samples events scratch32 scratch64 s left = left
 
 fresh-requires : tie.Need-fresh-requires Inv-loop μ-loop
 fresh-requires c κs = search needs

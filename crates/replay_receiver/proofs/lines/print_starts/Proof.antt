@@ -1,8 +1,8 @@
--- `replay_events::lines::print_starts` meets its contract: the places are counted up. Assumes nothing.
+-- `replay_receiver::lines::print_starts` meets its contract: the places are counted up. Assumes nothing.
 use Prim.Native.Nat.{_-_}
 use borrow.Author.Needs.{needs}
-use Rattle.replay_events.proofs.lines.print_starts.Statement.{statement}
-use Rattle.replay_events.proofs.lines.print_starts.Tie as tie
+use Rattle.replay_receiver.proofs.lines.print_starts.Statement.{statement}
+use Rattle.replay_receiver.proofs.lines.print_starts.Tie as tie
 
 abbrev Inv-loop : tie.InvT-loop
 Inv-loop s n i₀ t5 i = Unit

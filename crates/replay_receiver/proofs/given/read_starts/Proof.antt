@@ -1,8 +1,8 @@
--- `replay_events::given::read_waiting` meets its contract: the messages are counted up. Assumes nothing.
+-- `replay_receiver::given::read_starts` meets its contract: the starts are counted up. Assumes nothing.
 use Prim.Native.Nat.{_-_}
 use borrow.Author.Needs.{needs}
-use Rattle.replay_events.proofs.given.read_waiting.Statement.{statement}
-use Rattle.replay_events.proofs.given.read_waiting.Tie as tie
+use Rattle.replay_receiver.proofs.given.read_starts.Statement.{statement}
+use Rattle.replay_receiver.proofs.given.read_starts.Tie as tie
 
 abbrev Inv-loop : tie.InvT-loop
 Inv-loop whole₀ n t₀ i₀ whole t i = Unit
@@ -31,26 +31,17 @@ slice-aggregate-read-part-2 c = search needs
 read-part-requires-2 : tie.Need-read-part-requires-2 Inv-loop μ-loop
 read-part-requires-2 c κs = search needs
 
-slice-aggregate-read-part-3 : tie.Need-slice-aggregate-read-part-3 Inv-loop μ-loop
-slice-aggregate-read-part-3 c = search needs
+slice-aggregate-get-u64 : tie.Need-slice-aggregate-get-u64 Inv-loop μ-loop
+slice-aggregate-get-u64 c = search needs
 
-read-part-requires-3 : tie.Need-read-part-requires-3 Inv-loop μ-loop
-read-part-requires-3 c κs = search needs
+get-u64-requires : tie.Need-get-u64-requires Inv-loop μ-loop
+get-u64-requires c κs = search needs
 
-message-of-requires : tie.Need-message-of-requires Inv-loop μ-loop
-message-of-requires c κs = search needs
+mul-t : tie.Need-mul-t Inv-loop μ-loop
+mul-t c = search needs
 
-slice-aggregate-get-f64 : tie.Need-slice-aggregate-get-f64 Inv-loop μ-loop
-slice-aggregate-get-f64 c = search needs
-
-get-f64-requires : tie.Need-get-f64-requires Inv-loop μ-loop
-get-f64-requires c κs = search needs
-
-mul-t27 : tie.Need-mul-t27 Inv-loop μ-loop
-mul-t27 c = search needs
-
-element-set-from-t : tie.Need-element-set-from-t Inv-loop μ-loop
-element-set-from-t c = search needs
+element-write-t : tie.Need-element-write-t Inv-loop μ-loop
+element-write-t c = search needs
 
 add-i : tie.Need-add-i Inv-loop μ-loop
 add-i c = search needs
@@ -64,8 +55,8 @@ loop-again c = search needs
 returns : tie.Need-returns Inv-loop μ-loop
 returns c = search needs
 
-pub read-waiting-spec : {M : Type 1} → statement M
-read-waiting-spec =
+pub read-starts-spec : {M : Type 1} → statement M
+read-starts-spec =
     tie.close
     (tie.spec
     Inv-loop
@@ -77,13 +68,10 @@ read-waiting-spec =
     loop-holds
     slice-aggregate-read-part-2
     read-part-requires-2
-    slice-aggregate-read-part-3
-    read-part-requires-3
-    message-of-requires
-    slice-aggregate-get-f64
-    get-f64-requires
-    mul-t27
-    element-set-from-t
+    slice-aggregate-get-u64
+    get-u64-requires
+    mul-t
+    element-write-t
     add-i
     loop-less
     loop-again

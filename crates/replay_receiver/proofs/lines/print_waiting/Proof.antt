@@ -1,9 +1,9 @@
--- `replay_events::lines::print_waiting` meets its contract: the places are counted up. Assumes nothing.
+-- `replay_receiver::lines::print_waiting` meets its contract: the places are counted up. Assumes nothing.
 use Prim.Native.Nat.{_-_}
 use borrow.Author.Needs.{needs}
 use Rattle.ledger.specs.Room.{openPlaces}
-use Rattle.replay_events.proofs.lines.print_waiting.Statement.{statement}
-use Rattle.replay_events.proofs.lines.print_waiting.Tie as tie
+use Rattle.replay_receiver.proofs.lines.print_waiting.Statement.{statement}
+use Rattle.replay_receiver.proofs.lines.print_waiting.Tie as tie
 
 abbrev Inv-loop : tie.InvT-loop
 Inv-loop w n i₀ i = Unit

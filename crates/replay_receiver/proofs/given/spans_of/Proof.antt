@@ -1,8 +1,8 @@
--- `replay_events::given::spans_of` meets its contract: of the spans looked at, at most all are taken. Assumes nothing.
+-- `replay_receiver::given::spans_of` meets its contract: of the spans looked at, at most all are taken. Assumes nothing.
 use Prim.Native.Nat.{_-_, _≤_}
 use borrow.Author.Needs.{needs}
-use Rattle.replay_events.proofs.given.spans_of.Statement.{statement}
-use Rattle.replay_events.proofs.given.spans_of.Tie as tie
+use Rattle.replay_receiver.proofs.given.spans_of.Statement.{statement}
+use Rattle.replay_receiver.proofs.given.spans_of.Tie as tie
 
 abbrev Inv-loop : tie.InvT-loop
 Inv-loop r spans₀ n₀ i₀ spans n i = (i ≤ 3) × (n ≤ i)

@@ -1,13 +1,13 @@
--- `replay_events::main` meets its contract: the calls are counted down. Assumes nothing.
+-- `replay_receiver::run` meets its contract: the calls are counted down. Assumes nothing.
 use borrow.Author.Needs.{needs}
-use Rattle.replay_events.proofs.main.Statement.{statement}
-use Rattle.replay_events.proofs.main.Tie as tie
+use Rattle.replay_receiver.proofs.run.Statement.{statement}
+use Rattle.replay_receiver.proofs.run.Tie as tie
 
 abbrev Inv-loop : tie.InvT-loop
-Inv-loop samples₀ events₀ scratch32₀ scratch64₀ s₀ left₀ samples events scratch32 scratch64 s left = Unit
+Inv-loop shifted samples₀ events₀ scratch32₀ scratch64₀ s₀ left₀ samples events scratch32 scratch64 s left = Unit
 
 abbrev μ-loop : tie.MeasureT-loop
-μ-loop samples₀ events₀ scratch32₀ scratch64₀ s₀ left₀ samples events scratch32 scratch64 s left = left
+μ-loop shifted samples₀ events₀ scratch32₀ scratch64₀ s₀ left₀ samples events scratch32 scratch64 s left = left
 
 start-requires : tie.Need-start-requires Inv-loop μ-loop
 start-requires c κs = search needs
@@ -33,8 +33,8 @@ loop-again c = search needs
 returns-2 : tie.Need-returns-2 Inv-loop μ-loop
 returns-2 c = search needs
 
-pub main-spec : {M : Type 1} → statement M
-main-spec =
+pub run-spec : {M : Type 1} → statement M
+run-spec =
     tie.close
     (tie.spec
     Inv-loop
