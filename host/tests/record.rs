@@ -83,7 +83,7 @@ fn a_message_as_the_rust_gives_it() {
     let m = read_message(&bytes);
     let r = Reader {
         numbers: header(),
-        record: &message(&m),
+        record: &message(&m, 0),
     };
     assert_eq!(r.record.len(), r.number("RECORD"));
     assert_eq!(r.byte("AT_KIND"), r.number("MESSAGE"));
