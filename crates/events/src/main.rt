@@ -1,6 +1,10 @@
-// The event records of a stream, 120 bytes each, on standard output as they come (README.md). The stream is that of `listen`; of its records only the samples are read.
+// The event records of a stream, 120 bytes each, on standard output as they come, each message with the mark of the shifts that the arguments give (README.md).
+// The stream is that of `listen`; of its records only the samples are read.
 ghost use Prim.Native.Nat.{_≤_, _<_};
 ghost use lib.ListN.{length};
+
+mod arguments; // shifts
+
 use libc::STDERR_FILENO;
 use libc::STDOUT_FILENO;
 use reading::Fetched;
@@ -52,6 +56,13 @@ fn print_refusal(n: u8) {
 
 fn print_failure() {
     io::write_all(STDERR_FILENO, b"events: standard input can't be read\n");
+}
+
+fn print_usage() {
+    io::write_all(
+        STDERR_FILENO,
+        b"events: the arguments are a start second, windows A-B and closed dates\n",
+    );
 }
 
 // A call's records; false after a refusal, and where standard output takes no more.
@@ -189,14 +200,13 @@ fn finish(
     }
 }
 
-fn main() {
+// The whole stream.
+fn run(shifts: Shifts, closed: &[u32]) {
     let mut input = [0u8; 4096];
     let mut samples = [0.0f32; 12000];
     let mut events = [0u8; 30720];
     let mut scratch32 = [0.0f32; 12000];
     let mut scratch64 = [0.0f64; 3000];
-    let shifts = Shifts::none();
-    let closed = [0u32; 0];
     let mut s = fresh();
     let mut left = MOST_READS;
     while left > 0 && s.more {
@@ -204,7 +214,7 @@ fn main() {
             s,
             &mut input,
             shifts,
-            &closed,
+            closed,
             &mut samples,
             &mut events,
             &mut scratch32,
@@ -215,10 +225,21 @@ fn main() {
     finish(
         s,
         shifts,
-        &closed,
+        closed,
         &mut samples,
         &mut events,
         &mut scratch32,
         &mut scratch64,
     );
+}
+
+fn main() {
+    if !arguments::are_shifts() {
+        print_usage();
+        return;
+    }
+    let shifts = arguments::given_shifts();
+    let mut closed = [0u32; 1000];
+    let n = arguments::closed_dates(&mut closed);
+    run(shifts, &closed[..n]);
 }

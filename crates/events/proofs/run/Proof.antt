@@ -1,14 +1,14 @@
--- `events::main` meets its contract: the reads are counted down, and the buffer always has a place. Assumes nothing.
+-- `events::run` meets its contract: the reads are counted down, and the buffer always has a place. Assumes nothing.
 use Prim.Native.Nat.{_<_}
 use borrow.Author.Needs.{needs}
-use Rattle.events.proofs.main.Statement.{statement}
-use Rattle.events.proofs.main.Tie as tie
+use Rattle.events.proofs.run.Statement.{statement}
+use Rattle.events.proofs.run.Tie as tie
 
 abbrev Inv-loop : tie.InvT-loop
-Inv-loop input₀ samples₀ events₀ scratch32₀ scratch64₀ shifts closed s₀ left₀ input samples events scratch32 scratch64 s left = (s .filled) < 4096
+Inv-loop shifts closed input₀ samples₀ events₀ scratch32₀ scratch64₀ s₀ left₀ input samples events scratch32 scratch64 s left = (s .filled) < 4096
 
 abbrev μ-loop : tie.MeasureT-loop
-μ-loop input₀ samples₀ events₀ scratch32₀ scratch64₀ shifts closed s₀ left₀ input samples events scratch32 scratch64 s left = left
+μ-loop shifts closed input₀ samples₀ events₀ scratch32₀ scratch64₀ s₀ left₀ input samples events scratch32 scratch64 s left = left
 
 fresh-requires : tie.Need-fresh-requires Inv-loop μ-loop
 fresh-requires c κs = search needs
@@ -34,8 +34,8 @@ finish-requires c κs = search needs
 returns : tie.Need-returns Inv-loop μ-loop
 returns c = search needs
 
-pub main-spec : {M : Type 1} → statement M
-main-spec =
+pub run-spec : {M : Type 1} → statement M
+run-spec =
     tie.close
     (tie.spec
     Inv-loop
