@@ -24,6 +24,7 @@ extern "C" {
 #define BARSHUNET_AT_COUNTER 12      /* u16 */
 #define BARSHUNET_AT_PAYLOAD 16      /* 12 bytes, 0 past its length */
 #define BARSHUNET_AT_AUTH 28         /* 5 bytes, 0 past its length */
+#define BARSHUNET_AT_MARK 34         /* u8: of a message BARSHUNET_INSIDE or BARSHUNET_OUTSIDE, 0 where no start second was given */
 #define BARSHUNET_AT_CLOCK_PPM 36    /* i32: over 0 where the sender is slow */
 #define BARSHUNET_AT_RSSI 40         /* binary32, dBm */
 #define BARSHUNET_AT_SPAN_RANKS 44   /* 3 u8, 255 where there is no span */
@@ -50,6 +51,10 @@ extern "C" {
 #define BARSHUNET_INSERTED_1 2
 #define BARSHUNET_DELETED 3
 #define BARSHUNET_FLIPPED 4
+
+/* Marks */
+#define BARSHUNET_INSIDE 1
+#define BARSHUNET_OUTSIDE 2
 
 /* Decodes the bits of one uplink frame, a byte 0 or 1 each, that start somewhere in its preamble.
    0: the first 120 bytes of record are the frame's event record, with clock, RSSI, times and start 0.

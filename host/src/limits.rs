@@ -68,6 +68,11 @@ pub fn uplink(holds: bool) -> Checked {
     check(holds, 10)
 }
 
+/// Request 03: a start second, windows and closed dates.
+pub fn shifts(holds: bool) -> Checked {
+    check(holds, 11)
+}
+
 /// Request 09: a list of event records.
 pub fn records(holds: bool) -> Checked {
     check(holds, 12)

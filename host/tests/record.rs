@@ -44,7 +44,7 @@ fn table() -> BTreeMap<String, usize> {
 fn the_table_has_the_headers_offsets() {
     let mut offsets = header();
     offsets.retain(|name, _| name.starts_with("AT_"));
-    assert_eq!(offsets.len(), 18);
+    assert_eq!(offsets.len(), 19);
     assert_eq!(table(), offsets);
 }
 
@@ -83,7 +83,7 @@ fn a_message_as_the_rust_gives_it() {
     let m = read_message(&bytes);
     let r = Reader {
         numbers: header(),
-        record: &message(&m),
+        record: &message(&m, 2),
     };
     assert_eq!(r.record.len(), r.number("RECORD"));
     assert_eq!(r.byte("AT_KIND"), r.number("MESSAGE"));
@@ -95,6 +95,7 @@ fn a_message_as_the_rust_gives_it() {
     assert_eq!(u16::from_le_bytes(r.bytes("AT_COUNTER", 0)), m.counter);
     assert_eq!(r.bytes::<12>("AT_PAYLOAD", 0), m.payload[..]);
     assert_eq!(r.bytes::<5>("AT_AUTH", 0), m.auth[..]);
+    assert_eq!(r.byte("AT_MARK"), r.number("OUTSIDE"));
     assert_eq!(i32::from_le_bytes(r.bytes("AT_CLOCK_PPM", 0)), m.clock_error_ppm);
     assert_eq!(f32::from_le_bytes(r.bytes("AT_RSSI", 0)), m.rssi);
     assert_eq!(f64::from_le_bytes(r.bytes("AT_TIME", 0)), m.time);

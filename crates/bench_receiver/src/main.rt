@@ -2,6 +2,7 @@
 ghost use Prim.Native.Nat.{_<_};
 use libc::STDIN_FILENO;
 use receiver::SigfoxReceiver;
+use shifts::Shifts;
 
 // Between two pushes: the receiver, how many records it wrote, and the refusal of the last call or 0.
 struct State {
@@ -18,7 +19,9 @@ fn flush(
     scratch64: &mut [f64; 3000],
 ) -> State {
     let given = s.receiver;
-    let r = given.flush(samples, events, scratch32, scratch64);
+    let shifts = Shifts::none();
+    let closed = [0u32; 0];
+    let r = given.flush(shifts, &closed, samples, events, scratch32, scratch64);
     let receiver = r.receiver;
     State {
         receiver,
@@ -41,11 +44,21 @@ fn push_chunk(
     let mut receiver = s.receiver;
     let mut records = s.records;
     let mut refused = s.refused;
+    let shifts = Shifts::none();
+    let closed = [0u32; 0];
     let mut at: usize = 0;
     while at < raw.len() {
         let n = dips::least(step, raw.len() - at);
         let end = at + n;
-        let r = receiver.push_raw(&raw[at..end], samples, events, scratch32, scratch64);
+        let r = receiver.push_raw(
+            &raw[at..end],
+            shifts,
+            &closed,
+            samples,
+            events,
+            scratch32,
+            scratch64,
+        );
         let next = r.receiver;
         receiver = next;
         records = std::num::wrapping_add_u64(records, r.count as u64);

@@ -1,10 +1,15 @@
-// The event records of a stream, 120 bytes each, on standard output as they come (README.md). The stream is that of `listen`; of its records only the samples are read.
+// The event records of a stream, 120 bytes each, on standard output as they come, each message with the mark of the shifts that the arguments give (README.md).
+// The stream is that of `listen`; of its records only the samples are read.
 ghost use Prim.Native.Nat.{_≤_, _<_};
 ghost use lib.ListN.{length};
+
+mod arguments; // shifts
+
 use libc::STDERR_FILENO;
 use libc::STDOUT_FILENO;
 use reading::Fetched;
 use receiver::SigfoxReceiver;
+use shifts::Shifts;
 
 // Samples per second.
 const RATE: u32 = 1000;
@@ -53,6 +58,13 @@ fn print_failure() {
     io::write_all(STDERR_FILENO, b"events: standard input can't be read\n");
 }
 
+fn print_usage() {
+    io::write_all(
+        STDERR_FILENO,
+        b"events: the arguments are a start second, windows A-B and closed dates\n",
+    );
+}
+
 // A call's records; false after a refusal, and where standard output takes no more.
 fn write_events(refused: u8, count: usize, events: &[u8]) -> bool {
     if refused != 0 {
@@ -75,6 +87,8 @@ fn hear(
     input: &[u8],
     from: usize,
     end: usize,
+    shifts: Shifts,
+    closed: &[u32],
     samples: &mut [f32; 12000],
     events: &mut [u8; 30720],
     scratch32: &mut [f32; 12000],
@@ -90,7 +104,15 @@ fn hear(
         let at = RECORD * i;
         let to = at + RAW;
         i += 1;
-        let r = receiver.push_raw(&input[at..to], samples, events, scratch32, scratch64);
+        let r = receiver.push_raw(
+            &input[at..to],
+            shifts,
+            closed,
+            samples,
+            events,
+            scratch32,
+            scratch64,
+        );
         let next = r.receiver;
         receiver = next;
         going = write_events(r.refused, r.count, events);
@@ -117,6 +139,8 @@ fn fail(s: Stream) -> Stream
 fn turn(
     s: Stream,
     input: &mut [u8; 4096],
+    shifts: Shifts,
+    closed: &[u32],
     samples: &mut [f32; 12000],
     events: &mut [u8; 30720],
     scratch32: &mut [f32; 12000],
@@ -131,7 +155,18 @@ fn turn(
         return fail(s);
     };
     let end = from + n;
-    let mut m = hear(s, input, from, end, samples, events, scratch32, scratch64);
+    let mut m = hear(
+        s,
+        input,
+        from,
+        end,
+        shifts,
+        closed,
+        samples,
+        events,
+        scratch32,
+        scratch64,
+    );
     m.filled = end % BUFFER;
     m.more = m.going & (0 < n);
     m
@@ -150,6 +185,8 @@ fn print_leftover(n: usize) {
 // The last call, and its records; nothing after a refusal.
 fn finish(
     s: Stream,
+    shifts: Shifts,
+    closed: &[u32],
     samples: &mut [f32; 12000],
     events: &mut [u8; 30720],
     scratch32: &mut [f32; 12000],
@@ -157,13 +194,14 @@ fn finish(
 ) {
     if s.going {
         let receiver = s.receiver;
-        let r = receiver.flush(samples, events, scratch32, scratch64);
+        let r = receiver.flush(shifts, closed, samples, events, scratch32, scratch64);
         write_events(r.refused, r.count, events);
         print_leftover(s.filled % RECORD);
     }
 }
 
-fn main() {
+// The whole stream.
+fn run(shifts: Shifts, closed: &[u32]) {
     let mut input = [0u8; 4096];
     let mut samples = [0.0f32; 12000];
     let mut events = [0u8; 30720];
@@ -175,6 +213,8 @@ fn main() {
         s = turn(
             s,
             &mut input,
+            shifts,
+            closed,
             &mut samples,
             &mut events,
             &mut scratch32,
@@ -182,5 +222,24 @@ fn main() {
         );
         left -= 1;
     }
-    finish(s, &mut samples, &mut events, &mut scratch32, &mut scratch64);
+    finish(
+        s,
+        shifts,
+        closed,
+        &mut samples,
+        &mut events,
+        &mut scratch32,
+        &mut scratch64,
+    );
+}
+
+fn main() {
+    if !arguments::are_shifts() {
+        print_usage();
+        return;
+    }
+    let shifts = arguments::given_shifts();
+    let mut closed = [0u32; 1000];
+    let n = arguments::closed_dates(&mut closed);
+    run(shifts, &closed[..n]);
 }

@@ -9,11 +9,13 @@ use lib.ListN.{length, take}
 use Rattle.floats.specs.Number.{num}
 use Rattle.demod.proofs.NumberFacts.{Singles}
 use Rattle.ledger.specs.Ledger.{byFrames, Ledger, Call, push, flush, dbmOf, fresh}
-use Rattle.ledger.specs.Causes.{number, cause, afterCall, callEvents}
+use Rattle.ledger.specs.Causes.{number, firstOf, cause, causeWith, afterCall, callEvents}
+use Rattle.shifts.specs.Shifts.{Schedule, scheduleCause, markBy}
 use Rattle.ledger.specs.Causes as causes
 use Rattle.ledger.specs.Demodulation.{demodOf}
 use Rattle.ledger.specs.Records.{recordOf, withRecords, recordsIn}
 use Rattle.ledger.specs.History.{turnOf}
+use Rattle.ledger.proofs.Firsts.{first-none}
 use Rattle.ledger.proofs.Basics.{Every}
 use Rattle.ledger.proofs.Throughout.{given}
 use Rattle.ledger.proofs.Ranks.{AllRanked}
@@ -82,6 +84,12 @@ module _ (rate : ℕ) (first : List Float) (p : Port) (l : Ledger byFrames) (st 
   abbrev c : Call
   c = callOf (x .asked .request)
 
+  abbrev plan : Schedule
+  plan = x .asked .schedule
+
+  abbrev mark : Float → ℕ
+  mark = markBy plan
+
   abbrev before : Memory
   before = memoryOf p (x .asked)
 
@@ -93,28 +101,32 @@ module _ (rate : ℕ) (first : List Float) (p : Port) (l : Ledger byFrames) (st 
 
   -- the ledger's records of it
   abbrev written : List (List ℕ)
-  written = map recordOf (callEvents rate (demodOf rate) l c n)
+  written = map (recordOf mark) (callEvents rate (demodOf rate) l c n)
 
-  answered : Answered s c before (x .reply .after) (x .reply .received)
+  answered : Answered s c plan before (x .reply .after) (x .reply .received)
   answered = did .1
 
-  cause-is : cause rate (lengthsOf before) (causes.countsOf l) l c ≡ n
+  cause-is : causeWith rate (lengthsOf before) (causes.countsOf l) l c plan ≡ n
   cause-is = rw (st .size) refl
 
   ranked : AllRanked (l .waiting)
   ranked = sound-ranked l (st .sound)
 
-  refusal-is : refusalOf s c before ≡ n
-  refusal-is = number-is rate s l (st .state) c before (st .holds) ∙ cause-is
+  refusal-is : refusalOf s c plan before ≡ n
+  refusal-is = ap (λ (k : ℕ). firstOf k (scheduleCause plan)) (number-is rate s l (st .state) c before (st .holds)) ∙ cause-is
+
+  -- an accepted call has no cause
+  no-cause : n ≡ 0 → cause rate (lengthsOf before) (causes.countsOf l) l c ≡ 0
+  no-cause e = first-none _ _ (cause-is ∙ e) .0
 
   after-sound : Sound (afterCall rate (demodOf rate) l c n) × Every Clear (callEvents rate (demodOf rate) l c n)
-  after-sound = call-sound rate l (st .sound) (attemptOf first x .lent) c n refl (call-singles (x .asked .request) (did .0))
+  after-sound = call-sound rate l (st .sound) (attemptOf first x .lent) c n (λ e. first-none _ _ e .0) (call-singles (x .asked .request) (did .0))
 
   pub refused : x .reply .received .refused ≡ n
   refused = answered .refused ∙ refusal-is
 
-  records-is : recordsOf s c (before .samples) (refusalOf s c before) ≡ written
-  records-is = rw refusal-is (records-are rate s l (st .state) c before (st .holds) ranked n)
+  records-is : recordsOf s c plan (before .samples) (refusalOf s c plan before) ≡ written
+  records-is = rw refusal-is (records-are rate s l (st .state) c before (st .holds) ranked plan n)
 
   count : x .reply .received .count ≡ length written
   count = answered .count ∙ ap length records-is
@@ -123,20 +135,20 @@ module _ (rate : ℕ) (first : List Float) (p : Port) (l : Ledger byFrames) (st 
   events = answered .events ∙ ap (λ (r : List (List ℕ)). withRecords r (x .asked .events)) records-is
 
   pub records : recordsFrom x ≡ written
-  records = ap₂ recordsIn count events ∙ records-in written (x .asked .events) (events-size (callEvents rate (demodOf rate) l c n) (after-sound .1))
+  records = ap₂ recordsIn count events ∙ records-in written (x .asked .events) (events-size mark (callEvents rate (demodOf rate) l c n) (after-sound .1))
 
   pub rest : x .reply .after .events ≡ withRecords (recordsFrom x) (x .asked .events)
   rest = events ∙ ap (λ (r : List (List ℕ)). withRecords r (x .asked .events)) (sym records)
 
   pub turn : turnFrom x ≡ turnOf rate (demodOf rate) l (attemptOf first x)
-  turn = rw (refused, records, events-seen (callEvents rate (demodOf rate) l c n) (after-sound .1)) refl
+  turn = rw (refused, records, events-seen mark (callEvents rate (demodOf rate) l c n) (after-sound .1)) refl
 
   samples : x .reply .after .samples ≡ samplesAfter s c (p .samples) n
   samples = answered .samples ∙ ap (samplesAfter s c (p .samples)) refusal-is
 
   pub next : Stands rate first (portAfter x) (afterCall rate (demodOf rate) l c n)
   next =
-      let k = samples-kept rate l before (st .holds) s (st .state) c n cause-is in
+      let k = samples-kept rate l before (st .holds) s (st .state) c n no-cause in
       record {
         state = rw (answered .state ∙ ap (stateAfter s c (p .samples)) refusal-is) (state-for rate s l (st .state) c before (st .holds) ranked n);
         size = ap length samples ∙ k .size ∙ st .size;
@@ -151,7 +163,7 @@ module _ (rate : ℕ) (first : List Float) (p : Port) (l : Ledger byFrames) (st 
       go : (k : ℕ) → n ≡ k → Untouched p x
       go zero e = absurd (h (refused ∙ e))
       go (suc k) e =
-          let m : refusalOf s c before ≡ suc k = refusal-is ∙ e in
+          let m : refusalOf s c plan before ≡ suc k = refusal-is ∙ e in
           let receiver : x .reply .received .receiver ≡ p .receiver = answered .state ∙ ap (stateAfter s c (p .samples)) m in
           let same : x .reply .after .samples ≡ p .samples = samples ∙ ap (samplesAfter s c (p .samples)) e ∙ samples-same s c (p .samples) k in
           let none : written ≡ [] = rw e refl in

@@ -13,6 +13,7 @@ use Rattle.limits.specs.Limits.{badRate, short}
 use Rattle.limits.specs.Samples.{rateOk}
 use Rattle.ledger.specs.Ledger.{byFrames, byEntry, capacity, Ledger, Call, push, flush, fresh, startCall, scans, closed, events}
 use Rattle.ledger.specs.Causes.{orderly, Lent, tooShort, callCause, cause, afterCall, callEvents}
+use Rattle.shifts.specs.Shifts.{Schedule, markBy}
 use Rattle.ledger.specs.Causes as causes
 use Rattle.ledger.specs.Demodulation.{demodOf}
 use Rattle.ledger.specs.Records.{recordOf}
@@ -25,7 +26,7 @@ use Rattle.receiver_samples.proofs.Fillings.{held-length}
 use Rattle.receiver_starts.specs.Starts as starts
 use Rattle.receiver_waiting.specs.Waiting as waiting
 use Rattle.receiver.specs.State.{ledgerOf, countsOf, newState, stateOver}
-use Rattle.receiver.specs.Calls.{Memory, lengthsOf, refusalOf, recordsOf, stateAfter, samplesAfter}
+use Rattle.receiver.specs.Calls.{Memory, lengthsOf, recordsOf, stateAfter, samplesAfter}
 use Rattle.receiver.specs.declared.SigfoxReceiver.{SigfoxReceiver}
 use Rattle.history.proofs.Buffers.{fills-keeps}
 
@@ -82,7 +83,7 @@ wide rate b l c e = ltb-false (b .samples) (capacity rate) (first (ltb (b .sampl
     second false y k q = absurd (omega arith)
 
 module _ (rate : ℕ) (s : SigfoxReceiver) (l : Ledger byFrames) (f : For rate s (carry l)) (c : Call) (b : Memory) (holds : take (length (l .held)) (b .samples) ≡ l .held) where
-  pub number-is : refusalOf s c b ≡ cause rate (lengthsOf b) (causes.countsOf l) l c
+  pub number-is : cause (s .rate) (lengthsOf b) (countsOf s) (ledgerOf s (b .samples)) c ≡ cause rate (lengthsOf b) (causes.countsOf l) l c
   number-is =
       ap (λ (k : Ledger byEntry). cause (s .rate) (lengthsOf b) (countsOf s) k c) (f .ledger (b .samples) holds)
       ∙ ap (λ (k : causes.Counts). cause (s .rate) (lengthsOf b) k (startCall (carry l)) c) (f .counts)
@@ -91,9 +92,9 @@ module _ (rate : ℕ) (s : SigfoxReceiver) (l : Ledger byFrames) (f : For rate s
       ∙ cause-carry rate (lengthsOf b) l c
 
   module _ (ranked : AllRanked (l .waiting)) where
-    pub records-are : (n : ℕ) → recordsOf s c (b .samples) n ≡ map recordOf (callEvents rate (demodOf rate) l c n)
-    records-are n =
-        ap (map recordOf)
+    pub records-are : (p : Schedule) (n : ℕ) → recordsOf s c p (b .samples) n ≡ map (recordOf (markBy p)) (callEvents rate (demodOf rate) l c n)
+    records-are p n =
+        ap (map (recordOf (markBy p)))
         (ap (λ (k : Ledger byEntry). callEvents (s .rate) (demodOf (s .rate)) k c n) (f .ledger (b .samples) holds)
         ∙ ap (λ (r : ℕ). callEvents r (demodOf r) (startCall (carry l)) c n) (f .rated)
         ∙ events-start rate (carry l) c n
@@ -144,10 +145,10 @@ module _ (rate : ℕ) (l : Ledger byFrames) (b : Memory) (holds : take (length (
         ap (λ (r : ℕ). allFilled r (length xs) (record { held = s .held; places = b .samples }) xs .places) (f .rated)
         ∙ ap (λ (k : causes.Counts). allFilled rate (length xs) (record { held = k .held; places = b .samples }) xs .places) (f .counts)
 
-    pub samples-kept : (c : Call) (n : ℕ) → cause rate (lengthsOf b) (causes.countsOf l) l c ≡ n
+    pub samples-kept : (c : Call) (n : ℕ) → (n ≡ 0 → cause rate (lengthsOf b) (causes.countsOf l) l c ≡ 0)
         → Kept (afterCall rate (demodOf rate) l c n) (samplesAfter s c (b .samples) n)
     unfolding samplesAfter afterCall closed
-    samples-kept (push xs) zero e = let k = push-kept xs e in rw (filled-is xs) (record { size = k .size; held = k .held })
+    samples-kept (push xs) zero e = let k = push-kept xs (e refl) in rw (filled-is xs) (record { size = k .size; held = k .held })
     samples-kept flush zero e = record { size = refl; held = flush-kept .held }
     samples-kept (push xs) (suc n) e = record { size = refl; held = holds }
     samples-kept flush (suc n) e = record { size = refl; held = holds }

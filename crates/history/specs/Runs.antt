@@ -4,6 +4,7 @@ use mathlib.Core.List.{List, [], _∷_, map}
 use Prim.Native.Nat.{ℕ}
 use lib.Dec.{T}
 use lib.Ieee.{Float, binary32, fits}
+use Rattle.shifts.specs.Shifts.{Schedule}
 use Rattle.ledger.specs.Ledger.{Call, push, pushRaw, flush}
 use Rattle.ledger.specs.Causes.{Attempt}
 use Rattle.ledger.specs.Records.{recordsIn, seenIn}
@@ -37,9 +38,10 @@ Typed (askPush xs) = Singles xs
 Typed (askRaw bs) = Unit
 Typed askFlush = Unit
 
--- "event buffer and scratch may be others at each call, of any length"
+-- "event buffer and scratch may be others at each call, of any length", and so may start second, windows and closed dates
 pub record Asked : Type 0 where
   pub request : Request
+  pub schedule : Schedule
   pub events : List ℕ
   pub scratch32 : List Float
   pub scratch64 : List Float
@@ -65,7 +67,7 @@ memoryOf p a = record { samples = p .samples; events = a .events; scratch32 = a 
 
 -- one call: what `push`, `push_raw` or `flush` ensures
 abbrev pub Did : Port → Exchange → Type 0
-Did p x = Typed (x .asked .request) × Answered (p .receiver) (callOf (x .asked .request)) (memoryOf p (x .asked)) (x .reply .after) (x .reply .received)
+Did p x = Typed (x .asked .request) × Answered (p .receiver) (callOf (x .asked .request)) (x .asked .schedule) (memoryOf p (x .asked)) (x .reply .after) (x .reply .received)
 
 abbrev pub portAfter : Exchange → Port
 portAfter x = record { receiver = x .reply .received .receiver; samples = x .reply .after .samples }
@@ -94,4 +96,5 @@ attemptOf samples x =
     record {
       call = callOf (x .asked .request);
       lent = lengthsOf (record { samples = samples; events = x .asked .events; scratch32 = x .asked .scratch32; scratch64 = x .asked .scratch64 });
+      schedule = x .asked .schedule;
     }

@@ -8,6 +8,7 @@ use mathlib.Core.Path.{_≡_}
 use mathlib.Core.List.{List, [], _∷_, map}
 use Prim.Native.Nat.{ℕ}
 use lib.Ieee.{Float}
+use Rattle.shifts.specs.Shifts.{markBy}
 use Rattle.ledger.specs.Ledger.{byFrames, Demod, Ledger, fresh}
 use Rattle.ledger.specs.Causes.{Attempt, number, afterCall, callEvents}
 use Rattle.ledger.specs.Demodulation.{demodOf}
@@ -19,11 +20,11 @@ use Rattle.history.specs.Runs.{Exchange, Port, memoryOf, portAfter, Run,
 
 -- ---- what is said of each call
 
--- the records of 01's ledger, call by call, as bytes
+-- the records of 01's ledger, call by call, as bytes, each message with the mark that its call's shifts give it (02, request 03)
 unfoldable pub ledgerRecords : ℕ → Demod → Ledger byFrames → List Attempt → List (List (List ℕ))
 ledgerRecords rate d l [] = []
 ledgerRecords rate d l (a ∷ cs) =
-    map recordOf (callEvents rate d l (a .call) (number rate l a)) ∷ ledgerRecords rate d (afterCall rate d l (a .call) (number rate l a)) cs
+    map (recordOf (markBy (a .schedule))) (callEvents rate d l (a .call) (number rate l a)) ∷ ledgerRecords rate d (afterCall rate d l (a .call) (number rate l a)) cs
 
 -- "A refused call changes nothing": neither the state nor anything lent, scratch included
 pub record Untouched (p : Port) (x : Exchange) : Type 0 where
@@ -46,7 +47,7 @@ pub record Holds (rate : ℕ) (samples : List Float) (xs : List Exchange) : Type
   -- back and what is read off the records are those of 01's ledger, which is fed the calls and the lengths of what was lent, "and nothing that the port answers"
   pub as-ledger : map turnFrom xs ≡ runOf rate (demodOf rate) (map (attemptOf samples) xs)
   -- "the frame records of each call equal those of 01's ledger, in order", and of a message "in all else the bytes of the ledger's message": as many records as
-  -- the count names, byte by byte, a zero's sign included
+  -- the count names, byte by byte, a zero's sign included; byte 34 of a message too, its mark, which 02 lets the demand pass over
   pub same-bytes : map recordsFrom xs ≡ ledgerRecords rate (demodOf rate) fresh (map (attemptOf samples) xs)
   -- "A refusal .. leaves state and lent memory unchanged"
   pub refused : RefusedUntouched (freshPort rate samples) xs
@@ -66,7 +67,7 @@ pub record Theorem : Type 0 where
 --   later ones · the same frame always · a burst at index 0 or too near the newest sample taken · a start forgotten too early, or never · a dip of other depth, a
 --   frame that demand 2 does not find · a message late, early, twice, joined again
 -- same-bytes: a count that is not that of the records · records of a call in another order · a span, end, repair, clock error, length or spare byte that is not the
---   table's · a first-frame end that is not the Rust's
+--   table's · a first-frame end that is not the Rust's · a mark that is not that of the call's shifts
 -- refused: moves its state, its samples, an event byte or a scratch number, and then refuses · rest-kept: writes past the count
 -- claims: wrong even where port and ledger would be wrong together
 -- code: a contract that says less, with a body that does less

@@ -8,11 +8,12 @@ use Prim.Native.Nat.{ℕ, zero, suc, _+_, _-_, _*_}
 use lib.ListN.{length, drop, length-map}
 use lib.Dec.{leb, eqb}
 use lib.Ieee.{Float}
+use Rattle.shifts.specs.Shifts.{scheduleCause}
 use Rattle.ledger.specs.Types.{DecodedFrame, Burst}
 use Rattle.ledger.specs.Frames.{Key, same, Frame, frameAt, keyOf, rightCrc}
 use Rattle.ledger.specs.Merge.{openEntry, mergeAll}
 use Rattle.ledger.specs.Ledger.{Message, frames, messageKey, summary, byFrames, byEntry, Demod, capacity, tail, seconds, Ledger, join, Call, push, flush, ready, chosen, others, hear, remember, takes, takeOne, takeEach, forget, scan, halve, amount, add, scanned, due, fill, fills, startCall, scans, now, closed, messages, Event, ofFrame, eventOf, events}
-use Rattle.ledger.specs.Causes.{waits, unlike, allFit, countsOf, orderly, anyNan, Lent, callCause, cause, Attempt, number, afterCall, callEvents, after}
+use Rattle.ledger.specs.Causes.{firstOf, waits, unlike, allFit, countsOf, orderly, anyNan, Lent, callCause, cause, Attempt, number, afterCall, callEvents, after}
 use Rattle.ledger.proofs.Basics.{either}
 use Rattle.ledger.proofs.Entries.{merge-snoc, summary-key, RanksFit, summary-complete}
 use Rattle.ledger.proofs.Opens.{chosen-yes, chosen-no, others-yes, others-no, join-at, join-past}
@@ -196,4 +197,4 @@ module _ (rate : ℕ) (d : Demod) where
   after-carry l (a ∷ cs) w =
       after-carry (afterCall rate d l (a .call) (number rate l a)) cs (after-ranked l (a .call) (number rate l a) w)
       ∙ ap (λ (k : Ledger byEntry). after rate d k cs)
-      (call-carry l (a .call) (number rate l a) w ∙ ap (afterCall rate d (carry l) (a .call)) (sym (cause-carry rate (a .lent) l (a .call))))
+      (call-carry l (a .call) (number rate l a) w ∙ ap (afterCall rate d (carry l) (a .call)) (ap (λ (n : ℕ). firstOf n (scheduleCause (a .schedule))) (sym (cause-carry rate (a .lent) l (a .call)))))

@@ -106,7 +106,7 @@ module _ (K : Kind) (laws : Lawful K) (rate : ℕ) (d : Demod) where
   same-messages c s h =
       let t = now rate s in
       let w = chosen-swapped (ready K c t) h in
-      record { waiting = others-swapped (ready K c t) h; written = w; records = Perm·map recordOf (Perm·map (eventOf K) w) }
+      record { waiting = others-swapped (ready K c t) h; written = w; records = λ mark. Perm·map (recordOf mark) (Perm·map (eventOf K) w) }
 
   pub either-order : EitherOrder K rate d
   either-order =

@@ -28,6 +28,7 @@ use Rattle.ledger.specs.Demodulation.{demodOf}
 use Rattle.ledger.specs.Causes.{countsOf, orderly, Attempt, number, afterCall, after}
 use Rattle.ledger.specs.Room.{Accepted, InOrder}
 use Rattle.ledger.specs.Grown.{mostGrown, grown, Grown}
+use Rattle.ledger.proofs.Firsts.{first-none, first-five}
 use Rattle.ledger.proofs.Basics.{either, clash, and-true, or-false, Every}
 use Rattle.ledger.proofs.Pigeon.{Window, third, fits}
 use Rattle.ledger.proofs.Sizes.{scans-small}
@@ -126,7 +127,7 @@ module _ (rate : ℕ) where
   call-few : (l : Ledger byFrames) (a : Attempt) (n : ℕ) → number rate l a ≡ n → Few l → Few (afterCall rate (demodOf rate) l (a .call) n)
   unfolding afterCall
   call-few l a zero e g =
-      let p = passed rate (a .lent) l (a .call) e in
+      let p = passed rate (a .lent) l (a .call) (first-none _ _ e .0) in
       let r = and-true (leb lowestRate rate) (leb rate highestRate) (p .rated) in
       let lo = leb-true lowestRate rate (r .0) in
       let hi = leb-true rate highestRate (r .1) in
@@ -158,7 +159,7 @@ few-wait rate cs = after-few rate fresh cs (fresh-few rate) .few
 never-five : (rate : ℕ) (cs : List Attempt) (a : Attempt) → number rate (grown rate cs) a ≡ badState → ⊥
 never-five rate cs a e =
     let l = grown rate cs in
-    let f = five rate (a .lent) l (a .call) e in
+    let f = five rate (a .lent) l (a .call) (first-five _ (a .schedule) e) in
     let r = and-true (leb lowestRate rate) (leb rate highestRate) (f .0) in
     let fair = demod-fair rate (leb-true lowestRate rate (r .0)) (leb-true rate highestRate (r .1)) in
     let o = in-order rate (demodOf rate) fair frames-lawful (rate-pos rate (f .0)) (λ ds. omega (arith, few-wait rate ds)) cs in

@@ -1,5 +1,6 @@
 -- Laws of the ledger: order, room, that entries say the same as lists of frames (to Carry), and demand 3 (Theorem).
 pub mod Basics
+pub mod Firsts
 pub mod Spans
 pub mod Spacing
 pub mod Pigeon

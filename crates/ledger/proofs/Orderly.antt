@@ -15,6 +15,7 @@ use Rattle.ledger.specs.Merge.{place}
 use Rattle.ledger.specs.Ledger.{Kind, Demod, capacity, half, spaced, Ledger, Call, push, flush, ready, fresh, takeOne, takeEach, forget, scan, halve, amount, add, fill, fills, startCall, scans, now, closed, messages}
 use Rattle.ledger.specs.Causes.{oldestS, mostWaiting, below, waits, unlike, allFit, Attempt, number, afterCall, after}
 use Rattle.ledger.specs.Room.{Fair, InOrder, Accepts, Accepted, ThroughBursts, Through, Room, pushFrames, flushFrames, Bounded}
+use Rattle.ledger.proofs.Firsts.{first-none}
 use Rattle.ledger.proofs.Basics.{either, and-true}
 use Rattle.ledger.proofs.Spacing.{start-spread, none-far}
 use Rattle.ledger.proofs.Pigeon.{third, fits}
@@ -178,7 +179,7 @@ module _ {K : Kind} where
 
     call-ok : (l : Ledger K) (a : Attempt) (n : ℕ) → number rate l a ≡ n → Ok l → Ok (afterCall rate d l (a .call) n)
     unfolding afterCall
-    call-ok l a zero e o = let p = passed rate (a .lent) l (a .call) e in accepted-ok (a .call) (p .accepted) (p .order .waiting)
+    call-ok l a zero e o = let p = passed rate (a .lent) l (a .call) (first-none _ _ e .0) in accepted-ok (a .call) (p .accepted) (p .order .waiting)
       where
         accepted-ok : (c : Call) → Accepted rate l c → length (l .waiting) ≤ mostWaiting → Ok (closed rate c (scans rate d l c))
         accepted-ok (push xs) h few = push-ok l xs h few o

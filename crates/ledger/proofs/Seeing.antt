@@ -29,7 +29,7 @@ use Rattle.ledger.specs.Ledger.{Message, frames, byFrames, summary, Ledg
 use Rattle.ledger.specs.Causes.{spansFit}
 use Rattle.ledger.specs.Demand3.{frame}
 use Rattle.ledger.specs.History.{seeFrame, maskOf, seeMessage, see}
-use Rattle.ledger.specs.Records.{recordOf, withRecords, recordsIn, seenIn}
+use Rattle.ledger.specs.Records.{frameBytes, recordOf, withRecords, recordsIn, seenIn}
 use Rattle.ledger.proofs.Basics.{either, Every, every-join, every-map, every-then}
 use Rattle.ledger.proofs.Spans.{not-empty, fit-head, fit-used}
 use Rattle.ledger.proofs.Entries.{summary-key, summary-payload, summary-auth, summary-time, summary-start, loudest, summary-rssi, summary-fit}
@@ -98,16 +98,15 @@ by-frame r f k a b c d e g h =
     rw (k, a, b, c, d, e, g, h)
     (ap (λ (t : Bool). frame (record { key = keyOf f; rank = rankOf f; right = t; rssi = rssiOf f; time = timeOf f; start = startOf f })) (crc-flag (f .uplink)))
 
-frame-seen : (f : Frame) → Readable f → seenIn (recordOf (ofFrame f)) ≡ see (ofFrame f)
-unfolding recordOf frameRecord headBytes rankOf rssiOf timeOf startOf
+frame-seen : (f : Frame) → Readable f → seenIn (frameBytes f) ≡ see (ofFrame f)
+unfolding frameRecord headBytes rankOf rssiOf timeOf startOf
 frame-seen f h =
     let x = frameFields (f .uplink) (f .reception) in
     let s = frame-sized (f .uplink) (f .reception) (h .payload) (h .auth) in
     by-frame (frameRecord (f .uplink) (f .reception)) f refl refl refl (read-device x s (h .device)) (read-counter x s (h .counter)) (read-rssi x s (h .rssi))
     (read-time x s (h .time)) (read-start x s (h .start))
 
-frame-size : (f : Frame) → Readable f → length (recordOf (ofFrame f)) ≡ recordSize
-unfolding recordOf
+frame-size : (f : Frame) → Readable f → length (frameBytes f) ≡ recordSize
 frame-size f h = length-frame (f .uplink) (f .reception) (h .payload) (h .auth)
 
 -- ---- a message
@@ -128,17 +127,16 @@ by-message : (r : List ℕ) (m : SigfoxMessage) → kindOf r ≡ messageKind →
 unfolding seenIn see seeMessage
 by-message r m k a c d e g h = rw (k, a, c, d, e, g, h) refl
 
-message-seen : (m : SigfoxMessage) → Legible m → seenIn (recordOf (ofMessage m)) ≡ see (ofMessage m)
-unfolding recordOf messageRecord headBytes
-message-seen m h =
-    let x = messageFields m in
-    let s = message-sized m (h .payload) (h .auth) in
-    by-message (messageRecord m) m refl (three-bits (m .spans) (h .three) ∙ bits-mask (m .spans) (h .ranks)) (read-device x s (h .device)) (read-counter x s (h .counter))
+message-seen : (mark : ℕ) (m : SigfoxMessage) → Legible m → seenIn (messageRecord mark m) ≡ see (ofMessage m)
+unfolding messageRecord headBytes
+message-seen mark m h =
+    let x = messageFields mark m in
+    let s = message-sized mark m (h .payload) (h .auth) in
+    by-message (messageRecord mark m) m refl (three-bits (m .spans) (h .three) ∙ bits-mask (m .spans) (h .ranks)) (read-device x s (h .device)) (read-counter x s (h .counter))
     (read-rssi x s (h .rssi)) (read-time x s (h .time)) (read-start x s (h .start))
 
-message-size : (m : SigfoxMessage) → Legible m → length (recordOf (ofMessage m)) ≡ recordSize
-unfolding recordOf
-message-size m h = length-message m (h .payload) (h .auth)
+message-size : (mark : ℕ) (m : SigfoxMessage) → Legible m → length (messageRecord mark m) ≡ recordSize
+message-size mark m h = length-message mark m (h .payload) (h .auth)
 
 loudest-fits : (v : Float) (l : List Frame) → T (fits binary32 v) → Every Readable l → T (fits binary32 (loudest v l))
 unfolding loudest louder
@@ -177,23 +175,27 @@ events-clear rate c l w =
     (every-then (λ m. Every Readable (frames m)) (λ m. Legible (finished (summary m))) message-legible (messages rate c l)
     (chosen-every (λ m. Every Readable (frames m)) (ready byFrames c (now rate l)) (l .waiting) (w .waiting))))
 
-event-seen : (e : Event) → Clear e → seenIn (recordOf e) ≡ see e
-event-seen (ofFrame f) h = frame-seen f h
-event-seen (ofMessage m) h = message-seen m h
+module _ (mark : Float → ℕ) where
+  event-seen : (e : Event) → Clear e → seenIn (recordOf mark e) ≡ see e
+  unfolding recordOf
+  event-seen (ofFrame f) h = frame-seen f h
+  event-seen (ofMessage m) h = message-seen (mark (m .time)) m h
 
-pub events-seen : (es : List Event) → Every Clear es → map seenIn (map recordOf es) ≡ map see es
-events-seen [] w = refl
-events-seen (e ∷ es) w = rw (event-seen e (w .0), events-seen es (w .1)) refl
+  pub events-seen : (es : List Event) → Every Clear es → map seenIn (map (recordOf mark) es) ≡ map see es
+  events-seen [] w = refl
+  events-seen (e ∷ es) w = rw (event-seen e (w .0), events-seen es (w .1)) refl
 
 abbrev pub RecordSized : List ℕ → Type 0
 RecordSized r = length r ≡ recordSize
 
-event-size : (e : Event) → Clear e → RecordSized (recordOf e)
-event-size (ofFrame f) h = frame-size f h
-event-size (ofMessage m) h = message-size m h
+module _ (mark : Float → ℕ) where
+  event-size : (e : Event) → Clear e → RecordSized (recordOf mark e)
+  unfolding recordOf
+  event-size (ofFrame f) h = frame-size f h
+  event-size (ofMessage m) h = message-size (mark (m .time)) m h
 
-pub events-size : (es : List Event) → Every Clear es → Every RecordSized (map recordOf es)
-events-size es w = every-map RecordSized recordOf es (every-then Clear (λ e. RecordSized (recordOf e)) event-size es w)
+  pub events-size : (es : List Event) → Every Clear es → Every RecordSized (map (recordOf mark) es)
+  events-size es w = every-map RecordSized (recordOf mark) es (every-then Clear (λ e. RecordSized (recordOf mark e)) event-size es w)
 
 -- ---- an event buffer gives back the records that were written into it
 

@@ -1,5 +1,5 @@
 -- The ledger after calls with binary32 samples: what it holds and what it wrote has the widths of a record's fields.
-use mathlib.Core.Path.{_≡_}
+use mathlib.Core.Path.{_≡_, refl}
 use Prim.Native.Nat.{ℕ, zero, suc, _≤_}
 use native.Mathlib.Omega.{arith}
 use lib.Dec.{leb}
@@ -37,11 +37,11 @@ module _ (rate : ℕ) (l : Ledger byFrames) (s : Sound l) where
   call-fed flush w a o = record { singles = s .singles; coming = tt; room = o .room; stream = omega (arith, o .stream) }
 
   -- after a call, refused or not
-  pub call-sound : (b : Lent) (c : Call) (n : ℕ) → cause rate b (countsOf l) l c ≡ n → Singles (given c)
+  pub call-sound : (b : Lent) (c : Call) (n : ℕ) → (n ≡ 0 → cause rate b (countsOf l) l c ≡ 0) → Singles (given c)
       → Sound (afterCall rate (demodOf rate) l c n) × Every Clear (callEvents rate (demodOf rate) l c n)
   unfolding afterCall callEvents closed
   call-sound b c zero e w =
-      let p = passed rate b l c e in
+      let p = passed rate b l c (e refl) in
       let r = and-true (leb lowestRate rate) (leb rate highestRate) (p .rated) in
       let lo = leb-true lowestRate rate (r .0) in
       let hi = leb-true rate highestRate (r .1) in

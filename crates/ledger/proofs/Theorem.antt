@@ -10,6 +10,7 @@ use Rattle.ledger.specs.Ledger.{byFrames, Demod, Ledger, flush, fresh}
 use Rattle.ledger.specs.Causes.{Attempt, number, afterCall}
 use Rattle.ledger.specs.Demand3.{SeenFrame, SeenMessage, Seen, frame, message, Turn, all, samplesOf, pushed, written, Belongs, mine, MineIs, gathered, Due, Demand3}
 use Rattle.ledger.specs.History.{turnOf, history, runOf}
+use Rattle.ledger.proofs.Firsts.{first-none}
 use Rattle.ledger.proofs.Basics.{clash, or-false, same-refl, nothing-of}
 use Rattle.ledger.proofs.Orders.{passed, rate-pos}
 use Rattle.ledger.proofs.Records.{written-join, spent, first-written, mine-has, mine-lacks}
@@ -74,7 +75,7 @@ module _ (rate : ℕ) (d : Demod) (cs : List Attempt) where
 
   -- an accepted call has a rate of at least 1
   rated : (k : Ledger byFrames) (a : Attempt) → number rate k a ≡ 0 → 1 ≤ rate
-  rated k a e = rate-pos rate (passed rate (a .lent) k (a .call) e .rated)
+  rated k a e = rate-pos rate (passed rate (a .lent) k (a .call) (first-none _ _ e .0) .rated)
 
   -- ---- whose frame it is
 

@@ -7,6 +7,7 @@ use lib.Dec.{leb, ltb, eqb}
 use lib.Ieee.{isNan}
 use Rattle.limits.specs.Limits.{badRate, short, long, badSample, badState, stream, badNumber, eventsSize, scratch64, longestStream}
 use Rattle.limits.specs.Samples.{rateOk, allDbm}
+use Rattle.shifts.specs.Shifts.{Schedule, scheduleCause}
 use Rattle.ledger.specs.Types.{FrameSpan, FirstFrameEnd, Known, Unknown, Pending}
 use Rattle.ledger.specs.Frames.{Key, same}
 use Rattle.ledger.specs.Merge.{noSpan, has}
@@ -149,16 +150,26 @@ callCause {K} rate n l flush = cond (not (orderly rate n l)) badState (cond (any
 unfoldable pub cause : {K : Kind} → ℕ → Lent → Counts → Ledger K → Call → ℕ
 cause rate b n l c = cond (not (rateOk rate)) badRate (cond (tooShort rate b) short (callCause rate n l c))
 
+-- of two causes, the first that applies
+unfoldable pub firstOf : ℕ → ℕ → ℕ
+firstOf zero m = m
+firstOf (suc n) m = suc n
+
+-- 02, request 03: "It refuses, after 10, with 11"
+abbrev pub causeWith : {K : Kind} → ℕ → Lent → Counts → Ledger K → Call → Schedule → ℕ
+causeWith rate b n l c p = firstOf (cause rate b n l c) (scheduleCause p)
+
 -- ---- a list of calls, refused ones included
 
--- a call as it comes, with the lengths of what is lent to it
+-- a call as it comes, with the lengths of what is lent to it and what it is given of shifts
 pub record Attempt : Type 0 where
   pub call : Call
   pub lent : Lent
+  pub schedule : Schedule
 
 -- the ledger's own: "a cause that looks at state or held samples looks at the ledger's here"
 abbrev pub number : {K : Kind} → ℕ → Ledger K → Attempt → ℕ
-number rate l a = cause rate (a .lent) (countsOf l) l (a .call)
+number rate l a = causeWith rate (a .lent) (countsOf l) l (a .call) (a .schedule)
 
 -- "A refused call changes nothing and has no records"
 unfoldable pub afterCall : {K : Kind} → ℕ → Demod → Ledger K → Call → ℕ → Ledger K

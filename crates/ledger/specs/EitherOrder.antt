@@ -3,6 +3,7 @@ use mathlib.Core.Path.{_≡_}
 use mathlib.Core.List.{List, [], _∷_, _++_, map, Perm}
 use mathlib.Core.Bool.{false, cond}
 use Prim.Native.Nat.{ℕ}
+use lib.Ieee.{Float}
 use Rattle.ledger.specs.Frames.{same, Frame, keyOf, rightCrc}
 use Rattle.ledger.specs.Ledger.{Kind, Demod, Ledger, join, Call, scans, closed, messages, eventOf}
 use Rattle.ledger.specs.Records.{recordOf}
@@ -29,8 +30,8 @@ scansIn {K} rate d l c fs = withOpen (scans rate d l c) (joins K fs (l .waiting)
 pub record SameMessages {K : Kind} (rate : ℕ) (c : Call) (s t : Ledger K) : Type 0 where
   pub waiting : Perm (closed rate c s .waiting) (closed rate c t .waiting)
   pub written : Perm (messages rate c s) (messages rate c t)
-  -- as bytes
-  pub records : Perm (map recordOf (map (eventOf K) (messages rate c s))) (map recordOf (map (eventOf K) (messages rate c t)))
+  -- as bytes, however a call marks its messages
+  pub records : (mark : Float → ℕ) → Perm (map (recordOf mark) (map (eventOf K) (messages rate c s))) (map (recordOf mark) (map (eventOf K) (messages rate c t)))
 
 -- THE CLAIM, for what the ledger keeps of an open message and for what a receiver's state does, and from any ledger
 pub record EitherOrder (K : Kind) (rate : ℕ) (d : Demod) : Type 0 where

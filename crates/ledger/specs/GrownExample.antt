@@ -11,6 +11,8 @@ use lib.IntN.{pos}
 use lib.Ieee.{Float, binary64, neg, ofInt, lt, sub, add, mul, div, le, eq, isNan, round}
 use Rattle.floats.specs.Number.{num}
 use Rattle.limits.specs.Samples.{allDbm}
+use Rattle.shifts.specs.Shifts as shifts
+use Rattle.shifts.specs.Shifts.{noSchedule}
 use Rattle.ledger.specs.Types.{Unchanged, Absent, DecodedFrame, Burst}
 use Rattle.ledger.specs.Frames.{frameAt, keyOf, rankOf, rightCrc, rssiOf, timeOf, startOf}
 use Rattle.ledger.specs.Merge as merge
@@ -48,7 +50,7 @@ abbrev enough : Lent
 enough = record { samples = 2400; events = 30720; scratch32 = 2400; scratch64 = 3000 }
 
 abbrev ok : Call → Attempt
-ok c = record { call = c; lent = enough }
+ok c = record { call = c; lent = enough; schedule = noSchedule }
 
 -- ---- a demodulation that finds n bursts of 61 samples, a start every 70, each of another device; at 200 samples/s they last 0.3 s and a sample
 
@@ -77,7 +79,7 @@ pub worked-out : (length (scans 200 demo (fresh {K = byFrames}) twelve .heard) �
     × (length (messages 200 twelve (scans 200 demo (fresh {K = byFrames}) twelve)) ≡ 6)
     × (length (after 200 demo (fresh {K = byFrames}) (ok twelve ∷ []) .waiting) ≡ 27)
     × (length (after 200 demo (fresh {K = byFrames}) (ok twelve ∷ ok flush ∷ []) .waiting) ≡ 0)
-unfolding row keyOf rankOf rightCrc rssiOf timeOf startOf allDbm le lt eq neg ofInt sub add mul div isNan round causes.after causes.cause causes.callCause causes.orderly causes.below causes.since causes.unlike causes.waits causes.allFit causes.entryFits causes.spansFit causes.inFront causes.anyNan causes.entryNan causes.endNan causes.spanNan causes.afterCall ledger.fresh ledger.scans ledger.startCall ledger.fills ledger.fill ledger.halve ledger.amount ledger.add ledger.due ledger.scanned ledger.scan ledger.takeEach ledger.takeOne ledger.takes ledger.near ledger.spaced ledger.hear ledger.remember ledger.join ledger.forget ledger.startsFrom ledger.closed ledger.messages ledger.now ledger.seconds ledger.ready ledger.complete ledger.ranked ledger.latest ledger.chosen ledger.others merge.openEntry merge.mergeAll merge.merge merge.meet merge.has merge.spanOf merge.endAfter merge.finished merge.orElse merge.lowestLater merge.knownOf merge.entryKey
+unfolding row keyOf rankOf rightCrc rssiOf timeOf startOf allDbm le lt eq neg ofInt sub add mul div isNan round causes.after causes.cause causes.callCause causes.orderly causes.below causes.since causes.unlike causes.waits causes.allFit causes.entryFits causes.spansFit causes.inFront causes.anyNan causes.entryNan causes.endNan causes.spanNan causes.firstOf shifts.shiftsCause shifts.shiftsOk shifts.startOk shifts.all shifts.rising causes.afterCall ledger.fresh ledger.scans ledger.startCall ledger.fills ledger.fill ledger.halve ledger.amount ledger.add ledger.due ledger.scanned ledger.scan ledger.takeEach ledger.takeOne ledger.takes ledger.near ledger.spaced ledger.hear ledger.remember ledger.join ledger.forget ledger.startsFrom ledger.closed ledger.messages ledger.now ledger.seconds ledger.ready ledger.complete ledger.ranked ledger.latest ledger.chosen ledger.others merge.openEntry merge.mergeAll merge.merge merge.meet merge.has merge.spanOf merge.endAfter merge.finished merge.orElse merge.lowestLater merge.knownOf merge.entryKey
 worked-out = (refl, refl, refl, refl)
 
 -- ---- "count over 40 waiting as a state not in order, refusal 5"
@@ -95,5 +97,5 @@ numbers n = number 200 (given n) (ok (push [])) ∷ number 200 (given n) (ok flu
 
 -- 40 are accepted at a push and at a flush, 41 and 128 are refused at both
 pub at-forty : (numbers 40 ≡ 0 ∷ 0 ∷ []) × (numbers 41 ≡ 5 ∷ 5 ∷ []) × (numbers 128 ≡ 5 ∷ 5 ∷ [])
-unfolding devices keyOf rankOf rightCrc rssiOf timeOf startOf allDbm le lt eq neg ofInt sub add mul div isNan round causes.cause causes.callCause causes.orderly causes.below causes.since causes.unlike causes.waits causes.allFit causes.entryFits causes.spansFit causes.inFront causes.anyNan causes.entryNan causes.endNan causes.spanNan ledger.spaced merge.openEntry merge.mergeAll merge.merge merge.meet merge.has merge.spanOf merge.endAfter merge.finished merge.orElse merge.lowestLater merge.knownOf merge.entryKey
+unfolding devices keyOf rankOf rightCrc rssiOf timeOf startOf allDbm le lt eq neg ofInt sub add mul div isNan round causes.cause causes.callCause causes.orderly causes.below causes.since causes.unlike causes.waits causes.allFit causes.entryFits causes.spansFit causes.inFront causes.anyNan causes.entryNan causes.endNan causes.spanNan causes.firstOf shifts.shiftsCause shifts.shiftsOk shifts.startOk shifts.all shifts.rising ledger.spaced merge.openEntry merge.mergeAll merge.merge merge.meet merge.has merge.spanOf merge.endAfter merge.finished merge.orElse merge.lowestLater merge.knownOf merge.entryKey
 at-forty = (refl, refl, refl)

@@ -5,18 +5,23 @@ use mathlib.Core.Bool.{cond}
 use Prim.Native.Nat.{ℕ, zero, suc, _*_, _/_, _%_}
 use lib.ListN.{length, take, drop}
 use lib.Dec.{eqb}
+use lib.Ieee.{Float}
 use Rattle.limits.specs.Limits.{recordSize}
 use Rattle.record.specs.Record.{frameKind, frameRecord, messageRecord}
 use Rattle.record.specs.Readers.{kindOf, rankOf, flagsOf, deviceOf, counterOf, rssiOf, timeOf, startOf}
 use Rattle.demod.specs.Capture.{joined}
-use Rattle.ledger.specs.Frames.{Key}
+use Rattle.ledger.specs.Frames.{Key, Frame}
 use Rattle.ledger.specs.Ledger.{Event, ofFrame, ofMessage}
 use Rattle.ledger.specs.Demand3.{Seen, frame, message}
 
--- "a frame record .. with the table's bytes", "A message's bytes are the table's"
-unfoldable pub recordOf : Event → List ℕ
-recordOf (ofFrame f) = frameRecord (f .uplink) (f .reception)
-recordOf (ofMessage m) = messageRecord m
+-- "a frame record .. with the table's bytes"
+abbrev pub frameBytes : Frame → List ℕ
+frameBytes f = frameRecord (f .uplink) (f .reception)
+
+-- "A message's bytes are the table's"; 02, request 03: "every message is marked .. by its time", in a call whose marks are these
+unfoldable pub recordOf : (Float → ℕ) → Event → List ℕ
+recordOf mark (ofFrame f) = frameBytes f
+recordOf mark (ofMessage m) = messageRecord (mark (m .time)) m
 
 -- each record has its 120 bytes
 abbrev pub Sized : List (List ℕ) → Type 0

@@ -20,6 +20,7 @@ use reading::Fetched;
 use reading::fetch;
 use receiver::Received;
 use receiver::SigfoxReceiver;
+use shifts::Shifts;
 
 // A proved loop has to end, and nothing says that the input does. A read brings a byte at least, and a stream of over 2^41 bytes is refused.
 const MOST_READS: u64 = 0x400_0000_0000;
@@ -63,7 +64,9 @@ fn push(
         };
     }
     let raw = record.raw;
-    receiver.push_raw(&raw, samples, events, scratch32, scratch64)
+    let shifts = Shifts::none();
+    let closed = [0u32; 0];
+    receiver.push_raw(&raw, shifts, &closed, samples, events, scratch32, scratch64)
 }
 
 // The whole records of the buffer, from one place on to another. The receiver goes from call to call by itself: it is large.
@@ -184,7 +187,9 @@ fn finish(
         return listener;
     }
     let receiver = l.receiver;
-    let r = receiver.flush(samples, events, scratch32, scratch64);
+    let shifts = Shifts::none();
+    let closed = [0u32; 0];
+    let r = receiver.flush(shifts, &closed, samples, events, scratch32, scratch64);
     emit_all(listener, r.refused, r.count, events, at, lo, hz, scratch64)
 }
 

@@ -74,14 +74,14 @@ module _ (s : SigfoxReceiver) (xs samples : List Float) (old : List ℕ) (scratc
         fill-end s samples old scratch xs after old (s .held + length xs) (s .base) (s .unscanned + length xs) given (length xs)
         (fill-still (s .rate) xs a b old after old (s .held + length xs) (s .base) (s .unscanned + length xs) given (length xs) (rw (z, w) at m) (d .quiet)) (omega arith)
 
-    pub added : (r : Received) (now : List Float) → Added s xs samples r now → Answers s (push xs) samples old r now old
-    added r now h =
+    pub added : (mark : Float → ℕ) (r : Received) (now : List Float) → Added s xs samples r now → Answers s (push xs) mark samples old r now old
+    added mark r now h =
         let time = seconds (s .rate) (s .base + (s .held + length xs)) in
         let none = none-expires time (waitingOf (s .waiting)) (d .stay) in
         record {
           ended =
               rw (h .answer)
-              (ended s (allIn s samples old scratch xs) old (s .held + length xs) (s .base) (s .unscanned + length xs) given old (done .under) (push xs) false (ends-push xs) 0 old
+              (ended s (allIn s samples old scratch xs) old (s .held + length xs) (s .base) (s .unscanned + length xs) given old (done .under) mark (push xs) false (ends-push xs) 0 old
               (λ rs was z e b. rw (none .0, append-nil rs) (e, b)) (s .starts) (s .waiting)
               (starts-same (s .starts) (ap (λ (k : causes.Counts). k .starts) (p .counts)))
               (rw (none .1) (waiting-same (s .waiting) (ap (λ (k : causes.Counts). k .waiting) (p .counts)))));

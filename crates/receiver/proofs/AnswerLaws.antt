@@ -15,9 +15,11 @@ use Rattle.limits.specs.Samples.{rateOk, allDbm}
 use Rattle.demod.specs.Capture.{joined}
 use Rattle.ledger.specs.Ledger.{Ledger, Call, push, pushRaw, flush, byEntry, capacity, dbmOf}
 use Rattle.ledger.specs.Causes as causes
-use Rattle.ledger.specs.Causes.{Counts, mostStarts, mostWaiting, orderly, tooShort, callCause, cause, callEvents}
+use Rattle.ledger.specs.Causes.{Counts, mostStarts, mostWaiting, orderly, tooShort, firstOf, callCause, cause, callEvents}
+use Rattle.shifts.specs.Shifts.{Schedule, scheduleCause, markBy}
 use Rattle.ledger.specs.Records.{withRecords}
 use Rattle.ledger.specs.Room.{openPlaces}
+use Rattle.ledger.proofs.Firsts.{first-none}
 use Rattle.ledger.proofs.Basics.{and-true, or-false}
 use Rattle.ledger.proofs.Orders.{passed}
 use Rattle.receiver_starts.specs.Starts as starts
@@ -45,7 +47,7 @@ in-order rate n l (push xs) e =
 in-order rate n l flush e = not-false (orderly rate n l) (zero-test (not (orderly rate n l)) badState _ (omega arith) e .0)
 
 module _ (s : SigfoxReceiver) (c : Call) (m : Memory) (starts-places : length (s .starts .at) ≡ mostStarts) (open-places : length (s .waiting .messages) ≡ openPlaces)
-    (e : refusalOf s c m ≡ 0) where
+    (e : cause (s .rate) (lengthsOf m) (countsOf s) (ledgerOf s (m .samples)) c ≡ 0) where
   long-enough : (rateOk (s .rate) ≡ true) × (tooShort (s .rate) (lengthsOf m) ≡ false) × (callCause (s .rate) (countsOf s) (ledgerOf s (m .samples)) c ≡ 0)
   unfolding cause
   long-enough =
@@ -104,8 +106,16 @@ samples-kept s c l zero h = absurd (not-suc-le-zero h)
 samples-kept s (push xs) l (suc k) h = refl
 samples-kept s flush l (suc k) h = refl
 
-module _ (s : SigfoxReceiver) (c : Call) (m : Memory) where
-  none-written : (k : ℕ) → 1 ≤ k → recordsOf s c (m .samples) k ≡ []
+module _ (s : SigfoxReceiver) (c : Call) (p : Schedule) (m : Memory) where
+  -- a call that is not refused has no cause but perhaps 11, and not that
+  pub no-cause : refusalOf s c p m ≡ 0 → cause (s .rate) (lengthsOf m) (countsOf s) (ledgerOf s (m .samples)) c ≡ 0
+  no-cause e = first-none _ _ e .0
+
+  -- what the code finds
+  pub refusal-is : (n k : ℕ) → k ≡ firstOf n (scheduleCause p) → n ≡ cause (s .rate) (lengthsOf m) (countsOf s) (ledgerOf s (m .samples)) c → k ≡ refusalOf s c p m
+  refusal-is n k e f = e ∙ ap (λ (x : ℕ). firstOf x (scheduleCause p)) f
+
+  none-written : (k : ℕ) → 1 ≤ k → recordsOf s c p (m .samples) k ≡ []
   unfolding callEvents
   none-written zero h = absurd (not-suc-le-zero h)
   none-written (suc k) h = refl
@@ -120,21 +130,21 @@ module _ (s : SigfoxReceiver) (c : Call) (m : Memory) where
   free-kept zero l h = absurd (not-suc-le-zero h)
   free-kept (suc k) l h = refl
 
-  pub answered-no : (n : ℕ) → n ≡ refusalOf s c m → 1 ≤ n → Answered s c m m (record { refused = n; count = 0; receiver = s })
+  pub answered-no : (n : ℕ) → n ≡ refusalOf s c p m → 1 ≤ n → Answered s c p m m (record { refused = n; count = 0; receiver = s })
   unfolding withRecords joined
   answered-no n e h =
-      let k : 1 ≤ refusalOf s c m = rw (← e) h in
+      let k : 1 ≤ refusalOf s c p m = rw (← e) h in
       record {
         refused = e;
-        count = rw (none-written (refusalOf s c m) k) refl;
-        state = state-kept (refusalOf s c m) k;
-        samples = samples-kept s c (m .samples) (refusalOf s c m) k;
-        events = rw (none-written (refusalOf s c m) k) refl;
-        scratch32 = free-kept (refusalOf s c m) (m .scratch32) k;
-        scratch64 = free-kept (refusalOf s c m) (m .scratch64) k;
+        count = rw (none-written (refusalOf s c p m) k) refl;
+        state = state-kept (refusalOf s c p m) k;
+        samples = samples-kept s c (m .samples) (refusalOf s c p m) k;
+        events = rw (none-written (refusalOf s c p m) k) refl;
+        scratch32 = free-kept (refusalOf s c p m) (m .scratch32) k;
+        scratch64 = free-kept (refusalOf s c p m) (m .scratch64) k;
       }
 
-  pub answered-yes : (r : Received) (t : Memory) → refusalOf s c m ≡ 0 → Answers s c (m .samples) (m .events) r (t .samples) (t .events) → Answered s c m t r
+  pub answered-yes : (r : Received) (t : Memory) → refusalOf s c p m ≡ 0 → Answers s c (markBy p) (m .samples) (m .events) r (t .samples) (t .events) → Answered s c p m t r
   unfolding callEvents stateAfter Free
   answered-yes r t e d =
       record {

@@ -33,29 +33,29 @@ NewTells =
 
 abbrev pub PushTells : Type 0
 PushTells =
-    (κs : Lfts 5) (a : ArgsD push-fn.signature κs) (r : ResD push-fn.signature κs) (s : AtExit (endedOf 5 push-kinds.ps push-kinds.r) κs)
+    (κs : Lfts 6) (a : ArgsD push-fn.signature κs) (r : ResD push-fn.signature κs) (s : AtExit (endedOf 6 push-kinds.ps push-kinds.r) κs)
     → push-reads.Learnt κs a r s
-    → Answered (a .0) (call.push (now (a .1 .0)))
-    (record { samples = now (a .1 .1 .0); events = now (a .1 .1 .1 .0); scratch32 = now (a .1 .1 .1 .1 .0); scratch64 = now (a .1 .1 .1 .1 .1 .0) })
-    (record { samples = now (s .1 .1 .0); events = now (s .1 .1 .1 .0); scratch32 = now (s .1 .1 .1 .1 .0); scratch64 = now (s .1 .1 .1 .1 .1 .0) })
+    → Answered (a .0) (call.push (now (a .1 .0))) (record { shifts = a .1 .1 .0; closed = now (a .1 .1 .1 .0) })
+    (record { samples = now (a .1 .1 .1 .1 .0); events = now (a .1 .1 .1 .1 .1 .0); scratch32 = now (a .1 .1 .1 .1 .1 .1 .0); scratch64 = now (a .1 .1 .1 .1 .1 .1 .1 .0) })
+    (record { samples = now (s .1 .1 .1 .1 .0); events = now (s .1 .1 .1 .1 .1 .0); scratch32 = now (s .1 .1 .1 .1 .1 .1 .0); scratch64 = now (s .1 .1 .1 .1 .1 .1 .1 .0) })
     r
 
 abbrev pub PushRawTells : Type 0
 PushRawTells =
-    (κs : Lfts 5) (a : ArgsD raw-fn.signature κs) (r : ResD raw-fn.signature κs) (s : AtExit (endedOf 5 raw-kinds.ps raw-kinds.r) κs)
+    (κs : Lfts 6) (a : ArgsD raw-fn.signature κs) (r : ResD raw-fn.signature κs) (s : AtExit (endedOf 6 raw-kinds.ps raw-kinds.r) κs)
     → raw-reads.Learnt κs a r s
-    → Answered (a .0) (call.pushRaw (now (a .1 .0)))
-    (record { samples = now (a .1 .1 .0); events = now (a .1 .1 .1 .0); scratch32 = now (a .1 .1 .1 .1 .0); scratch64 = now (a .1 .1 .1 .1 .1 .0) })
-    (record { samples = now (s .1 .1 .0); events = now (s .1 .1 .1 .0); scratch32 = now (s .1 .1 .1 .1 .0); scratch64 = now (s .1 .1 .1 .1 .1 .0) })
+    → Answered (a .0) (call.pushRaw (now (a .1 .0))) (record { shifts = a .1 .1 .0; closed = now (a .1 .1 .1 .0) })
+    (record { samples = now (a .1 .1 .1 .1 .0); events = now (a .1 .1 .1 .1 .1 .0); scratch32 = now (a .1 .1 .1 .1 .1 .1 .0); scratch64 = now (a .1 .1 .1 .1 .1 .1 .1 .0) })
+    (record { samples = now (s .1 .1 .1 .1 .0); events = now (s .1 .1 .1 .1 .1 .0); scratch32 = now (s .1 .1 .1 .1 .1 .1 .0); scratch64 = now (s .1 .1 .1 .1 .1 .1 .1 .0) })
     r
 
 abbrev pub FlushTells : Type 0
 FlushTells =
-    (κs : Lfts 4) (a : ArgsD flush-fn.signature κs) (r : ResD flush-fn.signature κs) (s : AtExit (endedOf 4 flush-kinds.ps flush-kinds.r) κs)
+    (κs : Lfts 5) (a : ArgsD flush-fn.signature κs) (r : ResD flush-fn.signature κs) (s : AtExit (endedOf 5 flush-kinds.ps flush-kinds.r) κs)
     → flush-reads.Learnt κs a r s
-    → Answered (a .0) call.flush
-    (record { samples = now (a .1 .0); events = now (a .1 .1 .0); scratch32 = now (a .1 .1 .1 .0); scratch64 = now (a .1 .1 .1 .1 .0) })
-    (record { samples = now (s .1 .0); events = now (s .1 .1 .0); scratch32 = now (s .1 .1 .1 .0); scratch64 = now (s .1 .1 .1 .1 .0) })
+    → Answered (a .0) call.flush (record { shifts = a .1 .0; closed = now (a .1 .1 .0) })
+    (record { samples = now (a .1 .1 .1 .0); events = now (a .1 .1 .1 .1 .0); scratch32 = now (a .1 .1 .1 .1 .1 .0); scratch64 = now (a .1 .1 .1 .1 .1 .1 .0) })
+    (record { samples = now (s .1 .1 .1 .0); events = now (s .1 .1 .1 .1 .0); scratch32 = now (s .1 .1 .1 .1 .1 .0); scratch64 = now (s .1 .1 .1 .1 .1 .1 .0) })
     r
 
 -- ---- the statement, and its proof: what is learnt is `Answered` itself
@@ -66,9 +66,9 @@ pub record Contracts : Type 0 where
   pub push-raw-tells : PushRawTells
   pub flush-tells : FlushTells
   pub new-asks-nothing : (κs : Lfts 0) (a : ArgsD new-fn.signature κs) → new-reads.Asked κs a
-  pub push-asks-nothing : (κs : Lfts 5) (a : ArgsD push-fn.signature κs) → push-reads.Asked κs a
-  pub push-raw-asks-nothing : (κs : Lfts 5) (a : ArgsD raw-fn.signature κs) → raw-reads.Asked κs a
-  pub flush-asks-nothing : (κs : Lfts 4) (a : ArgsD flush-fn.signature κs) → flush-reads.Asked κs a
+  pub push-asks-nothing : (κs : Lfts 6) (a : ArgsD push-fn.signature κs) → push-reads.Asked κs a
+  pub push-raw-asks-nothing : (κs : Lfts 6) (a : ArgsD raw-fn.signature κs) → raw-reads.Asked κs a
+  pub flush-asks-nothing : (κs : Lfts 5) (a : ArgsD flush-fn.signature κs) → flush-reads.Asked κs a
 
 pub contracts : Contracts
 contracts =

@@ -1,7 +1,7 @@
 -- An accepted call from its first sample to its answer: where its scans begin and end, and what its end makes of them. Assumes nothing.
 use mathlib.Core.Bool.{Bool, true, false}
 use mathlib.Core.List.{List, [], _∷_, _++_, map}
-use mathlib.Core.Path.{_≡_, _∙_, refl, sym, ap}
+use mathlib.Core.Path.{_≡_, _∙_, refl, sym, ap, ap₂}
 use Prim.Native.Nat.{ℕ, _+_, _≤_}
 use native.Mathlib.Omega.{arith}
 use lib.ListN.{length, take, length-map}
@@ -9,12 +9,13 @@ use lib.Ieee.{Float}
 use Rattle.limits.specs.Limits.{longestStream}
 use Rattle.demod.specs.Capture.{joined}
 use Rattle.ledger.specs.Ledger.{Ledger, Call, push, flush, byEntry, seconds, ready, chosen, others, now, scans, startCall, closed, messages, events, eventOf, ofFrame}
+use Rattle.ledger.specs.Frames.{Frame}
 use Rattle.ledger.specs.Ledger as ledger
 use Rattle.ledger.specs.Causes as causes
 use Rattle.ledger.specs.Causes.{mostStarts, mostWaiting}
 use Rattle.ledger.specs.Room.{Accepted, openPlaces, scansIf, scanIf}
 use Rattle.ledger.specs.Demodulation.{demodOf}
-use Rattle.ledger.specs.Records.{Sized, recordOf, withRecords}
+use Rattle.ledger.specs.Records.{Sized, frameBytes, recordOf, withRecords}
 use Rattle.ledger.specs.declared.Pending.{Pending}
 use Rattle.ledger.proofs.Basics.{map-join}
 use Rattle.ledger.proofs.Sizes.{callSize, scans-small}
@@ -184,6 +185,12 @@ others-are : (rate : ℕ) (c : Call) (all : Bool) (l : Ledger byEntry) (t : Floa
     → others (ready byEntry c (now rate l)) (l .waiting) ≡ others (leaves all t) (l .waiting)
 others-are rate c all l t k e = rw e (ap (λ (f : Pending → Bool). others f (l .waiting)) (k (now rate l)))
 
+-- a call's frames have no mark
+pub frames-are : (mark : Float → ℕ) (fs : List Frame) → map (recordOf mark) (map ofFrame fs) ≡ map frameBytes fs
+unfolding recordOf
+frames-are mark [] = refl
+frames-are mark (f ∷ fs) = ap (λ (k : List (List ℕ)). frameBytes f ∷ k) (frames-are mark fs)
+
 module _ (s : SigfoxReceiver) (l : Ledger byEntry) (old : List ℕ) (held base unscanned : ℕ) (t : Scanned) (bytes : List ℕ) (u : Under l old held base unscanned t bytes) where
   -- "Now is (base + held)/rate"
   abbrev time : Float
@@ -193,29 +200,31 @@ module _ (s : SigfoxReceiver) (l : Ledger byEntry) (old : List ℕ) (held base u
   unfolding now
   time-is = rw (u .holds, u .based) refl
 
-  module _ (c : Call) (all : Bool) (k : EndsBy c all) where
+  module _ (mark : Float → ℕ) (c : Call) (all : Bool) (k : EndsBy c all) where
     abbrev leaving : List (List ℕ)
-    leaving = written all time (waitingOf (t .waiting))
+    leaving = written mark all time (waitingOf (t .waiting))
 
-    leaving-are : leaving ≡ map recordOf (map (eventOf byEntry) (messages (s .rate) c l))
+    leaving-are : leaving ≡ map (recordOf mark) (map (eventOf byEntry) (messages (s .rate) c l))
     leaving-are = rw (u .midway .waiting, messages-are (s .rate) c all l time k time-is) refl
 
-    records-are : map recordOf (events (s .rate) c l) ≡ map recordOf (map ofFrame (l .heard)) ++ leaving
-    records-are = map-join recordOf (map ofFrame (l .heard)) (map (eventOf byEntry) (messages (s .rate) c l)) ∙ rw leaving-are refl
+    records-are : map (recordOf mark) (events (s .rate) c l) ≡ map frameBytes (l .heard) ++ leaving
+    records-are =
+        map-join (recordOf mark) (map ofFrame (l .heard)) (map (eventOf byEntry) (messages (s .rate) c l))
+        ∙ ap₂ (λ (x y : List (List ℕ)). x ++ y) (frames-are mark (l .heard)) (sym leaving-are)
 
     module _ (n : ℕ) (now : List ℕ)
         (w : (rs : List (List ℕ)) (was : List ℕ) → Sized rs → t .count ≡ length rs → bytes ≡ withRecords rs was
-        → (n ≡ length (rs ++ written all (seconds (s .rate) (base + held)) (waitingOf (t .waiting))))
-        × (now ≡ withRecords (rs ++ written all (seconds (s .rate) (base + held)) (waitingOf (t .waiting))) was)) where
-      wrote : (n ≡ length (map recordOf (events (s .rate) c l))) × (now ≡ withRecords (map recordOf (events (s .rate) c l)) old)
+        → (n ≡ length (rs ++ written mark all (seconds (s .rate) (base + held)) (waitingOf (t .waiting))))
+        × (now ≡ withRecords (rs ++ written mark all (seconds (s .rate) (base + held)) (waitingOf (t .waiting))) was)) where
+      wrote : (n ≡ length (map (recordOf mark) (events (s .rate) c l))) × (now ≡ withRecords (map (recordOf mark) (events (s .rate) c l)) old)
       wrote =
           rw records-are
-          (w (map recordOf (map ofFrame (l .heard))) old (u .midway .sized)
-          (u .midway .count ∙ sym (length-map (map ofFrame (l .heard)) recordOf ∙ length-map (l .heard) ofFrame)) (u .midway .events))
+          (w (map frameBytes (l .heard)) old (u .midway .sized)
+          (u .midway .count ∙ sym (length-map (l .heard) frameBytes)) (u .midway .events))
 
       pub ended : (a : Starts) (b : Waiting) → a ≡ starts.over (s .starts) (starts.remembered (t .starts))
           → b ≡ waiting.over (s .waiting) (others (leaves all (seconds (s .rate) (base + held))) (waitingOf (t .waiting)))
-          → Ended s c l old
+          → Ended s c mark l old
           (record { refused = 0; count = n; receiver = record { rate = s .rate; held = held; base = base; unscanned = unscanned; starts = a; waiting = b } }) now
       unfolding stateOver closed
       ended a b ea eb =
@@ -225,10 +234,10 @@ module _ (s : SigfoxReceiver) (l : Ledger byEntry) (old : List ℕ) (held base u
           record { answer = rw (wrote .0, u .holds, u .based, u .unseen, x, y) refl; records = wrote .1 }
 
 -- the records of a call whose scans are done have room
-pub closable : (s : SigfoxReceiver) (c : Call) (samples places : List Float) (old now : List ℕ) (scratch : List Float) (held base unscanned : ℕ) (t : Scanned) (all : Bool)
+pub closable : (mark : Float → ℕ) (s : SigfoxReceiver) (c : Call) (samples places : List Float) (old now : List ℕ) (scratch : List Float) (held base unscanned : ℕ) (t : Scanned) (all : Bool)
     → Passes s c samples old scratch → Done s c samples old held base unscanned t places now → EndsBy c all → length now ≡ length old
-    → Closable (s .rate) (base + held) t all now
-closable s c samples places old now scratch held base unscanned t all p d k e =
+    → Closable mark (s .rate) (base + held) t all now
+closable mark s c samples places old now scratch held base unscanned t all p d k e =
     let rate = s .rate in
     let l = ledgerOf s samples in
     let w = scans rate (demodOf rate) l c in
@@ -236,9 +245,9 @@ closable s c samples places old now scratch held base unscanned t all p d k e =
     let fair = demod-fair rate (p .lowest) (p .highest) in
     let few = bounded rate (demodOf rate) fair entries-lawful pos .events l c (p .order) (p .accepted) in
     let long = scans-small rate (demodOf rate) l c pos (p .order .room) .1 in
-    let n : length (written all (seconds rate (base + held)) (waitingOf (t .waiting))) ≡ length (messages rate c w)
-    = ap length (leaving-are s w old held base unscanned t now (d .under) c all k)
-    ∙ length-map (map (eventOf byEntry) (messages rate c w)) recordOf ∙ length-map (messages rate c w) (eventOf byEntry) in
+    let n : length (written mark all (seconds rate (base + held)) (waitingOf (t .waiting))) ≡ length (messages rate c w)
+    = ap length (leaving-are s w old held base unscanned t now (d .under) mark c all k)
+    ∙ length-map (map (eventOf byEntry) (messages rate c w)) (recordOf mark) ∙ length-map (messages rate c w) (eventOf byEntry) in
     record {
       starts = d .starts;
       waiting = d .waiting;

@@ -41,24 +41,24 @@ pub record Under (l : Ledger byEntry) (old : List ℕ) (held base unscanned : �
   pub midway : Midway l old (t .starts) (t .waiting) (t .count) now
 
 -- what the end of a call asks at the sample `end`: the starts and the messages are within their arrays, and the records of those that leave have room
-pub record Closable (rate end : ℕ) (t : Scanned) (all : Bool) (events : List ℕ) : Type 0 where
+pub record Closable (mark : Float → ℕ) (rate end : ℕ) (t : Scanned) (all : Bool) (events : List ℕ) : Type 0 where
   pub starts : t .starts .count ≤ mostStarts
   pub waiting : t .waiting .count ≤ openPlaces
   pub stream : end ≤ longestStream
-  pub room : recordSize * (t .count + length (written all (seconds rate end) (waitingOf (t .waiting)))) ≤ length events
+  pub room : recordSize * (t .count + length (written mark all (seconds rate end) (waitingOf (t .waiting)))) ≤ length events
 
 -- a push writes the messages that are complete, a flush all
 abbrev pub EndsBy : Call → Bool → Type 0
 EndsBy c all = (t : Float) → ready byEntry c t ≡ leaves all t
 
--- the answer to an accepted call c on the state s whose scans left l, and its records
-pub record Ended (s : SigfoxReceiver) (c : Call) (l : Ledger byEntry) (old : List ℕ) (r : Received) (now : List ℕ) : Type 0 where
-  pub answer : r ≡ record { refused = 0; count = length (map recordOf (events (s .rate) c l)); receiver = stateOver s (closed (s .rate) c l) }
-  pub records : now ≡ withRecords (map recordOf (events (s .rate) c l)) old
+-- the answer to an accepted call c on the state s whose scans left l, and its records with their marks
+pub record Ended (s : SigfoxReceiver) (c : Call) (mark : Float → ℕ) (l : Ledger byEntry) (old : List ℕ) (r : Received) (now : List ℕ) : Type 0 where
+  pub answer : r ≡ record { refused = 0; count = length (map (recordOf mark) (events (s .rate) c l)); receiver = stateOver s (closed (s .rate) c l) }
+  pub records : now ≡ withRecords (map (recordOf mark) (events (s .rate) c l)) old
 
 -- the accepted call c on the state s is done
-pub record Answers (s : SigfoxReceiver) (c : Call) (before : List Float) (old : List ℕ) (r : Received) (after : List Float) (now : List ℕ) : Type 0 where
-  pub ended : Ended s c (scans (s .rate) (demodOf (s .rate)) (ledgerOf s before) c) old r now
+pub record Answers (s : SigfoxReceiver) (c : Call) (mark : Float → ℕ) (before : List Float) (old : List ℕ) (r : Received) (after : List Float) (now : List ℕ) : Type 0 where
+  pub ended : Ended s c mark (scans (s .rate) (demodOf (s .rate)) (ledgerOf s before) c) old r now
   pub samples : after ≡ samplesAfter s c before 0
 
 -- ---- a push that only adds its samples

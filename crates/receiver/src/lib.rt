@@ -6,7 +6,8 @@ ghost use lib.ListN.{length};
 ghost use lib.Dec.{ltb};
 ghost use Rattle.limits.specs.Limits.{longestStream, stream};
 ghost use Rattle.ledger.specs.Ledger.{capacity, push, pushRaw, flush};
-ghost use Rattle.ledger.specs.Causes.{tooShort, cause};
+ghost use Rattle.shifts.specs.Shifts.{shiftsCause};
+ghost use Rattle.ledger.specs.Causes.{tooShort, cause, firstOf};
 ghost use Rattle.receiver.specs.State.{newState, ledgerOf, countsOf, lentOf, numbersOk, samplesOk, givenCause, messagesCause, stateCause};
 ghost use Rattle.receiver.specs.Calls.{Answered};
 
@@ -15,6 +16,7 @@ mod run; // an accepted call
 use ledger::Pending;
 use receiver_starts::Starts;
 use receiver_waiting::Waiting;
+use shifts::Shifts;
 
 // Rate, samples held in the lent buffer, absolute index of its first, samples not looked at yet, remembered starts, open messages.
 pub struct SigfoxReceiver {
@@ -62,12 +64,14 @@ impl SigfoxReceiver {
     pub fn push(
         self,
         dbm: &[f32],
+        shifts: Shifts,
+        closed: &[u32],
         samples: &mut [f32],
         events: &mut [u8],
         scratch32: &mut [f32],
         scratch64: &mut [f64],
     ) -> Received
-        ensures { λ r. ⌜ Answered self (push (now (dbm .entry)))
+        ensures { λ r. ⌜ Answered self (push (now (dbm .entry))) (record { shifts = shifts; closed = now (closed .entry) })
             (record { samples = now (samples .entry); events = now (events .entry); scratch32 = now (scratch32 .entry); scratch64 = now (scratch64 .entry) })
             (record { samples = now (samples .exit); events = now (events .exit); scratch32 = now (scratch32 .exit); scratch64 = now (scratch64 .exit) }) r ⌝ }
     {
@@ -77,7 +81,8 @@ impl SigfoxReceiver {
             scratch32: scratch32.len(),
             scratch64: scratch64.len(),
         };
-        let refused = push_cause(self, dbm, samples, lent);
+        let first = push_cause(self, dbm, samples, lent);
+        let refused = or_shifts(first, shifts, closed);
         if 1 <= refused {
             return Received {
                 refused,
@@ -85,19 +90,21 @@ impl SigfoxReceiver {
                 receiver: self,
             };
         }
-        run::hear(self, dbm, samples, events, scratch64)
+        run::hear(self, dbm, shifts, closed, samples, events, scratch64)
     }
 
     // Raw samples, -2 times dBm each (receiver.rs `push_raw`).
     pub fn push_raw(
         self,
         raw: &[u8],
+        shifts: Shifts,
+        closed: &[u32],
         samples: &mut [f32],
         events: &mut [u8],
         scratch32: &mut [f32],
         scratch64: &mut [f64],
     ) -> Received
-        ensures { λ r. ⌜ Answered self (pushRaw (now (raw .entry)))
+        ensures { λ r. ⌜ Answered self (pushRaw (now (raw .entry))) (record { shifts = shifts; closed = now (closed .entry) })
             (record { samples = now (samples .entry); events = now (events .entry); scratch32 = now (scratch32 .entry); scratch64 = now (scratch64 .entry) })
             (record { samples = now (samples .exit); events = now (events .exit); scratch32 = now (scratch32 .exit); scratch64 = now (scratch64 .exit) }) r ⌝ }
     {
@@ -107,7 +114,8 @@ impl SigfoxReceiver {
             scratch32: scratch32.len(),
             scratch64: scratch64.len(),
         };
-        let refused = push_raw_cause(self, raw, samples, lent);
+        let first = push_raw_cause(self, raw, samples, lent);
+        let refused = or_shifts(first, shifts, closed);
         if 1 <= refused {
             return Received {
                 refused,
@@ -117,18 +125,28 @@ impl SigfoxReceiver {
         }
         receiver_samples::dbm_of_all(raw, scratch32);
         let n = raw.len();
-        run::hear(self, &scratch32[..n], samples, events, scratch64)
+        run::hear(
+            self,
+            &scratch32[..n],
+            shifts,
+            closed,
+            samples,
+            events,
+            scratch64,
+        )
     }
 
     // What has been heard so far is decoded and every open message written (receiver.rs `flush`).
     pub fn flush(
         self,
+        shifts: Shifts,
+        closed: &[u32],
         samples: &mut [f32],
         events: &mut [u8],
         scratch32: &mut [f32],
         scratch64: &mut [f64],
     ) -> Received
-        ensures { λ r. ⌜ Answered self flush
+        ensures { λ r. ⌜ Answered self flush (record { shifts = shifts; closed = now (closed .entry) })
             (record { samples = now (samples .entry); events = now (events .entry); scratch32 = now (scratch32 .entry); scratch64 = now (scratch64 .entry) })
             (record { samples = now (samples .exit); events = now (events .exit); scratch32 = now (scratch32 .exit); scratch64 = now (scratch64 .exit) }) r ⌝ }
     {
@@ -138,7 +156,8 @@ impl SigfoxReceiver {
             scratch32: scratch32.len(),
             scratch64: scratch64.len(),
         };
-        let refused = flush_cause(self, samples, lent);
+        let first = flush_cause(self, samples, lent);
+        let refused = or_shifts(first, shifts, closed);
         if 1 <= refused {
             return Received {
                 refused,
@@ -146,7 +165,7 @@ impl SigfoxReceiver {
                 receiver: self,
             };
         }
-        run::hear_all(self, samples, events, scratch64)
+        run::hear_all(self, samples, shifts, closed, events, scratch64)
     }
 }
 
@@ -304,4 +323,14 @@ pub fn flush_cause(s: SigfoxReceiver, samples: &[f32], lent: Lengths) -> u8
     }
     let messages = s.waiting.messages;
     messages_cause(messages, count)
+}
+
+// The first cause, or else refusal 11.
+fn or_shifts(first: u8, shifts: Shifts, closed: &[u32]) -> u8
+    ensures { λ r. ⌜ r ≡ firstOf first (shiftsCause shifts (now (closed .entry))) ⌝ }
+{
+    if 1 <= first {
+        return first;
+    }
+    shifts::cause(shifts, closed)
 }

@@ -9,10 +9,12 @@ ghost use Rattle.ledger.specs.Ledger.{Ledger, Call, byEntry, capacity, push, fl
 ghost use Rattle.ledger.specs.Room.{scanIf};
 ghost use Rattle.ledger.specs.Demodulation.{demodOf};
 ghost use Rattle.receiver_scan.specs.Midway.{Lent, Within, Does};
+ghost use Rattle.shifts.specs.Shifts.{markOf};
 ghost use Rattle.receiver.specs.Running.{Passes, Under, Closable, EndsBy, Ended, Answers, Addable, Adds, Added};
 use crate::Received;
 use crate::SigfoxReceiver;
 use receiver_scan::Scanned;
+use shifts::Shifts;
 
 // 0.3 s in samples, rounded: so long ago a burst ended that is taken (TAIL_S).
 fn tail(rate: u32) -> usize
@@ -58,14 +60,24 @@ fn finish(
     unscanned: usize,
     t: Scanned,
     all: bool,
+    shifts: Shifts,
+    closed: &[u32],
     events: &mut [u8],
 ) -> Received
-    requires { ⌜ Closable (s .rate) (base + held) t all (now events) ⌝ }
-    ensures { λ r. ⌜ ((c : Call) (l : Ledger byEntry) (old : List ℕ) → EndsBy c all → Under l old held base unscanned t (now (events .entry)) → Ended s c l old r (now (events .exit))) ⌝ }
+    requires { ⌜ Closable (markOf shifts (now closed)) (s .rate) (base + held) t all (now events) ⌝ }
+    ensures { λ r. ⌜ ((c : Call) (l : Ledger byEntry) (old : List ℕ) → EndsBy c all → Under l old held base unscanned t (now (events .entry)) → Ended s c (markOf shifts (now (closed .entry))) l old r (now (events .exit))) ⌝ }
 {
     let time = receiver_scan::seconds(s.rate, base + (held as u64));
     let open = t.waiting;
-    let written = receiver_closing::write_messages(open, all, time, events, t.count);
+    let written = receiver_closing::write_messages(
+        open,
+        all,
+        time,
+        shifts,
+        closed,
+        events,
+        t.count,
+    );
     let before = s.waiting;
     let waiting = receiver_waiting::keep(before, open, all, time);
     let remembered = t.starts;
@@ -128,12 +140,14 @@ fn add(s: SigfoxReceiver, dbm: &[f32], samples: &mut [f32]) -> Received
 fn by_fillings(
     s: SigfoxReceiver,
     dbm: &[f32],
+    shifts: Shifts,
+    closed: &[u32],
     samples: &mut [f32],
     events: &mut [u8],
     scratch: &mut [f64],
 ) -> Received
     requires { ⌜ Passes s (push (now dbm)) (now samples) (now events) (now scratch) ⌝ }
-    ensures { λ r. ⌜ Answers s (push (now (dbm .entry))) (now (samples .entry)) (now (events .entry)) r (now (samples .exit)) (now (events .exit)) ⌝ }
+    ensures { λ r. ⌜ Answers s (push (now (dbm .entry))) (markOf shifts (now (closed .entry))) (now (samples .entry)) (now (events .entry)) r (now (samples .exit)) (now (events .exit)) ⌝ }
 {
     let rate = s.rate;
     let mut held = s.held;
@@ -160,35 +174,39 @@ fn by_fillings(
             unscanned = 0;
         }
     }
-    finish(s, held, base, unscanned, t, false, events)
+    finish(s, held, base, unscanned, t, false, shifts, closed, events)
 }
 
 // An accepted push.
 pub fn hear(
     s: SigfoxReceiver,
     dbm: &[f32],
+    shifts: Shifts,
+    closed: &[u32],
     samples: &mut [f32],
     events: &mut [u8],
     scratch: &mut [f64],
 ) -> Received
     requires { ⌜ Passes s (push (now dbm)) (now samples) (now events) (now scratch) ⌝ }
-    ensures { λ r. ⌜ Answers s (push (now (dbm .entry))) (now (samples .entry)) (now (events .entry)) r (now (samples .exit)) (now (events .exit)) ⌝ }
+    ensures { λ r. ⌜ Answers s (push (now (dbm .entry))) (markOf shifts (now (closed .entry))) (now (samples .entry)) (now (events .entry)) r (now (samples .exit)) (now (events .exit)) ⌝ }
 {
     if only_adds(s, dbm.len()) {
         return add(s, dbm, samples);
     }
-    by_fillings(s, dbm, samples, events, scratch)
+    by_fillings(s, dbm, shifts, closed, samples, events, scratch)
 }
 
 // An accepted flush: a scan that waits for nothing and leaves the count of samples not looked at, then every message is written.
 pub fn hear_all(
     s: SigfoxReceiver,
     samples: &[f32],
+    shifts: Shifts,
+    closed: &[u32],
     events: &mut [u8],
     scratch: &mut [f64],
 ) -> Received
     requires { ⌜ Passes s flush (now samples) (now events) (now scratch) ⌝ }
-    ensures { λ r. ⌜ Answers s flush (now (samples .entry)) (now (events .entry)) r (now (samples .entry)) (now (events .exit)) ⌝ }
+    ensures { λ r. ⌜ Answers s flush (markOf shifts (now (closed .entry))) (now (samples .entry)) (now (events .entry)) r (now (samples .entry)) (now (events .exit)) ⌝ }
 {
     let held = s.held;
     let starts = s.starts;
@@ -204,5 +222,15 @@ pub fn hear_all(
         0,
         scratch,
     );
-    finish(s, held, s.base, s.unscanned, t, true, events)
+    finish(
+        s,
+        held,
+        s.base,
+        s.unscanned,
+        t,
+        true,
+        shifts,
+        closed,
+        events,
+    )
 }

@@ -31,9 +31,9 @@ either false = inr refl
 -- ---- records of 120 bytes
 
 -- a message's record is one of them
-pub finished-size : (p : Pending) → length (p .message .payload) ≡ 12 → length (p .message .auth) ≡ 5 → length (messageRecord (finished p)) ≡ recordSize
+pub finished-size : (mark : ℕ) (p : Pending) → length (p .message .payload) ≡ 12 → length (p .message .auth) ≡ 5 → length (messageRecord mark (finished p)) ≡ recordSize
 unfolding finished
-finished-size p n m = length-message (finished p) n m
+finished-size mark p n m = length-message mark (finished p) n m
 
 -- ---- the messages that leave, one by one
 
@@ -41,17 +41,17 @@ finished-size p n m = length-message (finished p) n m
 abbrev pub adds : Bool → List ℕ → List (List ℕ)
 adds b r = cond b (r ∷ []) []
 
-module _ (all : Bool) (t : Float) where
-  written-next : (l : List Pending) (p : Pending) → written all t (l ++ (p ∷ [])) ≡ written all t l ++ adds (leaves all t p) (messageRecord (finished p))
+module _ (mark : Float → ℕ) (all : Bool) (t : Float) where
+  written-next : (l : List Pending) (p : Pending) → written mark all t (l ++ (p ∷ [])) ≡ written mark all t l ++ adds (leaves all t p) (messageRecord (mark (finished p .time)) (finished p))
   unfolding chosen recordOf
   written-next [] p = ⊎-elim (λ e. rw e refl) (λ e. rw e refl) (either (leaves all t p))
   written-next (m ∷ l) p =
       ⊎-elim
-      (λ e. rw e (ap (λ (k : List (List ℕ)). messageRecord (finished m) ∷ k) (written-next l p)))
+      (λ e. rw e (ap (λ (k : List (List ℕ)). messageRecord (mark (finished m .time)) (finished m) ∷ k) (written-next l p)))
       (λ e. rw e (written-next l p))
       (either (leaves all t m))
 
-  fewer : (l : List Pending) (i n : ℕ) → i ≤ n → length (written all t (take i l)) ≤ length (written all t (take n l))
+  fewer : (l : List Pending) (i n : ℕ) → i ≤ n → length (written mark all t (take i l)) ≤ length (written mark all t (take n l))
   unfolding chosen
   fewer l zero n h = omega arith
   fewer [] (suc i) n h = omega arith
@@ -64,10 +64,10 @@ module _ (all : Bool) (t : Float) where
     -- the messages before place i are looked at, and k records stand in `now`
     pub record WrittenAt (i k : ℕ) (now : List ℕ) : Type 0 where
       pub inside : i ≤ n
-      pub few : k ≡ count + length (written all t (take i ms))
+      pub few : k ≡ count + length (written mark all t (take i ms))
       pub size : length now ≡ length old
-      pub sized : Sized (written all t (take i ms))
-      pub here : now ≡ sets old (recordSize * count) (joined (written all t (take i ms)))
+      pub sized : Sized (written mark all t (take i ms))
+      pub here : now ≡ sets old (recordSize * count) (joined (written mark all t (take i ms)))
 
     pub written-start : WrittenAt 0 count old
     unfolding joined chosen
@@ -78,31 +78,31 @@ module _ (all : Bool) (t : Float) where
       this = getD ms i z
 
       abbrev more : List (List ℕ)
-      more = adds (leaves all t this) (messageRecord (finished this))
+      more = adds (leaves all t this) (messageRecord (mark (finished this .time)) (finished this))
 
-      next : written all t (take (i + 1) ms) ≡ written all t (take i ms) ++ more
-      next = ap (written all t) (rw add-one (take-suc ms i z (omega arith))) ∙ written-next (take i ms) this
+      next : written mark all t (take (i + 1) ms) ≡ written mark all t (take i ms) ++ more
+      next = ap (written mark all t) (rw add-one (take-suc ms i z (omega arith))) ∙ written-next (take i ms) this
 
-      added : (r : ℕ) (after : List ℕ) → length (messageRecord (finished this)) ≡ recordSize → r ≡ cond (leaves all t this) (k + 1) k
-          → after ≡ putIf (leaves all t this) (messageRecord (finished this)) (recordSize * k) now
+      added : (r : ℕ) (after : List ℕ) → length (messageRecord (mark (finished this .time)) (finished this)) ≡ recordSize → r ≡ cond (leaves all t this) (k + 1) k
+          → after ≡ putIf (leaves all t this) (messageRecord (mark (finished this .time)) (finished this)) (recordSize * k) now
           → Sized more × (r ≡ k + length more) × (after ≡ sets now (recordSize * k) (joined more))
       unfolding joined
       added r after s er ea =
           ⊎-elim
-          (λ e. rw e ((s, tt), er ∙ rw e refl, ea ∙ rw (e, append-nil (messageRecord (finished this))) refl))
+          (λ e. rw e ((s, tt), er ∙ rw e refl, ea ∙ rw (e, append-nil (messageRecord (mark (finished this .time)) (finished this))) refl))
           (λ e. rw e (tt, er ∙ rw e (omega arith), ea ∙ rw e refl))
           (either (leaves all t this))
 
-      pub written-room : recordSize * (count + length (written all t (take n ms))) ≤ length old → leaves all t this ≡ true → recordSize * (k + 1) ≤ length now
+      pub written-room : recordSize * (count + length (written mark all t (take n ms))) ≤ length old → leaves all t this ≡ true → recordSize * (k + 1) ≤ length now
       written-room room e =
           let s : length more ≡ 1 = rw e refl in
-          let f : length (written all t (take (i + 1) ms)) ≡ length (written all t (take i ms)) + 1 = ap length next ∙ length-append (written all t (take i ms)) more ∙ omega arith in
+          let f : length (written mark all t (take (i + 1) ms)) ≡ length (written mark all t (take i ms)) + 1 = ap length next ∙ length-append (written mark all t (take i ms)) more ∙ omega arith in
           omega (arith, fewer ms (i + 1) n (omega arith), w .few, w .size)
 
-      pub written-turn : (r : ℕ) (after : List ℕ) → length (messageRecord (finished this)) ≡ recordSize → r ≡ cond (leaves all t this) (k + 1) k
-          → after ≡ putIf (leaves all t this) (messageRecord (finished this)) (recordSize * k) now → WrittenAt (i + 1) r after
+      pub written-turn : (r : ℕ) (after : List ℕ) → length (messageRecord (mark (finished this .time)) (finished this)) ≡ recordSize → r ≡ cond (leaves all t this) (k + 1) k
+          → after ≡ putIf (leaves all t this) (messageRecord (mark (finished this .time)) (finished this)) (recordSize * k) now → WrittenAt (i + 1) r after
       written-turn r after s er ea =
-          let done = written all t (take i ms) in
+          let done = written mark all t (take i ms) in
           let d : Sized more × (r ≡ k + length more) × (after ≡ sets now (recordSize * k) (joined more)) = added r after s er ea in
           let front : length (joined done) ≡ recordSize * length done = sized-length done (w .sized) in
           record {
@@ -118,7 +118,7 @@ module _ (all : Bool) (t : Float) where
 
     -- every place is looked at
     pub written-all : (i k : ℕ) (now : List ℕ) → WrittenAt i k now → n ≤ i
-        → (k ≡ count + length (written all t (take n ms))) × (now ≡ sets old (recordSize * count) (joined (written all t (take n ms)))) × Sized (written all t (take n ms))
+        → (k ≡ count + length (written mark all t (take n ms))) × (now ≡ sets old (recordSize * count) (joined (written mark all t (take n ms)))) × Sized (written mark all t (take n ms))
     written-all i k now w h = let q : i ≡ n = omega (arith, w .inside) in (rw q at (w .few), rw q at (w .here), rw q at (w .sized))
 
 -- records ws behind the records rs of an event buffer

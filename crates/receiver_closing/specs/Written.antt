@@ -12,9 +12,9 @@ use Rattle.ledger.specs.Records.{recordOf}
 use Rattle.ledger.specs.declared.Pending.{Pending}
 use Rattle.receiver_waiting.specs.Waiting.{leaves}
 
--- "a push writes .. the open messages that have three ranks or now − last over 10; a flush, all"
-abbrev pub written : Bool → Float → List Pending → List (List ℕ)
-written all t l = map recordOf (map (eventOf byEntry) (chosen (leaves all t) l))
+-- with their marks: "a push writes .. the open messages that have three ranks or now − last over 10; a flush, all"
+abbrev pub written : (Float → ℕ) → Bool → Float → List Pending → List (List ℕ)
+written mark all t l = map (recordOf mark) (map (eventOf byEntry) (chosen (leaves all t) l))
 
 -- bytes with a record at a place, where it is written
 abbrev pub putIf : Bool → List ℕ → ℕ → List ℕ → List ℕ

@@ -18,11 +18,11 @@ use Rattle.demod.specs.declared.BurstFrame.{BurstFrame}
 use Rattle.demod.specs.declared.DecodedFrame.{DecodedFrame}
 use Rattle.demod.proofs.DecodedFacts.{Lawful, burst-lawful, shown-as}
 use Rattle.ledger.specs.Frames.{frameAt, rightCrc}
-use Rattle.ledger.specs.Ledger.{Ledger, byEntry, ofFrame, seconds, join, hear, remember, takes, takeOne}
+use Rattle.ledger.specs.Ledger.{Ledger, byEntry, seconds, join, hear, remember, takes, takeOne}
 use Rattle.ledger.specs.Room.{openPlaces, eventPlaces, room, takeOneIf}
 use Rattle.ledger.specs.Causes.{mostStarts}
 use Rattle.ledger.specs.Demodulation.{heldFrame, demodOf}
-use Rattle.ledger.specs.Records.{recordOf}
+use Rattle.ledger.specs.Records.{frameBytes}
 use Rattle.receiver_starts.specs.Starts.{remembered}
 use Rattle.receiver_starts.specs.declared.Starts.{Starts}
 use Rattle.receiver_waiting.specs.Waiting.{waitingOf}
@@ -60,7 +60,7 @@ module _ (l : Ledger byEntry) (old : List ℕ) (s : Starts) (w : Waiting) (n : �
 
   mid-some : (x : ℕ) (d : DecodedFrame) (v : Waiting) (f : List ℕ) → Lawful (d .frame) → recordSize * (n + 1) ≤ length e
       → waitingOf v ≡ cond (d .frame .«crc_ok») (join byEntry (frameAt x d) (waitingOf w)) (waitingOf w)
-      → f ≡ sets e (recordSize * n) (recordOf (ofFrame (frameAt x d))) → Midway (hear l x (some d)) old s v (n + 1) f
+      → f ≡ sets e (recordSize * n) (frameBytes (frameAt x d)) → Midway (hear l x (some d)) old s v (n + 1) f
   unfolding hear rightCrc
   mid-some x d v f lawful place q k =
       record {
@@ -94,7 +94,7 @@ module _ (rate : ℕ) (b : Burst) (held : List Float) (base : ℕ) (s : Scanned)
   pub does-frame : (v : Waiting) (f : List ℕ) → heardAs (x .outcome) (x .decoded) ≡ some (x .decoded) → Within (record { starts = t; waiting = v; count = s .count + 1 })
       → recordSize * (s .count + 1) ≤ length e
       → waitingOf v ≡ cond (x .decoded .frame .«crc_ok») (join byEntry (frameAt (base + b .start) (x .decoded)) (waitingOf (s .waiting))) (waitingOf (s .waiting))
-      → f ≡ sets e (recordSize * s .count) (recordOf (ofFrame (frameAt (base + b .start) (x .decoded))))
+      → f ≡ sets e (recordSize * s .count) (frameBytes (frameAt (base + b .start) (x .decoded)))
       → Does (taken rate b) held base s e (record { starts = t; waiting = v; count = s .count + 1 }) f
   does-frame v f o inside place j k =
       let lawful : Lawful (x .decoded .frame) = burst-lawful held rate b (seconds rate base) (x .decoded) (shown-as x (decodeBurst held rate b (seconds rate base)) d ∙ o) in

@@ -9,11 +9,11 @@ use lib.Ieee.{Float}
 use Rattle.limits.specs.Limits.{lowestRate, highestRate, longestStream, recordSize, eventsSize, scratch64}
 use Rattle.limits.specs.Samples.{allDbm}
 use Rattle.bursts.specs.declared.Burst.{Burst}
-use Rattle.ledger.specs.Ledger.{Ledger, byEntry, ofFrame, capacity, near, seconds, hear, remember}
+use Rattle.ledger.specs.Ledger.{Ledger, byEntry, capacity, near, seconds, hear, remember}
 use Rattle.ledger.specs.Causes.{mostStarts}
 use Rattle.ledger.specs.Room.{openPlaces, eventPlaces}
 use Rattle.ledger.specs.Demodulation.{demodOf}
-use Rattle.ledger.specs.Records.{Sized, recordOf, withRecords}
+use Rattle.ledger.specs.Records.{Sized, frameBytes, withRecords}
 use Rattle.receiver_starts.specs.Starts.{remembered}
 use Rattle.receiver_starts.specs.declared.Starts.{Starts}
 use Rattle.receiver_waiting.specs.Waiting.{waitingOf}
@@ -25,8 +25,8 @@ pub record Midway (l : Ledger byEntry) (old : List ℕ) (s : Starts) (w : Waitin
   pub starts : remembered s ≡ l .starts
   pub waiting : waitingOf w ≡ l .waiting
   pub count : n ≡ length (l .heard)
-  pub events : e ≡ withRecords (map recordOf (map ofFrame (l .heard))) old
-  pub sized : Sized (map recordOf (map ofFrame (l .heard)))
+  pub events : e ≡ withRecords (map frameBytes (l .heard)) old
+  pub sized : Sized (map frameBytes (l .heard))
 
 -- what is handed to a scan is as 01 accepts it, and what is lent as long as it asks
 pub record Lent (rate base wait : ℕ) (held : List Float) (e : List ℕ) (x : List Float) : Type 0 where

@@ -7,11 +7,11 @@ ghost use lib.Seq.{sets};
 ghost use Rattle.limits.specs.Limits.{longestStream, recordSize};
 ghost use Rattle.ledger.specs.Scanning.{scanOptions, heldBursts};
 ghost use Rattle.ledger.specs.Frames.{frameAt};
-ghost use Rattle.ledger.specs.Ledger.{byEntry, seconds, join, ofFrame};
+ghost use Rattle.ledger.specs.Ledger.{byEntry, seconds, join};
 ghost use Rattle.ledger.specs.Causes.{mostStarts};
 ghost use Rattle.ledger.specs.Room.{openPlaces, eventPlaces, takeOneIf, takeEachIf, scanIf};
 ghost use Rattle.ledger.specs.Demodulation.{demodOf};
-ghost use Rattle.ledger.specs.Records.{recordOf};
+ghost use Rattle.ledger.specs.Records.{frameBytes};
 ghost use Rattle.receiver_starts.specs.Starts.{remembered};
 ghost use Rattle.receiver_waiting.specs.Waiting.{waitingOf};
 ghost use Rattle.receiver_scan.specs.Midway.{Lent, Within, Does, hasRoom, takesAt, taken};
@@ -82,7 +82,7 @@ fn takes(rate: u32, wait: usize, starts: Starts, base: u64, held: usize, burst: 
 fn hear(d: DecodedFrame, start: u64, waiting: Waiting, events: &mut [u8], count: usize) -> Waiting
     requires { ⌜ (waiting .count < openPlaces) × (recordSize * (count + 1) ≤ length (now events)) ⌝ }
     ensures { λ w. ⌜ (waitingOf w ≡ cond (d .frame .«crc_ok») (join byEntry (frameAt start d) (waitingOf waiting)) (waitingOf waiting)) × (w .count ≤ openPlaces)
-        × (now (events .exit) ≡ sets (now (events .entry)) (recordSize * count) (recordOf (ofFrame (frameAt start d)))) ⌝ }
+        × (now (events .exit) ≡ sets (now (events .entry)) (recordSize * count) (frameBytes (frameAt start d))) ⌝ }
 {
     let f = d.frame;
     let r = Reception {

@@ -15,9 +15,10 @@ use Rattle.endian.specs.Bytes.{bytesOf, bitsOf, signedBits}
 use Rattle.endian.proofs.Numbers.{bytes-length}
 use Rattle.frame.specs.Fields.{padded}
 use Rattle.frame.proofs.CopyLaws.{sets-then}
-use Rattle.record.specs.Record.{spare, upTo, rankBit, noRank, headBytes, identityBytes, levelBytes, rankBytes, timeBytes, spanBytes}
+use Rattle.record.specs.Record.{spare, upTo, rankBit, noRank, headBytes, markBytes, identityBytes, levelBytes, rankBytes, timeBytes, spanBytes}
 use Rattle.record.specs.declared.FrameSpan.{FrameSpan}
 use Rattle.record.specs.declared.parts.Head.{Head}
+use Rattle.record.specs.declared.parts.Marks.{Marks}
 
 -- a run b after a run a
 pub follow : (l : List ℕ) (at : ℕ) (a o b o′ : List ℕ) (k : ℕ) → o ≡ sets l at a → o′ ≡ sets o k b → k ≡ at + length a → o′ ≡ sets l at (a ++ b)
@@ -68,17 +69,22 @@ pub length-head : (h : Head) → length (headBytes h) ≡ 8
 unfolding headBytes
 length-head h = omega (arith, bytes-length 2 (h .place))
 
-pub length-identity : (d c i : ℕ) (p : List ℕ) (j : ℕ) (a : List ℕ) → length p ≡ 12 → length a ≡ 5 → length (identityBytes d c i p j a) ≡ 28
+pub length-marks : (k : Marks) → length (markBytes k) ≡ 3
+unfolding markBytes
+length-marks k = refl
+
+pub length-identity : (d c i : ℕ) (p : List ℕ) (j : ℕ) (a : List ℕ) (k : Marks) → length p ≡ 12 → length a ≡ 5 → length (identityBytes d c i p j a k) ≡ 28
 unfolding identityBytes
-length-identity d c i p j a h k =
+length-identity d c i p j a k n m =
     let q = upTo i p in
     let b = upTo j a in
     omega (
       arith,
-      length-append (bytesOf 4 d) (bytesOf 2 c ++ (spare 2 ++ (q ++ (b ++ spare 3)))),
-      length-append (bytesOf 2 c) (spare 2 ++ (q ++ (b ++ spare 3))),
-      length-append q (b ++ spare 3),
-      length-append b (spare 3),
+      length-append (bytesOf 4 d) (bytesOf 2 c ++ (spare 2 ++ (q ++ (b ++ markBytes k)))),
+      length-append (bytesOf 2 c) (spare 2 ++ (q ++ (b ++ markBytes k))),
+      length-append q (b ++ markBytes k),
+      length-append b (markBytes k),
+      length-marks k,
       bytes-length 4 d,
       bytes-length 2 c,
       length-up-to i p,
@@ -126,12 +132,12 @@ span-some s e = sym (ap (λ (b : Bool). cond b (spare 16) (timeBytes (s .time) (
 pub rank-none : (r : ℕ) → (r ≡ 0 → ⊥) → (r ≡ 1 → ⊥) → (r ≡ 2 → ⊥) → 0 ≡ rankBit r
 rank-none r a b c = simp (ne-eqb r 0 a, ne-eqb r 1 b, ne-eqb r 2 c)
 
--- ---- device, counter, payload and auth
+-- ---- device, counter, payload, auth and marks
 
-module _ (l : List ℕ) (at d c i j : ℕ) (payload auth o1 o2 o3 o4 o5 o6 : List ℕ) where
+module _ (l : List ℕ) (at d c i j : ℕ) (k : Marks) (payload auth o1 o2 o3 o4 o5 o6 : List ℕ) where
   pub identity-written : length payload ≡ 12 → length auth ≡ 5 → o1 ≡ sets l at (bytesOf 4 d) → o2 ≡ sets o1 (at + 4) (bytesOf 2 c) → o3 ≡ sets o2 (at + 6) (spare 2)
-      → o4 ≡ sets o3 (at + 8) (upTo i payload) → o5 ≡ sets o4 (at + 20) (upTo j auth) → o6 ≡ sets o5 (at + 25) (spare 3)
-      → o6 ≡ sets l at (identityBytes d c i payload j auth)
+      → o4 ≡ sets o3 (at + 8) (upTo i payload) → o5 ≡ sets o4 (at + 20) (upTo j auth) → o6 ≡ sets o5 (at + 25) (markBytes k)
+      → o6 ≡ sets l at (identityBytes d c i payload j auth k)
   unfolding identityBytes
   identity-written n m e1 e2 e3 e4 e5 e6 =
       let p = upTo i payload in
@@ -150,8 +156,8 @@ module _ (l : List ℕ) (at d c i j : ℕ) (payload auth o1 o2 o3 o4 o5 o6 : Lis
       let f3 : o3 ≡ sets l at q3 = follow l at q2 o2 (spare 2) o3 (at + 6) f2 e3 (omega (arith, m2)) in
       let f4 : o4 ≡ sets l at q4 = follow l at q3 o3 p o4 (at + 8) f3 e4 (omega (arith, m3)) in
       let f5 : o5 ≡ sets l at q5 = follow l at q4 o4 a o5 (at + 20) f4 e5 (omega (arith, m4)) in
-      let f6 : o6 ≡ sets l at (q5 ++ spare 3) = follow l at q5 o5 (spare 3) o6 (at + 25) f5 e6 (omega (arith, m5)) in
-      let g : q5 ++ spare 3 ≡ bytesOf 4 d ++ (bytesOf 2 c ++ (spare 2 ++ (p ++ (a ++ spare 3)))) = simp append-assoc in
+      let f6 : o6 ≡ sets l at (q5 ++ markBytes k) = follow l at q5 o5 (markBytes k) o6 (at + 25) f5 e6 (omega (arith, m5)) in
+      let g : q5 ++ markBytes k ≡ bytesOf 4 d ++ (bytesOf 2 c ++ (spare 2 ++ (p ++ (a ++ markBytes k)))) = simp append-assoc in
       f6 ∙ ap (sets l at) g
 
 -- ---- three runs and four

@@ -14,15 +14,15 @@ use Rattle.endian.proofs.Numbers.{bytes-length}
 use Rattle.endian.proofs.Values.{pattern-small}
 use Rattle.frame.specs.declared.UplinkFrame.{UplinkFrame}
 use Rattle.record.specs.Record as rec
-use Rattle.record.specs.Record.{frameKind, messageKind, noRank, frameFlags, messageFlags, repairNumber, repairPlace, maskOf, spanOf, spare, upTo, timeBytes, spanBytes, rankBytes, frameHead, messageHead, frameRecord, messageRecord}
-use Rattle.record.specs.Readers.{kindOf, rankOf, flagsOf, payloadLenOf, authLenOf, repairOf, placeOf, deviceOf, counterOf, payloadOf, authOf, ppmOf, rssiOf, spanRankOf, timeOf, endOf, spanTimeOf, spanEndOf, startOf}
+use Rattle.record.specs.Record.{frameKind, messageKind, noRank, noMarks, messageMarks, frameFlags, messageFlags, repairNumber, repairPlace, maskOf, spanOf, spare, upTo, timeBytes, spanBytes, rankBytes, frameHead, messageHead, frameRecord, messageRecord}
+use Rattle.record.specs.Readers.{kindOf, rankOf, flagsOf, payloadLenOf, authLenOf, repairOf, placeOf, deviceOf, counterOf, payloadOf, authOf, markOf, ppmOf, rssiOf, spanRankOf, timeOf, endOf, spanTimeOf, spanEndOf, startOf}
 use Rattle.record.specs.declared.Reception.{Reception}
 use Rattle.record.specs.declared.FrameSpan.{FrameSpan}
 use Rattle.record.specs.declared.SigfoxMessage.{SigfoxMessage}
 use Rattle.record.proofs.PartLaws.{length-span}
 use Rattle.record.proofs.RecordLaws.{length-spans}
 use Rattle.record.proofs.JoinLaws.{number-part, number-of-part}
-use Rattle.record.proofs.ReaderLaws.{Fields, Sized, Held, at-spans, read-place, read-device, read-counter, read-payload, read-auth, read-ppm, read-rssi, read-span-rank, read-time, read-end, read-start}
+use Rattle.record.proofs.ReaderLaws.{Fields, Sized, Held, at-spans, read-place, read-device, read-counter, read-payload, read-auth, read-mark, read-ppm, read-rssi, read-span-rank, read-time, read-end, read-start}
 
 -- ---- frames
 
@@ -33,6 +33,7 @@ frameFields f r = record {
   counter = f .counter;
   payload = f .payload;
   auth = f .auth;
+  marks = noMarks;
   ppm = r .«clock_error_ppm»;
   rssi = r .rssi;
   rank0 = noRank;
@@ -66,6 +67,7 @@ pub record FrameRead (f : UplinkFrame) (r : Reception) (l : List ℕ) : Type 0 w
   pub counter : counterOf l ≡ f .counter
   pub payload : payloadOf l ≡ upTo (f .«payload_len») (f .payload)
   pub auth : authOf l ≡ upTo (f .«auth_len») (f .auth)
+  pub marked : markOf l ≡ 0
   pub ppm : ppmOf l ≡ r .«clock_error_ppm»
   pub rssi : rssiOf l ≡ r .rssi
   pub time : timeOf l ≡ r .time
@@ -89,6 +91,7 @@ frame-read f r h =
       counter = read-counter x (h .sized) (h .counter-held);
       payload = read-payload x (h .sized);
       auth = read-auth x (h .sized);
+      marked = read-mark x (h .sized);
       ppm = read-ppm x (h .sized) (h .ppm-held);
       rssi = read-rssi x (h .sized) (h .rssi-held);
       time = read-time x (h .sized) (h .time-held);
@@ -99,13 +102,14 @@ frame-read f r h =
 
 -- ---- messages
 
-abbrev pub messageFields : SigfoxMessage → Fields
-messageFields m = record {
+abbrev pub messageFields : ℕ → SigfoxMessage → Fields
+messageFields mark m = record {
   head = messageHead m;
   device = m .«device_id»;
   counter = m .counter;
   payload = m .payload;
   auth = m .auth;
+  marks = messageMarks mark;
   ppm = m .«clock_error_ppm»;
   rssi = m .rssi;
   rank0 = spanOf m 0 .rank;
@@ -117,8 +121,8 @@ messageFields m = record {
   start = m .start;
 }
 
-pub message-sized : (m : SigfoxMessage) → length (m .payload) ≡ 12 → length (m .auth) ≡ 5 → Sized (messageFields m)
-message-sized m n k = record { payload-held = n; auth-held = k; spans-held = length-spans m n k }
+pub message-sized : (mark : ℕ) (m : SigfoxMessage) → length (m .payload) ≡ 12 → length (m .auth) ≡ 5 → Sized (messageFields mark m)
+message-sized mark m n k = record { payload-held = n; auth-held = k; spans-held = length-spans mark m n k }
 
 -- a span's time as it is written: 0 where there is no span
 abbrev pub written : FrameSpan → Float → Float
@@ -149,9 +153,9 @@ module _ (s : FrameSpan) where
           (omega (arith, bytes-length 8 (bitsOf binary64 (s .time)))) refl (pattern-small binary64 8 (s .end) refl h))
           ∙ ofBits-toBits binary64 (s .end) h
 
-module _ (m : SigfoxMessage) (h : Held (messageFields m)) where
+module _ (mark : ℕ) (m : SigfoxMessage) (h : Held (messageFields mark m)) where
   -- span i's bytes among those of the spans
-  among : (i o : ℕ) → i < 3 → o + 8 ≤ 16 → numberAt 8 (messageFields m .spans) (16 * i + o) ≡ numberAt 8 (spanBytes (spanOf m i)) o
+  among : (i o : ℕ) → i < 3 → o + 8 ≤ 16 → numberAt 8 (messageFields mark m .spans) (16 * i + o) ≡ numberAt 8 (spanBytes (spanOf m i)) o
   among zero o b k = number-part (spanBytes (spanOf m 0)) (spanBytes (spanOf m 1) ∷ spanBytes (spanOf m 2) ∷ []) 0 (16 * 0 + o) 8 o (omega arith) (omega (arith, length-span (spanOf m 0)))
   among (suc zero) o b k =
       number-part (spanBytes (spanOf m 0)) (spanBytes (spanOf m 1) ∷ spanBytes (spanOf m 2) ∷ []) 1 (16 * 1 + o) 8 o
@@ -161,24 +165,24 @@ module _ (m : SigfoxMessage) (h : Held (messageFields m)) where
       (omega (arith, length-span (spanOf m 0), length-span (spanOf m 1))) (omega (arith, length-span (spanOf m 2)))
   among (suc (suc (suc i))) o b k = absurd (not-suc-le-zero (le-of-suc-le-suc (le-of-suc-le-suc (le-of-suc-le-suc b))))
 
-  in-span : (i o at : ℕ) → i < 3 → o + 8 ≤ 16 → at ≡ 64 + (16 * i + o) → numberAt 8 (messageRecord m) at ≡ numberAt 8 (spanBytes (spanOf m i)) o
+  in-span : (i o at : ℕ) → i < 3 → o + 8 ≤ 16 → at ≡ 64 + (16 * i + o) → numberAt 8 (messageRecord mark m) at ≡ numberAt 8 (spanBytes (spanOf m i)) o
   unfolding messageRecord
-  in-span i o at b k e = at-spans (messageFields m) (h .sized) 8 (16 * i + o) at e (omega arith) ∙ among i o b k
+  in-span i o at b k e = at-spans (messageFields mark m) (h .sized) 8 (16 * i + o) at e (omega arith) ∙ among i o b k
 
-  rank-of-span : (i : ℕ) → i < 3 → spanRankOf (messageRecord m) i ≡ spanOf m i .rank
+  rank-of-span : (i : ℕ) → i < 3 → spanRankOf (messageRecord mark m) i ≡ spanOf m i .rank
   unfolding messageRecord rankBytes
-  rank-of-span zero b = read-span-rank (messageFields m) (h .sized) 0 (omega arith)
-  rank-of-span (suc zero) b = read-span-rank (messageFields m) (h .sized) 1 (omega arith)
-  rank-of-span (suc (suc zero)) b = read-span-rank (messageFields m) (h .sized) 2 (omega arith)
+  rank-of-span zero b = read-span-rank (messageFields mark m) (h .sized) 0 (omega arith)
+  rank-of-span (suc zero) b = read-span-rank (messageFields mark m) (h .sized) 1 (omega arith)
+  rank-of-span (suc (suc zero)) b = read-span-rank (messageFields mark m) (h .sized) 2 (omega arith)
   rank-of-span (suc (suc (suc i))) b = absurd (not-suc-le-zero (le-of-suc-le-suc (le-of-suc-le-suc (le-of-suc-le-suc b))))
 
-  time-of-span : (i : ℕ) → i < 3 → T (fits binary64 (spanOf m i .time)) → spanTimeOf (messageRecord m) i ≡ written (spanOf m i) (spanOf m i .time)
+  time-of-span : (i : ℕ) → i < 3 → T (fits binary64 (spanOf m i .time)) → spanTimeOf (messageRecord mark m) i ≡ written (spanOf m i) (spanOf m i .time)
   time-of-span i b t = ap (ofBits binary64) (in-span i 0 (64 + 16 * i) b (omega arith) (omega arith)) ∙ span-time (spanOf m i) t
 
-  end-of-span : (i : ℕ) → i < 3 → T (fits binary64 (spanOf m i .end)) → spanEndOf (messageRecord m) i ≡ written (spanOf m i) (spanOf m i .end)
+  end-of-span : (i : ℕ) → i < 3 → T (fits binary64 (spanOf m i .end)) → spanEndOf (messageRecord mark m) i ≡ written (spanOf m i) (spanOf m i .end)
   end-of-span i b t = ap (ofBits binary64) (in-span i 8 (72 + 16 * i) b (omega arith) (omega arith)) ∙ span-end (spanOf m i) t
 
-pub record MessageRead (m : SigfoxMessage) (l : List ℕ) : Type 0 where
+pub record MessageRead (mark : ℕ) (m : SigfoxMessage) (l : List ℕ) : Type 0 where
   pub kind : kindOf l ≡ messageKind
   pub mask : rankOf l ≡ maskOf m
   pub flags : flagsOf l ≡ messageFlags m
@@ -190,6 +194,7 @@ pub record MessageRead (m : SigfoxMessage) (l : List ℕ) : Type 0 where
   pub counter : counterOf l ≡ m .counter
   pub payload : payloadOf l ≡ upTo (m .«payload_len») (m .payload)
   pub auth : authOf l ≡ upTo (m .«auth_len») (m .auth)
+  pub marked : markOf l ≡ mark
   pub ppm : ppmOf l ≡ m .«clock_error_ppm»
   pub rssi : rssiOf l ≡ m .rssi
   pub time : timeOf l ≡ m .time
@@ -199,10 +204,10 @@ pub record MessageRead (m : SigfoxMessage) (l : List ℕ) : Type 0 where
   pub span-start : (i : ℕ) → i < 3 → T (fits binary64 (spanOf m i .time)) → spanTimeOf l i ≡ written (spanOf m i) (spanOf m i .time)
   pub span-stop : (i : ℕ) → i < 3 → T (fits binary64 (spanOf m i .end)) → spanEndOf l i ≡ written (spanOf m i) (spanOf m i .end)
 
-pub message-read : (m : SigfoxMessage) → Held (messageFields m) → MessageRead m (messageRecord m)
+pub message-read : (mark : ℕ) (m : SigfoxMessage) → Held (messageFields mark m) → MessageRead mark m (messageRecord mark m)
 unfolding messageRecord rec.headBytes
-message-read m h =
-    let x = messageFields m in
+message-read mark m h =
+    let x = messageFields mark m in
     record {
       kind = refl;
       mask = refl;
@@ -215,12 +220,13 @@ message-read m h =
       counter = read-counter x (h .sized) (h .counter-held);
       payload = read-payload x (h .sized);
       auth = read-auth x (h .sized);
+      marked = read-mark x (h .sized);
       ppm = read-ppm x (h .sized) (h .ppm-held);
       rssi = read-rssi x (h .sized) (h .rssi-held);
       time = read-time x (h .sized) (h .time-held);
       first-frame-end = read-end x (h .sized) (h .end-held);
       start = read-start x (h .sized) (h .start-held);
-      span-rank = rank-of-span m h;
-      span-start = time-of-span m h;
-      span-stop = end-of-span m h;
+      span-rank = rank-of-span mark m h;
+      span-start = time-of-span mark m h;
+      span-stop = end-of-span mark m h;
     }

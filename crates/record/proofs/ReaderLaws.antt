@@ -12,9 +12,10 @@ use lib.Ieee.Bits.{ofBits-toBits}
 use Rattle.endian.specs.Bytes.{bytesOf, bitsOf, signedBits, signedOf, numberAt}
 use Rattle.endian.proofs.Numbers.{bytes-length}
 use Rattle.endian.proofs.Values.{signed-small, signed-back, pattern-small}
-use Rattle.record.specs.Record.{spare, upTo, headBytes, identityBytes, levelBytes, rankBytes, timeBytes, startBytes}
-use Rattle.record.specs.Readers.{kindOf, rankOf, flagsOf, payloadLenOf, authLenOf, repairOf, placeOf, deviceOf, counterOf, payloadOf, authOf, ppmOf, rssiOf, spanRankOf, timeOf, endOf, startOf}
+use Rattle.record.specs.Record.{spare, upTo, headBytes, markBytes, identityBytes, levelBytes, rankBytes, timeBytes, startBytes}
+use Rattle.record.specs.Readers.{kindOf, rankOf, flagsOf, payloadLenOf, authLenOf, repairOf, placeOf, deviceOf, counterOf, payloadOf, authOf, markOf, ppmOf, rssiOf, spanRankOf, timeOf, endOf, startOf}
 use Rattle.record.specs.declared.parts.Head.{Head}
+use Rattle.record.specs.declared.parts.Marks.{Marks}
 use Rattle.record.proofs.PartLaws.{length-up-to, length-head, length-identity, length-levels, length-ranks, length-times}
 use Rattle.record.proofs.JoinLaws.{joined, pick, before, part, number-part, whole-part, number-of-part, byte-part}
 
@@ -25,6 +26,7 @@ pub record Fields : Type 0 where
   pub counter : ℕ
   pub payload : List ℕ
   pub auth : List ℕ
+  pub marks : Marks
   pub ppm : ℤ
   pub rssi : Float
   pub rank0 : ℕ
@@ -54,7 +56,7 @@ pub record Held (x : Fields) : Type 0 where
   pub start-held : x .start < 256 ^ 8
 
 abbrev pub identity : Fields → List ℕ
-identity x = identityBytes (x .device) (x .counter) (x .head .«payload_len») (x .payload) (x .head .«auth_len») (x .auth)
+identity x = identityBytes (x .device) (x .counter) (x .head .«payload_len») (x .payload) (x .head .«auth_len») (x .auth) (x .marks)
 
 -- the parts after the first
 abbrev pub parts : Fields → List (List ℕ)
@@ -95,7 +97,7 @@ module _ (x : Fields) (h : Sized x) where
   n1 = length-head (x .head)
 
   n2 : length (identity x) ≡ 28
-  n2 = length-identity (x .device) (x .counter) (x .head .«payload_len») (x .payload) (x .head .«auth_len») (x .auth) (h .payload-held) (h .auth-held)
+  n2 = length-identity (x .device) (x .counter) (x .head .«payload_len») (x .payload) (x .head .«auth_len») (x .auth) (x .marks) (h .payload-held) (h .auth-held)
 
   n3 : length (levelBytes (x .ppm) (x .rssi)) ≡ 8
   n3 = length-levels (x .ppm) (x .rssi)
@@ -136,7 +138,7 @@ module _ (x : Fields) (h : Sized x) where
   length-auth = length-up-to (x .head .«auth_len») (x .auth) ∙ h .auth-held
 
   abbrev later : List (List ℕ)
-  later = bytesOf 2 (x .counter) ∷ spare 2 ∷ payload ∷ auth ∷ spare 3 ∷ []
+  later = bytesOf 2 (x .counter) ∷ spare 2 ∷ payload ∷ auth ∷ markBytes (x .marks) ∷ []
 
   pub read-device : x .device < 256 ^ 4 → deviceOf (made x) ≡ x .device
   unfolding identityBytes
@@ -205,6 +207,12 @@ module _ (x : Fields) (h : Sized x) where
       part (headBytes (x .head)) (parts x) 1 5 20 28 (omega (arith, n1)) (omega (arith, n2))
       ∙ whole-part (bytesOf 4 (x .device)) later 4 20 5 (omega (arith, bytes-length 4 (x .device), bytes-length 2 (x .counter), length-payload)) length-auth
 
+  pub read-mark : markOf (made x) ≡ x .marks .shift
+  unfolding identityBytes markBytes
+  read-mark =
+      byte-part (headBytes (x .head)) (parts x) 1 34 26 (omega (arith, n1)) (omega (arith, n2))
+      ∙ byte-part (bytesOf 4 (x .device)) later 5 26 1 (omega (arith, bytes-length 4 (x .device), bytes-length 2 (x .counter), length-payload, length-auth)) (omega arith)
+
 -- ---- fields at the edges of their widths are held
 
 abbrev edgeFields : Fields
@@ -214,6 +222,7 @@ edgeFields = record {
   counter = 65535;
   payload = spare 12;
   auth = spare 5;
+  marks = record { shift = 255 };
   ppm = negsuc 0x7ffffffe;
   rssi = ofBits binary32 0x7f7fffff;
   rank0 = 255;

@@ -43,6 +43,10 @@ payloadOf l = take 12 (drop 16 l)
 abbrev pub authOf : List ℕ → List ℕ
 authOf l = take 5 (drop 28 l)
 
+-- the mark of a message (02, request 03)
+abbrev pub markOf : List ℕ → ℕ
+markOf l = byteAt l 34
+
 abbrev pub ppmOf : List ℕ → ℤ
 ppmOf l = signedOf 32 (numberAt 4 l 36)
 

@@ -19,6 +19,7 @@ use Rattle.record.specs.declared.FirstFrameEnd.{FirstFrameEnd}
 use Rattle.record.specs.declared.FirstFrameEnd.the-variants.{Known, Unknown}
 use Rattle.record.specs.declared.SigfoxMessage.{SigfoxMessage}
 use Rattle.record.specs.declared.parts.Head.{Head}
+use Rattle.record.specs.declared.parts.Marks.{Marks}
 
 -- bytes that no field has
 abbrev pub spare : ℕ → List ℕ
@@ -89,10 +90,17 @@ maskOf m = rankBit (spanOf m 0 .rank) + rankBit (spanOf m 1 .rank) + rankBit (sp
 unfoldable pub headBytes : Head → List ℕ
 headBytes h = h .kind ∷ h .rank ∷ h .flags ∷ h .«payload_len» ∷ h .«auth_len» ∷ h .repair ∷ bytesOf 2 (h .place)
 
--- 8-35: device, counter, payload and auth with their lengths
-unfoldable pub identityBytes : ℕ → ℕ → ℕ → List ℕ → ℕ → List ℕ → List ℕ
-unfolding upTo
-identityBytes device counter n payload m auth = bytesOf 4 device ++ (bytesOf 2 counter ++ (spare 2 ++ (upTo n payload ++ (upTo m auth ++ spare 3))))
+-- 33-35: "Event byte 34 holds the mark" (02, request 03); spare bytes beside it
+unfoldable pub markBytes : Marks → List ℕ
+markBytes k = spare 1 ++ (k .shift ∷ spare 1)
+
+abbrev pub noMarks : Marks
+noMarks = record { shift = 0 }
+
+-- 8-35: device, counter, payload and auth with their lengths, marks
+unfoldable pub identityBytes : ℕ → ℕ → ℕ → List ℕ → ℕ → List ℕ → Marks → List ℕ
+unfolding upTo markBytes
+identityBytes device counter n payload m auth k = bytesOf 4 device ++ (bytesOf 2 counter ++ (spare 2 ++ (upTo n payload ++ (upTo m auth ++ markBytes k))))
 
 -- 36-43: clock ppm, RSSI
 unfoldable pub levelBytes : ℤ → Float → List ℕ
@@ -136,7 +144,7 @@ unfoldable pub frameRecord : UplinkFrame → Reception → List ℕ
 unfolding headBytes identityBytes levelBytes rankBytes timeBytes
 frameRecord f r =
     headBytes (frameHead f)
-    ++ (identityBytes (f .«device_id») (f .counter) (f .«payload_len») (f .payload) (f .«auth_len») (f .auth)
+    ++ (identityBytes (f .«device_id») (f .counter) (f .«payload_len») (f .payload) (f .«auth_len») (f .auth) noMarks
     ++ (levelBytes (r .«clock_error_ppm») (r .rssi)
     ++ (rankBytes noRank noRank noRank
     ++ (timeBytes (r .time) (r .end)
@@ -154,11 +162,15 @@ messageHead m = record {
   place = 0;
 }
 
-unfoldable pub messageRecord : SigfoxMessage → List ℕ
+abbrev pub messageMarks : ℕ → Marks
+messageMarks mark = record { shift = mark }
+
+-- a message with its mark
+unfoldable pub messageRecord : ℕ → SigfoxMessage → List ℕ
 unfolding headBytes identityBytes levelBytes rankBytes timeBytes spanBytes
-messageRecord m =
+messageRecord mark m =
     headBytes (messageHead m)
-    ++ (identityBytes (m .«device_id») (m .counter) (m .«payload_len») (m .payload) (m .«auth_len») (m .auth)
+    ++ (identityBytes (m .«device_id») (m .counter) (m .«payload_len») (m .payload) (m .«auth_len») (m .auth) (messageMarks mark)
     ++ (levelBytes (m .«clock_error_ppm») (m .rssi)
     ++ (rankBytes (spanOf m 0 .rank) (spanOf m 1 .rank) (spanOf m 2 .rank)
     ++ (timeBytes (m .time) (endOf (m .«first_frame_end»))

@@ -22,6 +22,7 @@ use frame::Outcome;
 use frame::SingleBit;
 use frame::UplinkFrame;
 use parts::Head;
+use parts::Marks;
 use parts::put_front;
 use parts::put_middle;
 use parts::put_spans;
@@ -107,6 +108,7 @@ pub fn put_frame(f: UplinkFrame, r: Reception, out: &mut [u8], at: usize)
         f.counter,
         &payload,
         &auth,
+        Marks { shift: 0 },
         r.clock_error_ppm,
         r.rssi,
     );
@@ -134,10 +136,10 @@ fn message_head(m: SigfoxMessage) -> Head
     }
 }
 
-// A message's record, at a place of `out`.
-pub fn put_message(m: SigfoxMessage, out: &mut [u8], at: usize)
+// A message's record with its mark, at a place of `out`.
+pub fn put_message(m: SigfoxMessage, mark: u8, out: &mut [u8], at: usize)
     requires { ⌜ at + recordSize ≤ length (now out) ⌝ }
-    ensures { λ _. ⌜ now (out .exit) ≡ sets (now (out .entry)) at (messageRecord m) ⌝ }
+    ensures { λ _. ⌜ now (out .exit) ≡ sets (now (out .entry)) at (messageRecord mark m) ⌝ }
 {
     let payload = m.payload;
     let auth = m.auth;
@@ -153,6 +155,7 @@ pub fn put_message(m: SigfoxMessage, out: &mut [u8], at: usize)
         m.counter,
         &payload,
         &auth,
+        Marks { shift: mark },
         m.clock_error_ppm,
         m.rssi,
     );

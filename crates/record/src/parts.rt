@@ -4,7 +4,7 @@ ghost use mathlib.Core.List.{_++_};
 ghost use Prim.Native.Nat.{_+_, _≤_, _<_};
 ghost use lib.ListN.{length};
 ghost use lib.Seq.{sets};
-ghost use Rattle.record.specs.Record.{spare, upTo, headBytes, identityBytes, levelBytes, rankBytes, timeBytes, spanBytes};
+ghost use Rattle.record.specs.Record.{spare, upTo, headBytes, markBytes, identityBytes, levelBytes, rankBytes, timeBytes, spanBytes};
 use crate::FrameSpan;
 use frame::bodies::copy_into;
 use frame::bodies::put_byte;
@@ -18,6 +18,11 @@ pub struct Head {
     pub auth_len: u8,
     pub repair: u8,
     pub place: usize,
+}
+
+// Bytes 33 to 35: what 02 adds to a record.
+pub struct Marks {
+    pub shift: u8,
 }
 
 pub fn put_spare(out: &mut [u8], at: usize, n: usize)
@@ -57,6 +62,15 @@ pub fn put_head(out: &mut [u8], at: usize, h: Head)
     endian::put_u16(out, at + 6, (h.place % 65536) as u16);
 }
 
+pub fn put_marks(out: &mut [u8], at: usize, k: Marks)
+    requires { ⌜ at + 3 ≤ length (now out) ⌝ }
+    ensures { λ _. ⌜ now (out .exit) ≡ sets (now (out .entry)) at (markBytes k) ⌝ }
+{
+    put_byte(out, at, 0);
+    put_byte(out, at + 1, k.shift);
+    put_byte(out, at + 2, 0);
+}
+
 pub fn put_identity(
     out: &mut [u8],
     at: usize,
@@ -66,16 +80,17 @@ pub fn put_identity(
     payload: &[u8],
     auth_len: u8,
     auth: &[u8],
+    k: Marks,
 )
     requires { ⌜ (at + 28 ≤ length (now out)) × (length (now payload) ≡ 12) × (length (now auth) ≡ 5) ⌝ }
-    ensures { λ _. ⌜ now (out .exit) ≡ sets (now (out .entry)) at (identityBytes device counter «payload_len» (now (payload .entry)) «auth_len» (now (auth .entry))) ⌝ }
+    ensures { λ _. ⌜ now (out .exit) ≡ sets (now (out .entry)) at (identityBytes device counter «payload_len» (now (payload .entry)) «auth_len» (now (auth .entry)) k) ⌝ }
 {
     endian::put_u32(out, at, device);
     endian::put_u16(out, at + 4, counter);
     put_spare(out, at + 6, 2);
     put_up_to(out, at + 8, payload_len as usize, payload);
     put_up_to(out, at + 20, auth_len as usize, auth);
-    put_spare(out, at + 25, 3);
+    put_marks(out, at + 25, k);
 }
 
 pub fn put_levels(out: &mut [u8], at: usize, ppm: i32, rssi: f32)
@@ -133,13 +148,14 @@ pub fn put_front(
     counter: u16,
     payload: &[u8],
     auth: &[u8],
+    k: Marks,
     ppm: i32,
     rssi: f32,
 )
     requires { ⌜ (at + 44 ≤ length (now out)) × (length (now payload) ≡ 12) × (length (now auth) ≡ 5) ⌝ }
     ensures { λ _. ⌜ now (out .exit)
         ≡ sets (now (out .entry)) at (headBytes h
-        ++ (identityBytes device counter (h .«payload_len») (now (payload .entry)) (h .«auth_len») (now (auth .entry)) ++ levelBytes ppm rssi)) ⌝ }
+        ++ (identityBytes device counter (h .«payload_len») (now (payload .entry)) (h .«auth_len») (now (auth .entry)) k ++ levelBytes ppm rssi)) ⌝ }
 {
     put_head(out, at, h);
     put_identity(
@@ -151,6 +167,7 @@ pub fn put_front(
         payload,
         h.auth_len,
         auth,
+        k,
     );
     put_levels(out, at + 36, ppm, rssi);
 }

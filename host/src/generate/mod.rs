@@ -19,6 +19,7 @@ pub mod load;
 mod misc;
 mod put;
 pub(crate) mod rng;
+mod shifts;
 pub mod signal;
 mod tracker;
 mod uplink;
@@ -162,6 +163,14 @@ pub const FORMATS: &[Format] = &[
         directed: writer::directed,
         random: writer::random,
         runs: Some(|| vec![("replay_writer", writer::sample())]),
+    },
+    Format {
+        name: "shifts",
+        stream: true,
+        rows: 0,
+        directed: shifts::directed,
+        random: shifts::random,
+        runs: Some(|| vec![("replay_shifts", shifts::sample())]),
     },
     Format {
         name: "uplink",

@@ -2,12 +2,13 @@
 
 mod given;
 
+use super::shifts::Shifts;
 use super::{line, record};
 use crate::limits;
 use crate::rust::receiver::{ReceiverEvent, SigfoxReceiver};
 use crate::text::{Input, hex_bytes, hex64};
 
-/// A receiver that refuses what 01 refuses.
+/// A receiver that refuses what 01 and request 03 refuse.
 pub struct Receiver {
     rate: u32,
     inner: SigfoxReceiver,
@@ -26,25 +27,28 @@ impl Receiver {
         }
     }
 
-    pub fn push(&mut self, dbm: &[f32]) -> Result<Vec<ReceiverEvent>, u8> {
+    pub fn push(&mut self, dbm: &[f32], shifts: &Shifts) -> Result<Vec<ReceiverEvent>, u8> {
         limits::rate(self.rate)?;
         limits::sample_count(dbm.len(), self.rate)?;
         limits::samples(dbm)?;
         self.state_takes(dbm.len())?;
+        shifts.check()?;
         Ok(self.inner.push(dbm))
     }
 
-    pub fn push_raw(&mut self, raw: &[u8]) -> Result<Vec<ReceiverEvent>, u8> {
+    pub fn push_raw(&mut self, raw: &[u8], shifts: &Shifts) -> Result<Vec<ReceiverEvent>, u8> {
         limits::rate(self.rate)?;
         limits::sample_count(raw.len(), self.rate)?;
         self.state_takes(raw.len())?;
+        shifts.check()?;
         Ok(self.inner.push_raw(raw))
     }
 
-    pub fn flush(&mut self) -> Result<Vec<ReceiverEvent>, u8> {
+    pub fn flush(&mut self, shifts: &Shifts) -> Result<Vec<ReceiverEvent>, u8> {
         limits::rate(self.rate)?;
         limits::order(self.in_order())?;
         limits::number(!given::any_nan(&self.inner.pending))?;
+        shifts.check()?;
         Ok(self.inner.flush())
     }
 
@@ -74,34 +78,59 @@ impl Receiver {
     }
 }
 
+/// No call is given shifts.
 pub fn stream(input: &mut Input, out: &mut String) -> Option<()> {
+    calls(input, out, |_| Some(Shifts::default()))
+}
+
+/// What a call takes besides its shifts.
+enum Arguments<'a> {
+    Push(Vec<f32>),
+    PushRaw(&'a [u8]),
+    Flush,
+}
+
+/// A whole run; `shifts` reads what stands behind the arguments of each call.
+pub fn calls(input: &mut Input, out: &mut String, shifts: fn(&mut Input) -> Option<Shifts>) -> Option<()> {
     let mut receiver = Receiver::new(input.u32()?);
     let mut index = 0;
     while !input.is_empty() {
-        let (name, events) = match input.u8()? {
+        let arguments = match input.u8()? {
             3 => {
                 given::take_over(input, &mut receiver)?;
                 continue;
             }
-            0 => ("push", receiver.push(&input.f32s()?)),
-            1 => ("push_raw", receiver.push_raw(input.bytes()?)),
-            2 => ("flush", receiver.flush()),
+            0 => Arguments::Push(input.f32s()?),
+            1 => Arguments::PushRaw(input.bytes()?),
+            2 => Arguments::Flush,
             call => panic!("events has no call {call}"),
         };
-        line(out, events.map(|events| answer(index, name, &events, &receiver)));
+        let shifts = shifts(input)?;
+        let (name, events) = match arguments {
+            Arguments::Push(dbm) => ("push", receiver.push(&dbm, &shifts)),
+            Arguments::PushRaw(raw) => ("push_raw", receiver.push_raw(raw, &shifts)),
+            Arguments::Flush => ("flush", receiver.flush(&shifts)),
+        };
+        let records = events.map(|events| records(&events, &shifts));
+        line(out, records.map(|records| answer(index, name, &records, &receiver)));
         index += 1;
     }
     Some(())
 }
 
-fn answer(index: usize, name: &str, events: &[ReceiverEvent], receiver: &Receiver) -> String {
-    let mut text = format!("C {index} {name} {}\n", events.len());
-    for event in events {
-        let record = match event {
-            ReceiverEvent::Frame(d) => record::received(d),
-            ReceiverEvent::Message(m) => record::message(m),
-        };
-        text += &hex_bytes(&record);
+/// The events' records, messages with their mark.
+fn records(events: &[ReceiverEvent], shifts: &Shifts) -> Vec<[u8; record::RECORD]> {
+    let record = |event: &ReceiverEvent| match event {
+        ReceiverEvent::Frame(d) => record::received(d),
+        ReceiverEvent::Message(m) => record::message(m, shifts.mark(m.time)),
+    };
+    events.iter().map(record).collect()
+}
+
+fn answer(index: usize, name: &str, records: &[[u8; record::RECORD]], receiver: &Receiver) -> String {
+    let mut text = format!("C {index} {name} {}\n", records.len());
+    for record in records {
+        text += &hex_bytes(record);
         text += "\n";
     }
     text + &receiver.state()

@@ -1,6 +1,7 @@
 //! `listen`: 01's program, the tracker and the receiver on one stream of 16-byte records.
 
 use super::events::Receiver;
+use super::shifts::Shifts;
 use super::tracker::Tracker;
 use crate::listener::{RATE, RECORD, STEP_HZ, cfo, freq, levels};
 use crate::rust::frequency::FrequencyTracker;
@@ -38,7 +39,7 @@ impl Listener {
         for r in records {
             self.record(r)?;
         }
-        let events = self.receiver.flush()?;
+        let events = self.receiver.flush(&Shifts::default())?;
         self.emit(&events);
         Ok(())
     }
@@ -54,7 +55,7 @@ impl Listener {
         if let Some(hz) = tracker.inner.next_tuning() {
             self.out += &format!("T {hz}\n");
         }
-        let events = self.receiver.push_raw(&r[..8])?;
+        let events = self.receiver.push_raw(&r[..8], &Shifts::default())?;
         self.samples += 8;
         self.emit(&events);
         Ok(())

@@ -15,6 +15,7 @@ mod grip;
 pub mod listen;
 mod misc;
 pub mod record;
+mod shifts;
 pub mod tracker;
 mod uplink;
 mod writer;
@@ -41,6 +42,7 @@ fn replay(name: &str) -> Option<Replay> {
         "tracker" => tracker::stream,
         "grip" => grip::case,
         "misc" => misc::case,
+        "shifts" => shifts::stream,
         "writer" => writer::case,
         _ => return None,
     })

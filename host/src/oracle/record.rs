@@ -139,7 +139,8 @@ pub fn read_message(r: &[u8; RECORD]) -> SigfoxMessage {
     }
 }
 
-pub fn message(m: &SigfoxMessage) -> [u8; RECORD] {
+/// A message with its mark of request 03.
+pub fn message(m: &SigfoxMessage, mark: u8) -> [u8; RECORD] {
     let mut r = common(Common {
         device: m.device_id.0,
         counter: m.counter,
@@ -159,6 +160,7 @@ pub fn message(m: &SigfoxMessage) -> [u8; RECORD] {
     r.0[0] = 2;
     r.0[1] = m.ranks.iter().map(|&rank| 1 << rank).sum();
     r.0[2] += 4 + 32 * u8::from(m.first_frame_end.is_some());
+    r.0[34] = mark;
     for (i, &FrameSpan { rank, time, end }) in m.frames.iter().enumerate() {
         r.0[44 + i] = rank as u8;
         r.put_f64(64 + 16 * i, time);

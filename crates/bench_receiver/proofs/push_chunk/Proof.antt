@@ -6,10 +6,13 @@ use Rattle.bench_receiver.proofs.push_chunk.Statement.{statement}
 use Rattle.bench_receiver.proofs.push_chunk.Tie as tie
 
 abbrev Inv-loop : tie.InvT-loop
-Inv-loop raw step samples₀ events₀ scratch32₀ scratch64₀ receiver₀ records₀ refused₀ at₀ samples events scratch32 scratch64 receiver records refused at = at ≤ length raw
+Inv-loop raw step samples₀ events₀ scratch32₀ scratch64₀ receiver₀ records₀ refused₀ shifts closed at₀ samples events scratch32 scratch64 receiver records refused at = at ≤ length raw
 
 abbrev μ-loop : tie.MeasureT-loop
-μ-loop raw step samples₀ events₀ scratch32₀ scratch64₀ receiver₀ records₀ refused₀ at₀ samples events scratch32 scratch64 receiver records refused at = length raw - at
+μ-loop raw step samples₀ events₀ scratch32₀ scratch64₀ receiver₀ records₀ refused₀ shifts closed at₀ samples events scratch32 scratch64 receiver records refused at = length raw - at
+
+none-requires : tie.Need-none-requires Inv-loop μ-loop
+none-requires c κs = search needs
 
 loop-holds : tie.Need-loop-holds Inv-loop μ-loop
 loop-holds c = search needs
@@ -32,6 +35,9 @@ part-push-raw-start c = search needs
 part-push-raw-end : tie.Need-part-push-raw-end Inv-loop μ-loop
 part-push-raw-end c = search needs
 
+slice-aggregate-push-raw : tie.Need-slice-aggregate-push-raw Inv-loop μ-loop
+slice-aggregate-push-raw c = search needs
+
 push-raw-requires : tie.Need-push-raw-requires Inv-loop μ-loop
 push-raw-requires c κs = search needs
 
@@ -53,6 +59,7 @@ push-chunk-spec =
     (tie.spec
     Inv-loop
     μ-loop
+    none-requires
     loop-holds
     sub-least
     least-requires
@@ -60,6 +67,7 @@ push-chunk-spec =
     sub-push-raw
     part-push-raw-start
     part-push-raw-end
+    slice-aggregate-push-raw
     push-raw-requires
     wrapping-add-u64-requires
     loop-less

@@ -6,10 +6,10 @@ use Rattle.events.proofs.hear.Statement.{statement}
 use Rattle.events.proofs.hear.Tie as tie
 
 abbrev Inv-loop : tie.InvT-loop
-Inv-loop s input from end samples₀ events₀ scratch32₀ scratch64₀ receiver₀ going₀ last i₀ samples events scratch32 scratch64 receiver going i = Unit
+Inv-loop s input from end shifts closed samples₀ events₀ scratch32₀ scratch64₀ receiver₀ going₀ last i₀ samples events scratch32 scratch64 receiver going i = Unit
 
 abbrev μ-loop : tie.MeasureT-loop
-μ-loop s input from end samples₀ events₀ scratch32₀ scratch64₀ receiver₀ going₀ last i₀ samples events scratch32 scratch64 receiver going i = last - i
+μ-loop s input from end shifts closed samples₀ events₀ scratch32₀ scratch64₀ receiver₀ going₀ last i₀ samples events scratch32 scratch64 receiver going i = last - i
 
 loop-holds : tie.Need-loop-holds Inv-loop μ-loop
 loop-holds c = search needs

@@ -4,7 +4,6 @@ use mathlib.Core.Path.{refl}
 use native.Mathlib.Omega.{arith}
 use mir.Syntax.{w32}
 use mir.ValLaws.{toZ-ofZ}
-use Rattle.ledger.specs.Records.{recordOf}
 use Rattle.receiver_waiting.proofs.WaitingLaws.{joined-few, stands}
 use Rattle.receiver_scan.proofs.TakeLaws.{if-true, if-false}
 use Rattle.receiver_scan.proofs.hear.Statement.{statement}
@@ -23,7 +22,6 @@ same-length : tie.Need-same-length
 same-length c = search needs
 
 returns : tie.Need-returns
-unfolding recordOf
 returns c =
     let s = c .before .before .before .before .before .before .before .before .before in
     let ppm = toZ-ofZ w32 (s .args .d .«clock_error_ppm») (record { sfits = c .before .before .before .before .before .before .struct-told .given .1 .1 .1 .1 .0 .1 }) in
@@ -33,7 +31,6 @@ same-length-2 : tie.Need-same-length-2
 same-length-2 c = search needs
 
 returns-2 : tie.Need-returns-2
-unfolding recordOf
 returns-2 c =
     let s = c .before .before .before .before .before .before .before .before in
     let ppm = toZ-ofZ w32 (s .args .d .«clock_error_ppm») (record { sfits = c .before .before .before .before .before .struct-told .given .1 .1 .1 .1 .0 .1 }) in

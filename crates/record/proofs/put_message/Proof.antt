@@ -7,7 +7,7 @@ use mir.Syntax.{w32}
 use mir.Val.{SFits, toZ, ofZ}
 use mir.ValLaws.{toZ-ofZ}
 use mathlib.Core.List.{_++_}
-use Rattle.record.specs.Record.{spanOf, headBytes, identityBytes, levelBytes, rankBytes, timeBytes, spanBytes}
+use Rattle.record.specs.Record.{messageMarks, spanOf, headBytes, identityBytes, levelBytes, rankBytes, timeBytes, spanBytes}
 use Rattle.record.proofs.PartLaws.{kept}
 use Rattle.record.proofs.RecordLaws.{message-written}
 use borrow.Author.Needs.{needs}
@@ -57,7 +57,7 @@ put-front-requires : tie.Need-put-front-requires
 put-front-requires c κs = let e = c .before .before .before .before .before .before .before .before .before .before .before in (omega (arith, e .pre), payload-is e, auth-is e)
 
 add-put-middle : tie.Need-add-put-middle
-add-put-middle c = search needs
+add-put-middle c = let e = c .before .before .before .before .before .before .before .before .before .before .before .before .before .before .before in record { fits = omega (arith, e .pre, e .good .1 .1 .0 .0) }
 
 end-of-requires : tie.Need-end-of-requires
 end-of-requires c κs = search needs
@@ -66,13 +66,13 @@ put-middle-requires : tie.Need-put-middle-requires
 put-middle-requires c κs = search needs
 
 add-put-spans : tie.Need-add-put-spans
-add-put-spans c = let e = c .before .before .before .before .before .before .before .before .before .before .before .before .before .before .before .before .before .before .before .before in record { fits = omega (arith, e .pre, e .good .1 .0 .0) }
+add-put-spans c = let e = c .before .before .before .before .before .before .before .before .before .before .before .before .before .before .before .before .before .before .before .before in record { fits = omega (arith, e .pre, e .good .1 .1 .0 .0) }
 
 put-spans-requires : tie.Need-put-spans-requires
 put-spans-requires c κs = search needs
 
 add-put-u64 : tie.Need-add-put-u64
-add-put-u64 c = let e = c .before .before .before .before .before .before .before .before .before .before .before .before .before .before .before .before .before .before .before .before .before .before .before .before in record { fits = omega (arith, e .pre, e .good .1 .0 .0) }
+add-put-u64 c = let e = c .before .before .before .before .before .before .before .before .before .before .before .before .before .before .before .before .before .before .before .before .before .before .before .before in record { fits = omega (arith, e .pre, e .good .1 .1 .0 .0) }
 
 put-u64-requires : tie.Need-put-u64-requires
 put-u64-requires c κs =
@@ -88,7 +88,7 @@ put-u64-requires c κs =
     let g = s1 .before .before .before .before in
     let ppm = toZ w32 (ofZ w32 (m .«clock_error_ppm»)) in
     let h = g .message-head .result in
-    let front = headBytes h ++ (identityBytes (m .«device_id») (m .counter) (h .«payload_len») (m .payload) (h .«auth_len») (m .auth) ++ levelBytes ppm (m .rssi)) in
+    let front = headBytes h ++ (identityBytes (m .«device_id») (m .counter) (h .«payload_len») (m .payload) (h .«auth_len») (m .auth) (messageMarks (a .mark)) ++ levelBytes ppm (m .rssi)) in
     let middle = rankBytes (spanOf m 0 .rank) (spanOf m 1 .rank) (spanOf m 2 .rank) ++ timeBytes (m .time) (n .end-of .result) in
     let spans = spanBytes (spanOf m 0) ++ (spanBytes (spanOf m 1) ++ spanBytes (spanOf m 2)) in
     omega (
@@ -111,7 +111,7 @@ returns c = let s4 = c .before .before in
     let g = s1 .before .before .before .before in
     let e = g .before .before .before .before .before .before .before .before in
     let a = e .args in
-    message-written (a .t1) (payload-is e) (auth-is e) (g .message-head .result) _ (n .end-of .result) (a .out .now) (a .at)
+    message-written (a .mark) (a .t1) (payload-is e) (auth-is e) (g .message-head .result) _ (n .end-of .result) (a .out .now) (a .at)
     (s1 .put-front .last .0) (s2 .put-middle .last .0) (s3 .put-spans .last .0) (s4 .put-u64 .last .0)
     (g .message-head .ensures) (toZ-ofZ w32 (a .t1 .«clock_error_ppm») (ppm-fits e)) (n .end-of .ensures)
     (s1 .put-front .ensures) (s2 .put-middle .ensures) (s3 .put-spans .ensures) (s4 .put-u64 .ensures)

@@ -27,6 +27,40 @@ pub struct State {
 }
 
 impl Waiting {
+    /// A message of one frame of 1.5 s with rank 0, that began at this time; the last frame joined at 0.
+    pub fn plain(number: u8, time: f64, start: u64) -> Self {
+        let mut w = Self {
+            record: [0; RECORD],
+            last: 0.0,
+        };
+        w.put(0, &[2, 1, 4 + 32, 0, 2]);
+        w.put(8, &[number, 1, 0, 0, number]);
+        w.put(40, &(-50f32).to_le_bytes());
+        w.put(44, &[0, 255, 255]);
+        for at in [48, 64] {
+            w.put_f64(at, time);
+            w.put_f64(at + 8, time + 1.5);
+        }
+        w.put(112, &start.to_le_bytes());
+        w
+    }
+
+    /// The message with another time.
+    pub fn heard(mut self, time: f64) -> Self {
+        self.put_f64(48, time);
+        self
+    }
+
+    /// The message with something in bytes that are spare on their way in.
+    pub fn spare(mut self, at: usize, bytes: &[u8]) -> Self {
+        self.put(at, bytes);
+        self
+    }
+
+    pub fn joined(self, last: f64) -> Self {
+        Self { last, ..self }
+    }
+
     fn put(&mut self, at: usize, bytes: &[u8]) {
         self.record[at..at + bytes.len()].copy_from_slice(bytes);
     }
@@ -36,7 +70,7 @@ impl Waiting {
     }
 
     /// A message of a device, with spans of these ranks; the last frame joined at `last`.
-    fn new(rng: &mut Rng, device: u32, counter: u16, ranks: &[u8], last: f64) -> Self {
+    pub fn new(rng: &mut Rng, device: u32, counter: u16, ranks: &[u8], last: f64) -> Self {
         let mut w = Self {
             record: [0; RECORD],
             last,
@@ -92,7 +126,8 @@ impl Calls {
     }
 }
 
-fn spans(rng: &mut Rng) -> Vec<u8> {
+/// One to three different ranks.
+pub fn spans(rng: &mut Rng) -> Vec<u8> {
     let first = rng.below(3) as u8;
     let mut ranks = vec![first];
     while ranks.len() < 3 && rng.chance(0.4) {

@@ -1,7 +1,7 @@
 //! Inputs of `events`: a stream of air, cut into calls.
 
 mod edges;
-mod given;
+pub(super) mod given;
 
 use super::frame::Uplink;
 use super::put::Put;
@@ -12,10 +12,10 @@ use super::{Case, case, cut};
 pub use edges::directed;
 
 /// Bytes before the first call.
-const HEADER: usize = 4;
+pub const HEADER: usize = 4;
 
 /// A run under construction.
-pub struct Calls(Put);
+pub struct Calls(pub(super) Put);
 
 impl Calls {
     pub fn new(rate: u32) -> Self {

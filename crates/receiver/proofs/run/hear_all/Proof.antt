@@ -3,23 +3,24 @@ use mathlib.Core.Bool.{true}
 use Rattle.ledger.specs.Ledger.{flush, scans}
 use Rattle.ledger.specs.Demodulation.{demodOf}
 use Rattle.receiver.specs.State.{ledgerOf}
+use Rattle.shifts.specs.Shifts.{markOf}
 use Rattle.receiver.proofs.RunLaws.{held-is, flush-asks, flush-end, closable, ends-flush}
 use borrow.Author.Needs.{needs}
 use Rattle.receiver.proofs.run.hear_all.Statement.{statement}
 use Rattle.receiver.proofs.run.hear_all.Tie as tie
 
 slice-aggregate-scan : tie.Need-slice-aggregate-scan
-slice-aggregate-scan c = let s = c .before .before .before .before .before .before in let a = s .args in held-is (a .s) (a .samples .now) (a .events .now) (a .scratch .now) flush (s .pre)
+slice-aggregate-scan c = let s = c .before .before .before .before .before .before .before in let a = s .args in held-is (a .s) (a .samples .now) (a .events .now) (a .scratch .now) flush (s .pre)
 
 scan-requires : tie.Need-scan-requires
-scan-requires c κs = let s = c .before .before .before .before .before .before .before .before in let a = s .args in flush-asks (a .s) (a .samples .now) (a .events .now) (a .scratch .now) (s .pre)
+scan-requires c κs = let s = c .before .before .before .before .before .before .before .before .before in let a = s .args in flush-asks (a .s) (a .samples .now) (a .events .now) (a .scratch .now) (s .pre)
 
 finish-requires : tie.Need-finish-requires
 finish-requires c κs =
-    let s = c .before .before .before .before .before .before .before .before .before .before .before .before .before .before in
+    let s = c .before .before .before .before .before .before .before .before .before .before .before .before .before .before .before in
     let a = s .args in
     let t = c .before .before .before .before .before .scan in
-    closable (a .s) flush (a .samples .now) _ (a .events .now) _ (a .scratch .now) _ _ _ _ true (s .pre)
+    closable (markOf (a .shifts) (a .closed .now)) (a .s) flush (a .samples .now) _ (a .events .now) _ (a .scratch .now) _ _ _ _ true (s .pre)
     (flush-end (a .s) (a .samples .now) (a .events .now) (a .scratch .now) (s .pre) (t .result) _ (t .ensures)) ends-flush (t .kept .1 .1 .1 .1 .1 .1 .0)
 
 same-length : tie.Need-same-length
@@ -30,7 +31,7 @@ same-length-2 c = search needs
 
 returns : tie.Need-returns
 returns c =
-    let s = c .before .before .before .before .before .before .before .before .before .before .before .before .before .before .before .before .before in
+    let s = c .before .before .before .before .before .before .before .before .before .before .before .before .before .before .before .before .before .before in
     let a = s .args in
     let t = c .before .before .before .before .before .before .before .before .scan in
     let d = flush-end (a .s) (a .samples .now) (a .events .now) (a .scratch .now) (s .pre) (t .result) _ (t .ensures) in

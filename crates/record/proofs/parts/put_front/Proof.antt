@@ -35,10 +35,10 @@ returns c = let s3 = c .before .before in
     let s1 = s2 .before .before .before .before in
     let e = s1 .before .before .before .before .before in
     let a = e .args in
-    three (a .out .now) (a .at) (headBytes (a .h)) (identityBytes (a .device) (a .counter) (a .h .«payload_len») (a .payload .now) (a .h .«auth_len») (a .auth .now)) (levelBytes (a .ppm) (a .rssi))
+    three (a .out .now) (a .at) (headBytes (a .h)) (identityBytes (a .device) (a .counter) (a .h .«payload_len») (a .payload .now) (a .h .«auth_len») (a .auth .now) (a .k)) (levelBytes (a .ppm) (a .rssi))
     (s1 .put-head .last .0) (s2 .put-identity .last .0) (s3 .put-levels .last .0) (a .at + 8) (a .at + 36) (s1 .put-head .ensures) (s2 .put-identity .ensures)
     (s3 .put-levels .ensures ∙ ap (λ z. sets (s2 .put-identity .last .0) (a .at + 36) (levelBytes z (a .rssi))) (toZ-ofZ w32 (a .ppm) (e .fits .ppm)))
-    (omega (arith, length-head (a .h))) (omega (arith, length-identity (a .device) (a .counter) (a .h .«payload_len») (a .payload .now) (a .h .«auth_len») (a .auth .now) (e .pre .1) (e .pre .2)))
+    (omega (arith, length-head (a .h))) (omega (arith, length-identity (a .device) (a .counter) (a .h .«payload_len») (a .payload .now) (a .h .«auth_len») (a .auth .now) (a .k) (e .pre .1) (e .pre .2)))
 
 pub put-front-spec : {M : Type 1} → statement M
 put-front-spec =

@@ -31,11 +31,11 @@ add-put-up-to-2 c = search needs
 put-up-to-requires-2 : tie.Need-put-up-to-requires-2
 put-up-to-requires-2 c κs = search needs
 
-add-put-spare-2 : tie.Need-add-put-spare-2
-add-put-spare-2 c = search needs
+add-put-marks : tie.Need-add-put-marks
+add-put-marks c = search needs
 
-put-spare-requires-2 : tie.Need-put-spare-requires-2
-put-spare-requires-2 c κs = search needs
+put-marks-requires : tie.Need-put-marks-requires
+put-marks-requires c κs = search needs
 
 same-length : tie.Need-same-length
 same-length c = search needs
@@ -49,10 +49,10 @@ returns c = let s6 = c .before .before in
     let s1 = s2 .before .before .before .before in
     let e = s1 .before .before .before .before .before in
     let a = e .args in
-    identity-written (a .out .now) (a .at) (a .device) (a .counter) (a .payload-len) (a .auth-len) (a .payload .now) (a .auth .now)
-    (s1 .put-u32 .last .0) (s2 .put-u16 .last .0) (s3 .put-spare .last .0) (s4 .put-up-to .last .0) (s5 .put-up-to2 .last .0) (s6 .put-spare2 .last .0)
+    identity-written (a .out .now) (a .at) (a .device) (a .counter) (a .payload-len) (a .auth-len) (a .k) (a .payload .now) (a .auth .now)
+    (s1 .put-u32 .last .0) (s2 .put-u16 .last .0) (s3 .put-spare .last .0) (s4 .put-up-to .last .0) (s5 .put-up-to2 .last .0) (s6 .put-marks .last .0)
     (e .pre .1) (e .pre .2)
-    (s1 .put-u32 .ensures) (s2 .put-u16 .ensures) (s3 .put-spare .ensures) (s4 .put-up-to .ensures) (s5 .put-up-to2 .ensures) (s6 .put-spare2 .ensures)
+    (s1 .put-u32 .ensures) (s2 .put-u16 .ensures) (s3 .put-spare .ensures) (s4 .put-up-to .ensures) (s5 .put-up-to2 .ensures) (s6 .put-marks .ensures)
 
 pub put-identity-spec : {M : Type 1} → statement M
 put-identity-spec =
@@ -67,7 +67,7 @@ put-identity-spec =
     put-up-to-requires
     add-put-up-to-2
     put-up-to-requires-2
-    add-put-spare-2
-    put-spare-requires-2
+    add-put-marks
+    put-marks-requires
     same-length
     returns)

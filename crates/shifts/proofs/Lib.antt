@@ -1,0 +1,4 @@
+pub mod Examples
+pub mod Loops
+pub mod Times
+pub mod Walks
