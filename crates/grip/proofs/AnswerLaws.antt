@@ -5,7 +5,7 @@ use mathlib.Core.List.{List, []}
 use Prim.Native.Nat.{ℕ, _%_, _≤_, _<_}
 use native.Mathlib.Omega.{arith}
 use borrow.Author.Tests.{lt-ltb, le-ltb}
-use lib.Dec.{eqb}
+use lib.Dec.{ltb, eqb}
 use lib.ListN.{length}
 use lib.Seq.{sets}
 use lib.Ieee.{Float}
@@ -38,6 +38,14 @@ within-finite true grip within e =
     (λ t. absurd (never (rw t at e)))
   where
     never : _≡_ {A = ℕ} 14 0 → ⊥
+    never e = omega arith
+
+pub no-cause : (l : List ℕ) (grip within : Float) → nearestCause l grip within ≡ 0 → isFinite within ≡ true
+unfolding nearestCause
+no-cause l grip within e =
+    cases (ltb mostRecordBytes (length l)) (λ t. absurd (never (rw t at e))) (λ t. within-finite (listOk l) grip within (rw t at e))
+  where
+    never : _≡_ {A = ℕ} 3 0 → ⊥
     never e = omega arith
 
 -- ---- the nearest message of what was read
@@ -87,8 +95,8 @@ module _ (l : List ℕ) (grip within : Float) where
         record {
           value = foundOf (readPart grip within b l);
           answered = e ∙ ap (λ (x : ℕ). answer x (foundOf (readPart grip within b l))) c;
-          told = λ z. tells grip within (within-finite (listOk l) grip within (ap (λ (t : Bool). gripCause t grip within) (sym read-ok) ∙ c ∙ z)) (eventsOf l) (readPart grip within b l)
-              (stands-all grip within (within-finite (listOk l) grip within (ap (λ (t : Bool). gripCause t grip within) (sym read-ok) ∙ c ∙ z)) (eventsOf l) [] (tested b l) (stands-none grip within (tested b l) n f));
+          told = λ z. tells grip within (no-cause l grip within z) (eventsOf l) (readPart grip within b l)
+              (stands-all grip within (no-cause l grip within z) (eventsOf l) [] (tested b l) (stands-none grip within (tested b l) n f));
         }
 
 -- ---- the messages on air

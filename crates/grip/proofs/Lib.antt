@@ -6,3 +6,5 @@ pub mod LookedLaws
 pub mod TimeLaws
 pub mod AirLaws
 pub mod AnswerLaws
+pub mod Claims
+pub mod Contracts

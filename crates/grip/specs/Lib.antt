@@ -3,3 +3,4 @@ pub mod Times
 pub mod Nearest
 pub mod OnAir
 pub mod Reading
+pub mod Claims
