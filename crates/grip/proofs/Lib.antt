@@ -8,3 +8,4 @@ pub mod AirLaws
 pub mod AnswerLaws
 pub mod Claims
 pub mod Contracts
+pub mod Example
