@@ -42,7 +42,6 @@ module _ (grip within : Float) (W : isFinite within ≡ true) where
   made : (es : List (List ℕ)) (i : ℕ) (top : List ℕ) → i < length es → getD es i [] ≡ top → qualifies grip within top ≡ true → Top es top i → IsNearest grip within es i
   made es i top h e q t = record { there = h; good = ap (qualifies grip within) e ∙ q; best = λ j k p. ap (λ (s : List ℕ). better grip (getD es j []) j s i) e ∙ t j k p }
 
-
   -- the later of two is better where its distance, then its time is less
   later : (r : List ℕ) (i : ℕ) (s : List ℕ) (j : ℕ) → j ≤ i
       → better grip r i s j ≡ lt (distance grip r) (distance grip s) || (eq (distance grip r) (distance grip s) && lt (timeOf r) (timeOf s))

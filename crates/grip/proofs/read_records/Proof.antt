@@ -58,8 +58,8 @@ loop-again c =
       omega (arith, c .before .before .loop-test .taken),
       omega (arith, ap (λ (b : Best). b .count) e, looked-count (a .grip) (a .within) (l .best) (getD es (l .i) []), l .inv .1),
       ap (λ (b : Best). looks (a .grip) (a .within) b (drop (l .i + 1) es)) e
-      ∙ sym (looks-turn (a .grip) (a .within) (l .best) es (l .i) (omega (arith, length-records (wholes x) x)))
-      ∙ l .inv .2,
+          ∙ sym (looks-turn (a .grip) (a .within) (l .best) es (l .i) (omega (arith, length-records (wholes x) x)))
+          ∙ l .inv .2,
     )
 
 returns : tie.Need-returns Inv-loop μ-loop
