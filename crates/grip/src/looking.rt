@@ -13,6 +13,7 @@ pub fn looked_at(b: Best, r: &[u8], grip: f64, within: f64) -> Best
     requires { ⌜ (recordSize ≤ length (now r)) × (b .count < mostRecords) ⌝ }
     ensures { λ n. ⌜ n ≡ looked grip within b (now (r .entry)) ⌝ }
 {
+    let count = b.count + 1;
     let right = event_list::record_ok(r);
     let ok = b.ok & right;
     let message = event_list::is_message(r);
@@ -26,7 +27,7 @@ pub fn looked_at(b: Best, r: &[u8], grip: f64, within: f64) -> Best
     let earlier = time < b.time;
     if (message & (finite & near)) & (first | (nearer | (equal & earlier))) {
         return Best {
-            count: b.count + 1,
+            count: count,
             ok: ok,
             found: true,
             number: b.count,
@@ -35,7 +36,7 @@ pub fn looked_at(b: Best, r: &[u8], grip: f64, within: f64) -> Best
         };
     }
     Best {
-        count: b.count + 1,
+        count: count,
         ok: ok,
         found: b.found,
         number: b.number,
