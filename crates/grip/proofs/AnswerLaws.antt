@@ -1,5 +1,5 @@
 -- What the calls answer, a law for each way through them. Assumes nothing.
-use mathlib.Core.Path.{_≡_, refl, sym, ap, _∙_}
+use mathlib.Core.Path.{_≡_, refl, ap, _∙_}
 use mathlib.Core.Bool.{Bool, true, false, _&&_}
 use mathlib.Core.List.{List, []}
 use Prim.Native.Nat.{ℕ, _%_, _≤_, _<_}
@@ -11,7 +11,7 @@ use lib.Seq.{sets}
 use lib.Ieee.{Float}
 use Rattle.limits.specs.Limits.{recordSize, mostRecordBytes}
 use Rattle.limits.specs.Answer.{accepted, answer, number, leaves}
-use Rattle.limits.proofs.Samples.{and-left, and-right, and-assoc}
+use Rattle.limits.proofs.Samples.{and-left, and-right}
 use Rattle.event_list.specs.Events.{wholes, eventsOf, allOk, listOk}
 use Rattle.grip.specs.declared.Best.{Best}
 use Rattle.grip.specs.declared.Nearest.{Nearest}
@@ -19,10 +19,10 @@ use Rattle.grip.specs.declared.Nearest.the-variants.{Refused, Record, No
 use Rattle.grip.specs.declared.Air.{Air}
 use Rattle.grip.specs.declared.Air.the-variants as air
 use Rattle.grip.specs.Times.{isFinite, distanceOk}
-use Rattle.grip.specs.Nearest.{said, gripCause, nearestCause, Found, none, Call}
+use Rattle.grip.specs.Nearest.{said, gripCause, nearestCause, none, Call}
 use Rattle.grip.specs.OnAir.{heard, airNumbers, airCause}
-use Rattle.grip.specs.Reading.{tested, readPart, looks, foundOf}
-use Rattle.grip.proofs.OrderLaws.{cases, clash}
+use Rattle.grip.specs.Reading.{tested, readPart, foundOf}
+use Rattle.grip.proofs.OrderLaws.{cases}
 use Rattle.grip.proofs.NearLaws.{stands-none, stands-all, tells, looks-ok}
 
 -- where nothing is refused the distance is finite

@@ -13,10 +13,9 @@ use Rattle.limits.specs.Answer.{Answer, accepted, answer, number, leaves}
 use Rattle.event_list.specs.Events.{wholes, eventsOf}
 use Rattle.event_list.proofs.EventLaws.{length-records}
 use Rattle.grip.specs.declared.Nearest.{Nearest}
-use Rattle.grip.specs.declared.Air.{Air}
 use Rattle.grip.specs.Nearest.{said, Found, at, none, Tells, nearestCause, Call}
-use Rattle.grip.specs.OnAir.{heard, isOnAir, airFrom, airNumbers, airCause}
-use Rattle.grip.specs.Claims.{SameAnswer, NumberIsNearest, NoneIsTrue, Heard, PlaceOf, Listed, AllOnAir}
+use Rattle.grip.specs.OnAir.{isOnAir, airFrom, airNumbers, airCause}
+use Rattle.grip.specs.Claims.{SameAnswer, NumberIsNearest, NoneIsTrue, PlaceOf, Listed, AllOnAir}
 use Rattle.grip.proofs.OrderLaws.{cases, clash}
 use Rattle.grip.proofs.NearLaws.{only-one}
 use Rattle.grip.proofs.AirLaws.{air-le}

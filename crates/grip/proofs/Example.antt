@@ -4,7 +4,7 @@ use mathlib.Core.Path.{_≡_, refl}
 use mathlib.Core.Bool.{true, false}
 use mathlib.Core.List.{List, [], _∷_, _++_}
 use native.Mathlib.Omega.{arith}
-use lib.ListN.{length, getD, set}
+use lib.ListN.{getD, set}
 use lib.Seq.{sets}
 use lib.Ieee.{nan, inf, binary64, round, ofInt, ofBits, add, sub, sum, lt, eq, le, neg}
 use Rattle.floats.specs.Number.{num}

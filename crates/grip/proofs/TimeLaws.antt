@@ -1,6 +1,6 @@
 -- The tests of times, as the code makes them. Assumes nothing.
-use mathlib.Core.Path.{_≡_, refl, sym}
-use mathlib.Core.Bool.{Bool, true, false, _&&_}
+use mathlib.Core.Path.{_≡_, refl}
+use mathlib.Core.Bool.{true, false, _&&_}
 use lib.Ieee.{Float, nan, inf, fin, binary64, neg, lt, ofBits, ofInt}
 use Rattle.floats.specs.Number.{num}
 use Rattle.grip.specs.Times.{isFinite}

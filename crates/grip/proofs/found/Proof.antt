@@ -1,8 +1,7 @@
 -- `grip::found` meets its contract. Assumes nothing.
-use mathlib.Core.Path.{_≡_, sym, _∙_}
+use mathlib.Core.Path.{_≡_}
 use mathlib.Core.Bool.{Bool, _&&_}
 use borrow.Author.Tests.{not-true, not-false}
-use Rattle.grip.specs.Times.{isFinite, distanceOk}
 use Rattle.grip.proofs.AnswerLaws.{says-bad, says-time, says-record, says-nothing}
 use borrow.Author.Needs.{needs}
 use Rattle.grip.proofs.found.Statement.{statement}

@@ -1,5 +1,4 @@
 -- `grip::nearest_message` meets its contract. Assumes nothing.
-use native.Mathlib.Omega.{arith}
 use mathlib.Core.Path.{_≡_, subst}
 use Rattle.limits.specs.Answer.{answer}
 use Rattle.grip.specs.declared.Best.{Best}

@@ -4,7 +4,7 @@ use native.Mathlib.Omega.{arith}
 use mathlib.Core.Path.{_≡_, refl, sym, ap, _∙_}
 use mathlib.Core.List.{[]}
 use Prim.Native.Nat.{_+_, _-_, _≤_, _<_}
-use lib.ListN.{length, drop, getD}
+use lib.ListN.{drop, getD}
 use Rattle.event_list.specs.Events.{eventsOf, wholes}
 use Rattle.event_list.proofs.EventLaws.{length-records, event-part}
 use Rattle.grip.specs.declared.Best.{Best}

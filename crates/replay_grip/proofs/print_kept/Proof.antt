@@ -1,6 +1,5 @@
 -- `replay_grip::print_kept` meets its contract: the places are counted up. Assumes nothing.
 use borrow.Author.Needs.{needs}
-use lib.ListN.{length}
 use Prim.Native.Nat.{_-_}
 use Rattle.replay_grip.proofs.print_kept.Statement.{statement}
 use Rattle.replay_grip.proofs.print_kept.Tie as tie
