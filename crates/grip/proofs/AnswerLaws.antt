@@ -23,7 +23,7 @@ use Rattle.grip.specs.Nearest.{said, gripCause, nearestCause, none, Call
 use Rattle.grip.specs.OnAir.{heard, airNumbers, airCause}
 use Rattle.grip.specs.Reading.{tested, readPart, foundOf}
 use Rattle.grip.proofs.OrderLaws.{cases}
-use Rattle.grip.proofs.NearLaws.{stands-none, stands-all, tells, looks-ok}
+use Rattle.grip.proofs.NearLaws.{stands-none, part-adds, tells, looks-ok}
 
 -- where nothing is refused the distance is finite
 within-finite : (ok : Bool) (grip within : Float) → gripCause ok grip within ≡ 0 → isFinite within ≡ true
@@ -96,7 +96,7 @@ module _ (l : List ℕ) (grip within : Float) where
           value = foundOf (readPart grip within b l);
           answered = e ∙ ap (λ (x : ℕ). answer x (foundOf (readPart grip within b l))) c;
           told = λ z. tells grip within (no-cause l grip within z) (eventsOf l) (readPart grip within b l)
-              (stands-all grip within (no-cause l grip within z) (eventsOf l) [] (tested b l) (stands-none grip within (tested b l) n f));
+              (part-adds grip within (no-cause l grip within z) b l .behind [] (stands-none grip within b n f));
         }
 
 -- ---- the messages on air

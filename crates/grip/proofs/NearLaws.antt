@@ -2,21 +2,22 @@
 use mathlib.Core.Path.{_≡_, refl, sym, ap, _∙_, subst}
 use mathlib.Core.Bool.{Bool, true, false, _&&_, _||_, not}
 use mathlib.Core.List.{List, [], _∷_, _++_, append-assoc, append-nil}
-use Prim.Native.Nat.{ℕ, _+_, _≤_, _<_}
+use Prim.Native.Nat.{ℕ, _+_, _%_, _≤_, _<_}
 use native.Mathlib.Omega.{arith}
 use native.Mathlib.Numerals.{add-one}
 use borrow.Author.Tests.{ltb-true, ltb-false, le-ltb}
-use lib.Dec.{ltb}
+use lib.Dec.{ltb, eqb}
 use lib.ListN.{length, drop, getD, length-append, List·getD-append}
 use lib.Seq.{drop-cons, drop-length, getD-append-seam}
 use lib.Ieee.{Float, lt, eq}
 use Rattle.limits.proofs.Samples.{and-left, and-assoc, and-true}
 use Rattle.record.specs.Readers.{timeOf}
-use Rattle.event_list.specs.Events.{recordOk, allOk}
+use Rattle.limits.specs.Limits.{recordSize}
+use Rattle.event_list.specs.Events.{eventsOf, recordOk, allOk}
 use Rattle.grip.specs.declared.Best.{Best}
 use Rattle.grip.specs.Times.{isFinite}
 use Rattle.grip.specs.Nearest.{distance, qualifies, better, IsNearest, NoneQualifies, Found, at, none, Tells}
-use Rattle.grip.specs.Reading.{takes, looked, looks, Stands, foundOf}
+use Rattle.grip.specs.Reading.{takes, looked, looks, tested, readPart, Stands, Adds, foundOf}
 use Rattle.grip.proofs.OrderLaws.{cases, clash}
 use Rattle.grip.proofs.BetterLaws.{better-trans, better-total, better-self}
 
@@ -154,12 +155,6 @@ module _ (grip within : Float) where
   unfolding looks
   looks-end b es i e = ap (looks grip within b) (ap (λ (k : ℕ). drop k es) e ∙ drop-length es)
 
-  -- parts add up
-  pub looks-append : (rs qs : List (List ℕ)) (b : Best) → looks grip within b (rs ++ qs) ≡ looks grip within (looks grip within b rs) qs
-  unfolding looks
-  looks-append [] qs b = refl
-  looks-append (r ∷ rs) qs b = looks-append rs qs (looked grip within b r)
-
   -- whether refusal 12 does not apply
   pub looks-ok : (rs : List (List ℕ)) (b : Best) → looks grip within b rs .ok ≡ b .ok && allOk rs
   unfolding looks looked allOk
@@ -172,3 +167,10 @@ module _ (grip within : Float) where
   pub looked-count : (b : Best) (r : List ℕ) → looked grip within b r .count ≡ b .count + 1
   unfolding looked
   looked-count b r = cases (takes grip within b r) (λ t. rw t refl) (λ t. rw t refl)
+
+-- a part that is read adds up
+pub part-adds : (grip within : Float) → isFinite within ≡ true → (b : Best) (l : List ℕ) → Adds grip within b l (readPart grip within b l)
+part-adds grip within W b l = record {
+  fine = looks-ok grip within (eventsOf l) (tested b l) ∙ and-assoc (b .ok) (eqb (length l % recordSize) 0) (allOk (eventsOf l));
+  behind = λ es st. stands-all grip within W (eventsOf l) es (tested b l) (record { counted = st .counted; nothing = st .nothing; nearest = st .nearest; far = st .far; when = st .when });
+}

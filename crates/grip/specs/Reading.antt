@@ -2,13 +2,13 @@
 use Prim.Native.Nat.{ℕ, _+_, _/_, _%_}
 use mathlib.Core.Path.{_≡_}
 use mathlib.Core.Bool.{Bool, true, false, cond, _&&_, _||_, not}
-use mathlib.Core.List.{List, [], _∷_}
+use mathlib.Core.List.{List, [], _∷_, _++_}
 use lib.Dec.{eqb}
 use lib.ListN.{length, getD}
 use lib.Ieee.{Float, lt, eq}
 use Rattle.limits.specs.Limits.{recordSize, mostRecordBytes}
 use Rattle.record.specs.Readers.{timeOf}
-use Rattle.event_list.specs.Events.{recordOk, eventsOf}
+use Rattle.event_list.specs.Events.{recordOk, eventsOf, listOk}
 use Rattle.grip.specs.declared.Best.{Best}
 use Rattle.grip.specs.Nearest.{distance, qualifies, IsNearest, NoneQualifies, Found, at, none}
 
@@ -47,6 +47,11 @@ pub record Stands (grip within : Float) (b : Best) (es : List (List ℕ)) : Type
   pub nearest : b .found ≡ true → IsNearest grip within es (b .number)
   pub far : b .found ≡ true → b .distance ≡ distance grip (getD es (b .number) [])
   pub when : b .found ≡ true → b .time ≡ timeOf (getD es (b .number) [])
+
+-- parts add up: a part's records come behind those that were read, and 12 applies where it applies to one of the two
+pub record Adds (grip within : Float) (b : Best) (l : List ℕ) (b′ : Best) : Type 0 where
+  pub fine : b′ .ok ≡ b .ok && listOk l
+  pub behind : (es : List (List ℕ)) → Stands grip within b es → Stands grip within b′ (es ++ eventsOf l)
 
 abbrev pub foundOf : Best → Found
 foundOf b = cond (b .found) (at (b .number)) none
