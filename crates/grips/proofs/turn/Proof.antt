@@ -17,11 +17,8 @@ enum-told c = search needs
 enum-told-2 : tie.Need-enum-told-2
 enum-told-2 c = search needs
 
-slice-aggregate-say : tie.Need-slice-aggregate-say
-slice-aggregate-say c = search needs
-
-say-requires : tie.Need-say-requires
-say-requires c κs = search needs
+say-no-input-requires : tie.Need-say-no-input-requires
+say-no-input-requires c κs = search needs
 
 enum-known-n : tie.Need-enum-known-n
 enum-known-n c = search needs
@@ -58,8 +55,7 @@ turn-spec =
     next-line-requires
     enum-told
     enum-told-2
-    slice-aggregate-say
-    say-requires
+    say-no-input-requires
     enum-known-n
     array-share-prefix-line
     slice-aggregate-print-line
