@@ -1,49 +1,15 @@
 // Test frames as bits: a line of standard input is an uplink, and its three repetitions go out as digits, a line each (README.md).
 mod line; // what a line means
 
-ghost use mathlib.Core.Path.{_≡_};
 ghost use Prim.Native.Nat.{_≤_};
 ghost use lib.ListN.{length};
+use libc::STDERR_FILENO;
 use line::Parsed;
+use reading::Line;
 use writer::Written;
 
 // The longest line.
 const MOST_LINE: usize = 512;
-
-const NEWLINE: u8 = 10;
-
-// What comes next in standard input.
-enum Next {
-    End,
-    // A line of so many bytes, of which those that have a place are kept.
-    Line(usize),
-}
-
-// The next line of standard input, without its end.
-fn read_line(line: &mut [u8]) -> Next
-    ensures { λ _. ⌜ length (now (line .exit)) ≡ length (now (line .entry)) ⌝ }
-{
-    let mut n: usize = 0;
-    while n < 0x1_0000_0000 {
-        let mut one = [0u8; 1];
-        if !replay::read_part(&mut one) {
-            if n == 0 {
-                return Next::End;
-            }
-            return Next::Line(n);
-        }
-        if one[0] == NEWLINE {
-            return Next::Line(n);
-        }
-        if n < line.len() {
-            line[n] = one[0];
-            n += 1;
-        } else {
-            n += 1;
-        }
-    }
-    Next::Line(n)
-}
 
 // The repetition of a rank.
 fn print_rank(out: &[u8], rank: usize, count: usize)
@@ -105,12 +71,18 @@ fn print_line(line: &[u8], number: u64)
     }
 }
 
+fn print_failure() -> bool {
+    io::write_all(STDERR_FILENO, b"uplink: standard input can't be read\n");
+    false
+}
+
 // A line of standard input and what it prints; false at the end.
 fn turn(number: u64) -> bool {
     let mut line = [0u8; 512];
-    match read_line(&mut line) {
-        Next::End => false,
-        Next::Line(n) => {
+    match reading::next_line(&mut line) {
+        Line::End => false,
+        Line::Failed => print_failure(),
+        Line::Bytes(n) => {
             if n <= MOST_LINE {
                 print_line(&line[..n], number);
             } else {

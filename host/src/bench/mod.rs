@@ -7,6 +7,8 @@ mod demod;
 mod fleet;
 #[cfg(has_record)]
 mod frame;
+#[cfg(has_bench_grip)]
+mod grip;
 mod listen;
 #[cfg(has_bench)]
 mod order;
@@ -34,7 +36,7 @@ pub struct Row {
 
 enum Unit {
     /// Microseconds for a call, of so many that are timed together
-    #[cfg_attr(not(any(has_record, has_bench, has_bench_fleet)), expect(dead_code))]
+    #[cfg_attr(not(any(has_record, has_bench, has_bench_fleet, has_bench_grip)), expect(dead_code))]
     Call(usize),
     /// Milliseconds for a run
     Run,
@@ -81,16 +83,21 @@ fn libraries() -> Vec<Row> {
     let fleet = fleet::rows();
     #[cfg(not(has_bench_fleet))]
     let fleet = missing("bench_fleet", "fleet");
+    #[cfg(has_bench_grip)]
+    let grip = grip::rows();
+    #[cfg(not(has_bench_grip))]
+    let grip = missing("bench_grip", "grip");
     order
         .into_iter()
         .chain(frame)
         .chain(writer)
         .chain(demod)
         .chain(fleet)
+        .chain(grip)
         .collect()
 }
 
-#[cfg(not(all(has_record, has_bench, has_bench_fleet)))]
+#[cfg(not(all(has_record, has_bench, has_bench_fleet, has_bench_grip)))]
 fn missing(library: &str, of: &str) -> Vec<Row> {
     eprintln!("no rows of {of}: rt staticlib {library} makes their library");
     vec![]
@@ -98,7 +105,7 @@ fn missing(library: &str, of: &str) -> Vec<Row> {
 
 impl Row {
     /// Both sides on one input, so many times.
-    #[cfg(any(has_record, has_bench, has_bench_fleet))]
+    #[cfg(any(has_record, has_bench, has_bench_fleet, has_bench_grip))]
     pub fn new<T: Clone + 'static, A: 'static, B: 'static>(
         of: &'static str,
         times: usize,

@@ -6,14 +6,20 @@ use borrow.Author.Needs.{needs}
 use Rattle.uplink.proofs.turn.Statement.{statement}
 use Rattle.uplink.proofs.turn.Tie as tie
 
-slice-aggregate-read-line : tie.Need-slice-aggregate-read-line
-slice-aggregate-read-line c = search needs
+slice-aggregate-next-line : tie.Need-slice-aggregate-next-line
+slice-aggregate-next-line c = search needs
 
-read-line-requires : tie.Need-read-line-requires
-read-line-requires c κs = search needs
+next-line-requires : tie.Need-next-line-requires
+next-line-requires c κs = search needs
 
 enum-told : tie.Need-enum-told
 enum-told c = search needs
+
+enum-told-2 : tie.Need-enum-told-2
+enum-told-2 c = search needs
+
+print-failure-requires : tie.Need-print-failure-requires
+print-failure-requires c κs = search needs
 
 enum-known-n : tie.Need-enum-known-n
 enum-known-n c = search needs
@@ -22,10 +28,10 @@ array-share-prefix-line : tie.Need-array-share-prefix-line
 array-share-prefix-line c = search needs
 
 slice-aggregate-print-line : tie.Need-slice-aggregate-print-line
-slice-aggregate-print-line c = sym (length-take-le (c .before .before .before .n .given .0 .0) (c .before .before .before .before .before .before .read-line .last .0) (search needs))
+slice-aggregate-print-line c = sym (length-take-le (c .before .before .before .n .given .0 .0) (c .before .before .before .before .before .before .next-line .last .0) (search needs))
 
 print-line-requires : tie.Need-print-line-requires
-print-line-requires c κs = omega (arith, length-take-le (c .before .before .before .n .given .0 .0) (c .before .before .before .before .before .before .read-line .last .0) (search needs))
+print-line-requires c κs = omega (arith, length-take-le (c .before .before .before .n .given .0 .0) (c .before .before .before .before .before .before .next-line .last .0) (search needs))
 
 print-unknown-requires : tie.Need-print-unknown-requires
 print-unknown-requires c κs = search needs
@@ -39,13 +45,18 @@ returns-2 c = search needs
 returns-3 : tie.Need-returns-3
 returns-3 c = search needs
 
+returns-4 : tie.Need-returns-4
+returns-4 c = search needs
+
 pub turn-spec : {M : Type 1} → statement M
 turn-spec =
     tie.close
     (tie.spec
-    slice-aggregate-read-line
-    read-line-requires
+    slice-aggregate-next-line
+    next-line-requires
     enum-told
+    enum-told-2
+    print-failure-requires
     enum-known-n
     array-share-prefix-line
     slice-aggregate-print-line
@@ -53,4 +64,5 @@ turn-spec =
     print-unknown-requires
     returns
     returns-2
-    returns-3)
+    returns-3
+    returns-4)

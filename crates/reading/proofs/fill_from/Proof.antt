@@ -1,24 +1,24 @@
--- `reading::fill` meets its contract: what was read stands within the buffer. Assumes nothing.
+-- `reading::fill_from` meets its contract: what was read stands within the buffer. Assumes nothing.
 use mathlib.Core.Path.{_≡_, refl, ap}
 use Prim.Native.Nat.{_-_, _≤_}
 use native.Mathlib.Omega.{arith}
 use lib.ListN.{length}
 use Rattle.reading.specs.Input.{brought}
 use borrow.Author.Needs.{needs}
-use Rattle.reading.proofs.fill.Statement.{statement}
-use Rattle.reading.proofs.fill.Tie as tie
+use Rattle.reading.proofs.fill_from.Statement.{statement}
+use Rattle.reading.proofs.fill_from.Tie as tie
 
 abbrev Inv-loop : tie.InvT-loop
-Inv-loop input₀ n₀ input n = (n ≤ length input) × (length input ≡ length input₀)
+Inv-loop fd input₀ n₀ input n = (n ≤ length input) × (length input ≡ length input₀)
 
 abbrev μ-loop : tie.MeasureT-loop
-μ-loop input₀ n₀ input n = length input - n
+μ-loop fd input₀ n₀ input n = length input - n
 
 loop-holds : tie.Need-loop-holds Inv-loop μ-loop
 loop-holds c = search needs
 
-fetch-requires : tie.Need-fetch-requires Inv-loop μ-loop
-fetch-requires c κs = search needs
+fetch-from-requires : tie.Need-fetch-from-requires Inv-loop μ-loop
+fetch-from-requires c κs = search needs
 
 enum-known-fetched : tie.Need-enum-known-fetched Inv-loop μ-loop
 enum-known-fetched c = search needs
@@ -40,19 +40,19 @@ returns-2 c = search needs
 
 add-n : tie.Need-add-n Inv-loop μ-loop
 add-n c =
-    let f = c .before .before .before .before .before .before .fetch in
+    let f = c .before .before .before .before .before .before .fetch-from in
     let e = ap brought (c .before .before .fetched .given .1) in
-    omega (arith, e, f .ensures, f .kept .0)
+    omega (arith, e, f .ensures, f .kept .1 .0)
 
 loop-less : tie.Need-loop-less Inv-loop μ-loop
 loop-less c = search needs
 
 loop-again : tie.Need-loop-again Inv-loop μ-loop
 loop-again c =
-    let f = c .before .before .before .before .before .before .fetch in
+    let f = c .before .before .before .before .before .before .fetch-from in
     let e = ap brought (c .before .before .fetched .given .1) in
     let l = c .before .before .before .before .before .before .before .before .before .loop in
-    (omega (arith, e, f .ensures, f .kept .0), omega (arith, f .kept .0, l .inv .1))
+    (omega (arith, e, f .ensures, f .kept .1 .0), omega (arith, f .kept .1 .0, l .inv .1))
 
 same-length-3 : tie.Need-same-length-3 Inv-loop μ-loop
 same-length-3 c = search needs
@@ -60,14 +60,14 @@ same-length-3 c = search needs
 returns-3 : tie.Need-returns-3 Inv-loop μ-loop
 returns-3 c = search needs
 
-pub fill-spec : {M : Type 1} → statement M
-fill-spec =
+pub fill-from-spec : {M : Type 1} → statement M
+fill-from-spec =
     tie.close
     (tie.spec
     Inv-loop
     μ-loop
     loop-holds
-    fetch-requires
+    fetch-from-requires
     enum-known-fetched
     enum-told
     same-length

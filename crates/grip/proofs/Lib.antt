@@ -1,0 +1,11 @@
+pub mod OrderLaws
+pub mod RankLaws
+pub mod BetterLaws
+pub mod NearLaws
+pub mod LookedLaws
+pub mod TimeLaws
+pub mod AirLaws
+pub mod AnswerLaws
+pub mod Claims
+pub mod Contracts
+pub mod Example
