@@ -3,33 +3,12 @@ ghost use mathlib.Core.Path.{_≡_};
 ghost use Prim.Native.Nat.{ℕ, _≤_};
 ghost use lib.ListN.{length, getD};
 ghost use Rattle.limits.specs.Limits.{recordSize};
-ghost use Rattle.subscription.specs.Charges.{days, latestStart, startOk};
-ghost use Rattle.subscription.specs.Counting.{mostRecords, secondOf, dayAt, inside, stepped, Few};
+ghost use Rattle.subscription.specs.Charges.{days, latestStart};
+ghost use Rattle.subscription.specs.Counting.{mostRecords, dayAt, inside, stepped, Few};
 use crate::DAYS;
 use record::read;
 
 const DAY_S: usize = 86_400;
-
-const LATEST_START: i64 = 10_000_000_000;
-
-// Whether a month may start there.
-pub fn start_ok(z: i64) -> bool
-    ensures { λ r. ⌜ r ≡ startOk z ⌝ }
-{
-    let low = 0 <= z;
-    let high = z <= LATEST_START;
-    low & high
-}
-
-// The second at which the days begin; 0 where the month's start is refused, so that the records are tested still.
-pub fn second_of(z: i64) -> usize
-    ensures { λ r. ⌜ (r ≡ secondOf z) × (r ≤ latestStart) ⌝ }
-{
-    if start_ok(z) {
-        return z as usize;
-    }
-    0
-}
 
 // The day of a time, from 0; 31 where it lies outside the month. Whole seconds are divided: a quotient of floats would be rounded.
 fn day_of(start: usize, time: f64) -> usize

@@ -10,13 +10,16 @@ ghost use lib.IntN.{natAbs};
 ghost use Rattle.limits.specs.Answer.{answer};
 ghost use Rattle.event_list.specs.Events.{wholes, eventsOf, messagesOf, listOk};
 ghost use Rattle.subscription.specs.Charges.{said, latestStart, allInMonth, planOk, startOk, centsOf, onDay, monthCause, chargeCause};
-ghost use Rattle.subscription.specs.Counting.{mostRecords, tallied, Few};
+ghost use Rattle.subscription.specs.Counting.{mostRecords, secondOf, tallied, Few};
 
 // The most steps of a plan.
 pub const MOST_STEPS: usize = 8;
 
 // The days of a month.
 pub const DAYS: usize = 31;
+
+// The latest start of a month, in seconds.
+const LATEST_START: i64 = 10_000_000_000;
 
 // A fee in cents, an allowance of messages a day, and steps of extra messages, each an upper count and a price in thousandths of a cent. The last step's upper count is not read.
 pub struct Plan {
@@ -39,6 +42,25 @@ pub struct Tally {
     pub records: usize,
     pub ok: bool,
     pub within: bool,
+}
+
+// Whether a month may start there.
+fn start_ok(z: i64) -> bool
+    ensures { λ r. ⌜ r ≡ startOk z ⌝ }
+{
+    let low = 0 <= z;
+    let high = z <= LATEST_START;
+    low & high
+}
+
+// The second at which the days begin; 0 where the month's start is refused, so that the records are tested still.
+pub fn second_of(z: i64) -> usize
+    ensures { λ r. ⌜ (r ≡ secondOf z) × (r ≤ latestStart) ⌝ }
+{
+    if start_ok(z) {
+        return z as usize;
+    }
+    0
 }
 
 // Nothing is read.
@@ -91,7 +113,7 @@ pub fn total(t: Tally, counts: &[u32], plan: Plan, month_start: i64) -> Charge
     if !prices::plan_ok(plan) {
         return Charge::Refused(limits::BAD_PLAN);
     }
-    if !days::start_ok(month_start) {
+    if !start_ok(month_start) {
         return Charge::Refused(limits::BAD_PLAN);
     }
     if !t.within {
@@ -111,7 +133,7 @@ pub fn charges(records: &[u8], plan: Plan, month_start: i64) -> Charge
     let t = read_records(
         no_records(),
         records,
-        days::second_of(month_start),
+        second_of(month_start),
         &mut counts,
     );
     total(t, &counts, plan, month_start)

@@ -1,5 +1,7 @@
 //! The benchmark: one table in markdown, both sides in one run, on the same bytes.
 
+#[cfg(has_bench_charges)]
+mod charges;
 mod clock;
 #[cfg(has_bench)]
 mod demod;
@@ -34,7 +36,7 @@ pub struct Row {
 
 enum Unit {
     /// Microseconds for a call, of so many that are timed together
-    #[cfg_attr(not(any(has_record, has_bench, has_bench_fleet)), expect(dead_code))]
+    #[cfg_attr(not(any(has_record, has_bench, has_bench_fleet, has_bench_charges)), expect(dead_code))]
     Call(usize),
     /// Milliseconds for a run
     Run,
@@ -81,16 +83,21 @@ fn libraries() -> Vec<Row> {
     let fleet = fleet::rows();
     #[cfg(not(has_bench_fleet))]
     let fleet = missing("bench_fleet", "fleet");
+    #[cfg(has_bench_charges)]
+    let charges = charges::rows();
+    #[cfg(not(has_bench_charges))]
+    let charges = missing("bench_charges", "charges");
     order
         .into_iter()
         .chain(frame)
         .chain(writer)
         .chain(demod)
         .chain(fleet)
+        .chain(charges)
         .collect()
 }
 
-#[cfg(not(all(has_record, has_bench, has_bench_fleet)))]
+#[cfg(not(all(has_record, has_bench, has_bench_fleet, has_bench_charges)))]
 fn missing(library: &str, of: &str) -> Vec<Row> {
     eprintln!("no rows of {of}: rt staticlib {library} makes their library");
     vec![]
@@ -98,7 +105,7 @@ fn missing(library: &str, of: &str) -> Vec<Row> {
 
 impl Row {
     /// Both sides on one input, so many times.
-    #[cfg(any(has_record, has_bench, has_bench_fleet))]
+    #[cfg(any(has_record, has_bench, has_bench_fleet, has_bench_charges))]
     pub fn new<T: Clone + 'static, A: 'static, B: 'static>(
         of: &'static str,
         times: usize,

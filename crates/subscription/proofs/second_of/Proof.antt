@@ -1,4 +1,4 @@
--- `subscription::days::second_of` meets its contract. Assumes nothing.
+-- `subscription::second_of` meets its contract. Assumes nothing.
 use mathlib.Core.Path.{sym, ap, _∙_}
 use native.Mathlib.Omega.{arith}
 use mir.Syntax.{w64}
@@ -6,8 +6,8 @@ use mir.ValLaws.{toZ-ofZ}
 use Rattle.subscription.specs.Charges.{startOk}
 use Rattle.subscription.proofs.DayLaws.{second-is, second-none}
 use borrow.Author.Needs.{needs}
-use Rattle.subscription.proofs.days.second_of.Statement.{statement}
-use Rattle.subscription.proofs.days.second_of.Tie as tie
+use Rattle.subscription.proofs.second_of.Statement.{statement}
+use Rattle.subscription.proofs.second_of.Tie as tie
 
 start-ok-requires : tie.Need-start-ok-requires
 start-ok-requires c κs = search needs
