@@ -130,11 +130,6 @@ pub fn charges(records: &[u8], plan: Plan, month_start: i64) -> Charge
         return Charge::Refused(limits::LONG);
     }
     let mut counts = [0u32; DAYS];
-    let t = read_records(
-        no_records(),
-        records,
-        second_of(month_start),
-        &mut counts,
-    );
+    let t = read_records(no_records(), records, second_of(month_start), &mut counts);
     total(t, &counts, plan, month_start)
 }
