@@ -1,6 +1,5 @@
 // A number in an argument.
 ghost use mathlib.Core.Path.{_≡_};
-ghost use mathlib.Core.Bool.{true};
 ghost use Prim.Native.Nat.{_+_, _-_, _*_, _≤_, min};
 ghost use lib.ListN.{length, drop};
 ghost use Rattle.charges.specs.Words.{isDigit, areDigits, isDecimal, mostNumber, numberFrom};

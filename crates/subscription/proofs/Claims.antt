@@ -23,7 +23,8 @@ use Rattle.subscription.specs.declared.Plan.{Plan}
 use Rattle.subscription.specs.declared.Charge.{Charge}
 use Rattle.subscription.specs.Charges.{said, sumTo, days, dearest, latestStart, inDay, inMonth, allInMonth, priceOf, stepOf, dayCost, planOk, startOk, roundedUp, costOf, centsOf, onDay, monthCause, chargeCause}
 use Rattle.subscription.specs.Counting.{secondOf, stepped, tallied}
-use Rattle.subscription.specs.Claims.{Call, numberCost, messageCost, listCost, Sum, EverySum, AnyOrder, InParts, PartsAdd}
+use Rattle.subscription.specs.Claims.{Call, numberCost, messageCost, listCost, Sum, EverySum, AnyOrder}
+use Rattle.subscription.specs.Parts.{PartsAdd}
 use Rattle.subscription.proofs.DayLaws.{only-day, day-under, second-is}
 use Rattle.subscription.proofs.CountLaws.{count-append}
 use Rattle.subscription.proofs.PriceLaws.{Sound, sound, extraPrice, extras-le}

@@ -1,19 +1,17 @@
 -- REQUEST 13'S CLAIMS, over every call of `charges`: the cents are the fee and the least whole cents that cover what the messages of the list cost, one by one, and the order of the records doesn't matter.
 -- `Call` is what the contract of `charges` ensures of a call; proofs/Contracts.antt takes it from the contract itself. Assumes nothing.
 use mathlib.Core.Path.{_≡_}
-use mathlib.Core.Bool.{cond, _&&_}
+use mathlib.Core.Bool.{cond}
 use mathlib.Core.List.{List, [], _∷_, _++_}
-use Prim.Native.Nat.{ℕ, suc, _+_, _-_, _*_, _%_, _≤_, _<_}
+use Prim.Native.Nat.{ℕ, suc, _+_, _-_, _*_, _≤_, _<_}
 use lib.Dec.{leb}
 use lib.ListN.{length}
 use lib.IntN.{ℤ, natAbs}
-use Rattle.limits.specs.Limits.{recordSize}
 use Rattle.limits.specs.Answer.{answer, accepted}
-use Rattle.event_list.specs.Events.{eventsOf, messagesOf, listOk, Reordered}
+use Rattle.event_list.specs.Events.{eventsOf, messagesOf, Reordered}
 use Rattle.subscription.specs.declared.Plan.{Plan}
 use Rattle.subscription.specs.declared.Charge.{Charge}
-use Rattle.subscription.specs.Charges.{said, sumTo, days, inDay, allInMonth, priceOf, stepOf, centsOf, onDay, chargeCause}
-use Rattle.subscription.specs.Counting.{tallied}
+use Rattle.subscription.specs.Charges.{said, sumTo, days, inDay, priceOf, stepOf, centsOf, onDay, chargeCause}
 
 -- a call: the records, the plan, the month's start, and its answer
 pub record Call (l : List ℕ) (plan : Plan) (z : ℤ) (r : Charge) : Type 0 where
@@ -53,12 +51,3 @@ EverySum = (l : List ℕ) (plan : Plan) (z : ℤ) (r : Charge) (cents : ℕ) →
 -- 'in whichever order its records come'
 abbrev pub AnyOrder : Type 0
 AnyOrder = (l k : List ℕ) (plan : Plan) (z : ℤ) (r r′ : Charge) → Reordered l k → Call l plan z r → Call k plan z r′ → said r ≡ said r′
-
--- a list that is read in two parts, the first of whole records
-pub record InParts (start : ℕ) (c l k : List ℕ) : Type 0 where
-  pub ok : listOk (l ++ k) ≡ (listOk l && listOk k)
-  pub within : allInMonth start (messagesOf (eventsOf (l ++ k))) ≡ (allInMonth start (messagesOf (eventsOf l)) && allInMonth start (messagesOf (eventsOf k)))
-  pub counts : tallied start c (eventsOf (l ++ k)) ≡ tallied start (tallied start c (eventsOf l)) (eventsOf k)
-
-abbrev pub PartsAdd : Type 0
-PartsAdd = (start : ℕ) (c l k : List ℕ) → length l % recordSize ≡ 0 → InParts start c l k

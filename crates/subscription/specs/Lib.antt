@@ -2,3 +2,4 @@
 pub mod Charges
 pub mod Counting
 pub mod Claims
+pub mod Parts

@@ -1,7 +1,7 @@
 // The days of a month, and the messages on each.
 ghost use mathlib.Core.Path.{_≡_};
-ghost use Prim.Native.Nat.{ℕ, _≤_};
-ghost use lib.ListN.{length, getD};
+ghost use Prim.Native.Nat.{_≤_};
+ghost use lib.ListN.{length};
 ghost use Rattle.limits.specs.Limits.{recordSize};
 ghost use Rattle.subscription.specs.Charges.{days, latestStart};
 ghost use Rattle.subscription.specs.Counting.{mostRecords, dayAt, inside, stepped, Few};

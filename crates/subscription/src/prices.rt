@@ -1,9 +1,9 @@
 // A plan: whether it is one, and what it takes for a day and for a month.
 ghost use mathlib.Core.Path.{_≡_};
 ghost use mathlib.Core.Bool.{true, cond};
-ghost use Prim.Native.Nat.{ℕ, suc, _-_, _*_, _≤_, _<_, min};
+ghost use Prim.Native.Nat.{suc, _-_, _*_, _≤_, _<_, min};
 ghost use lib.Dec.{leb, ltb};
-ghost use lib.ListN.{length, getD};
+ghost use lib.ListN.{getD};
 ghost use Rattle.subscription.specs.Charges.{days, mostSteps, dearest, upperOf, priceOf, allTo, dayCost, planOk, costOf, centsOf};
 ghost use Rattle.subscription.specs.Counting.{mostRecords, Few, reached};
 use crate::DAYS;
