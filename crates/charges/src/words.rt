@@ -2,7 +2,7 @@
 ghost use mathlib.Core.Path.{_≡_};
 ghost use Prim.Native.Nat.{_+_, _-_, _*_, _≤_, min};
 ghost use lib.ListN.{length, drop};
-ghost use Rattle.charges.specs.Words.{isDigit, areDigits, isDecimal, mostNumber, numberFrom};
+ghost use Rattle.charges.specs.Words.{isDigit, isDecimal, mostNumber, numberFrom};
 
 const MOST_NUMBER: u64 = 1_000_000_000_000_000_000;
 

@@ -12,7 +12,7 @@ use lib.ListN.{length, take, drop, length-append, length-drop}
 use lib.Seq.{take-append-le, drop-append-le}
 use lib.IntN.{ℤ, natAbs}
 use Rattle.limits.specs.Limits.{recordSize, mostRecordBytes, long}
-use Rattle.limits.specs.Answer.{Answer, answer, number, refused, accepted}
+use Rattle.limits.specs.Answer.{answer, number, accepted}
 use Rattle.limits.proofs.Samples.{and-assoc, and-left, and-right}
 use Rattle.record.specs.Readers.{timeOf}
 use Rattle.event_list.specs.Events.{recordsOf, eventsOf, wholes, isMessage, messagesOf, recordOk, allOk, listOk}
@@ -21,9 +21,9 @@ use Rattle.event_list.proofs.SumLaws.{those-append, those-perm, count-perm}
 use Rattle.event_list.proofs.EventLaws.{ok-reordered}
 use Rattle.subscription.specs.declared.Plan.{Plan}
 use Rattle.subscription.specs.declared.Charge.{Charge}
-use Rattle.subscription.specs.Charges.{said, sumTo, days, dearest, latestStart, inDay, inMonth, allInMonth, priceOf, stepOf, dayCost, planOk, startOk, roundedUp, costOf, centsOf, onDay, monthCause, chargeCause}
-use Rattle.subscription.specs.Counting.{secondOf, stepped, tallied}
-use Rattle.subscription.specs.Claims.{Call, numberCost, messageCost, listCost, Sum, EverySum, AnyOrder}
+use Rattle.subscription.specs.Charges.{sumTo, days, dearest, latestStart, inDay, inMonth, allInMonth, priceOf, stepOf, dayCost, planOk, startOk, roundedUp, costOf, centsOf, onDay, monthCause, chargeCause}
+use Rattle.subscription.specs.Counting.{stepped, tallied}
+use Rattle.subscription.specs.Claims.{numberCost, messageCost, listCost, Sum, EverySum, AnyOrder}
 use Rattle.subscription.specs.Parts.{PartsAdd}
 use Rattle.subscription.proofs.DayLaws.{only-day, day-under, second-is}
 use Rattle.subscription.proofs.CountLaws.{count-append}

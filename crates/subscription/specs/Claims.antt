@@ -42,7 +42,7 @@ pub record Sum (plan : Plan) (start : ℕ) (ms : List (List ℕ)) (cents : ℕ) 
   pub least : 1000 * extra < listCost plan start [] ms + 1000
   -- each message is on one day
   pub each-once : sumTo (onDay start ms) days ≡ length ms
-  -- so that nothing overflows: a thousandth of a million cents for each message
+  -- so that nothing overflows: a fee of a million cents at most, and a million thousandths for each message
   pub bound : cents ≤ 1000000 + 1000 * length ms
 
 abbrev pub EverySum : Type 0
