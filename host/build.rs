@@ -155,7 +155,7 @@ fn main() {
     let root = host.parent().expect("host/ stands in the repository");
     println!("cargo::rerun-if-changed=build.rs");
     println!("cargo::rerun-if-env-changed=BARSHUNET_RUST");
-    println!("cargo::rustc-check-cfg=cfg(has_rust, has_record, has_bench, has_bench_fleet, has_bench_grip)");
+    println!("cargo::rustc-check-cfg=cfg(has_rust, has_record, has_bench, has_bench_fleet, has_bench_grip, has_bench_charges)");
     let source = env::var("BARSHUNET_RUST").map_or_else(|_| root.join("../shared/docs/src"), PathBuf::from);
     let modules = source.join("host/crates/sigfox/src");
     println!("cargo::rustc-env=RUST_LOOKED_FOR={}", modules.display());
@@ -171,7 +171,7 @@ fn main() {
     let libraries = root.join("target/staticlib");
     fs::create_dir_all(&libraries).expect("target/ can be written");
     println!("cargo::rerun-if-changed={}", libraries.display());
-    for name in ["record", "bench", "bench_fleet", "bench_grip"] {
+    for name in ["record", "bench", "bench_fleet", "bench_grip", "bench_charges"] {
         link(&libraries, name);
     }
 }

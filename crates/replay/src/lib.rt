@@ -6,6 +6,7 @@ ghost use Prim.Native.Nat.{_+_, _*_, _≤_, _<_};
 ghost use lib.ListN.{length};
 ghost use lib.Seq.{sets};
 ghost use lib.Ieee.{binary32, binary64};
+ghost use Rattle.endian.specs.Bytes.{signedOf};
 ghost use Rattle.replay.specs.Text.{plainBits, hexDigit, hexText};
 ghost use Rattle.replay.specs.Floats.{floatsFrom};
 ghost use Rattle.replay.specs.Front.{Front};
@@ -203,6 +204,16 @@ pub fn read_u16s(out: &mut [u16]) -> Kept
         };
     }
     read_n_u16s(endian::get_u32(&count, 0) as usize, out)
+}
+
+// A signed number from its two's complement.
+pub fn signed64(n: u64) -> i64
+    ensures { λ r. ⌜ r ≡ signedOf 64 n ⌝ }
+{
+    if n < 0x8000_0000_0000_0000 {
+        return n as i64;
+    }
+    !((u64::MAX - n) as i64)
 }
 
 // A rank, a time and an end in standard input; where they aren't wanted, no span.

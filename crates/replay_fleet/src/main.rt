@@ -1,24 +1,12 @@
 // Fleet reports into a lent list, a line for the answer, one a row, and one for what was kept (docs/REPLAY.md, `fleet`).
-ghost use mathlib.Core.Path.{_≡_};
 ghost use Prim.Native.Nat.{_+_, _≤_};
 ghost use lib.ListN.{length};
-ghost use Rattle.endian.specs.Bytes.{signedOf};
 use fleet_sheet::NUMBERS;
 use fleet_sheet::Sheet;
 use replay::Head;
 
 // The longest list that is lent.
 const MOST_PLACES: usize = 2400;
-
-// A signed number from its two's complement.
-fn signed(n: u64) -> i64
-    ensures { λ r. ⌜ r ≡ signedOf 64 n ⌝ }
-{
-    if n < 0x8000_0000_0000_0000 {
-        return n as i64;
-    }
-    !((u64::MAX - n) as i64)
-}
 
 fn print_row(rows: &[i64], at: usize)
     requires { ⌜ at + 9 ≤ length (now rows) ⌝ }
@@ -99,7 +87,7 @@ fn case(head: &[u8; 10]) -> bool {
         return replay::print_short();
     }
     let n = k.count;
-    let fill = signed(endian::get_u64(head, 2));
+    let fill = replay::signed64(endian::get_u64(head, 2));
     let mut rows = [fill; 2400];
     let places = least(endian::get_u16(head, 0) as usize, MOST_PLACES);
     report_into(&records[..n], &mut rows, places, fill)

@@ -1,5 +1,7 @@
 //! The benchmark: one table in markdown, both sides in one run, on the same bytes.
 
+#[cfg(has_bench_charges)]
+mod charges;
 mod clock;
 #[cfg(has_bench)]
 mod demod;
@@ -36,7 +38,7 @@ pub struct Row {
 
 enum Unit {
     /// Microseconds for a call, of so many that are timed together
-    #[cfg_attr(not(any(has_record, has_bench, has_bench_fleet, has_bench_grip)), expect(dead_code))]
+    #[cfg_attr(not(any(has_record, has_bench, has_bench_fleet, has_bench_grip, has_bench_charges)), expect(dead_code))]
     Call(usize),
     /// Milliseconds for a run
     Run,
@@ -87,6 +89,11 @@ fn libraries() -> Vec<Row> {
     let grip = grip::rows();
     #[cfg(not(has_bench_grip))]
     let grip = missing("bench_grip", "grip");
+
+    #[cfg(has_bench_charges)]
+    let charges = charges::rows();
+    #[cfg(not(has_bench_charges))]
+    let charges = missing("bench_charges", "charges");
     order
         .into_iter()
         .chain(frame)
@@ -94,10 +101,12 @@ fn libraries() -> Vec<Row> {
         .chain(demod)
         .chain(fleet)
         .chain(grip)
+
+        .chain(charges)
         .collect()
 }
 
-#[cfg(not(all(has_record, has_bench, has_bench_fleet, has_bench_grip)))]
+#[cfg(not(all(has_record, has_bench, has_bench_fleet, has_bench_grip, has_bench_charges)))]
 fn missing(library: &str, of: &str) -> Vec<Row> {
     eprintln!("no rows of {of}: rt staticlib {library} makes their library");
     vec![]
@@ -105,7 +114,7 @@ fn missing(library: &str, of: &str) -> Vec<Row> {
 
 impl Row {
     /// Both sides on one input, so many times.
-    #[cfg(any(has_record, has_bench, has_bench_fleet, has_bench_grip))]
+    #[cfg(any(has_record, has_bench, has_bench_fleet, has_bench_grip, has_bench_charges))]
     pub fn new<T: Clone + 'static, A: 'static, B: 'static>(
         of: &'static str,
         times: usize,

@@ -1,4 +1,4 @@
--- `replay_fleet::signed` meets its contract. Assumes nothing.
+-- `replay::signed64` meets its contract. Assumes nothing.
 use native.Mathlib.Omega.{arith}
 use mathlib.Core.Path.{_≡_, refl, ap, _∙_}
 use mathlib.Core.Bool.{Bool, true, false, cond}
@@ -9,8 +9,8 @@ use mir.Syntax.{w64}
 use mir.Val.{toZ, sel}
 use Rattle.endian.specs.Bytes.{signedOf}
 use borrow.Author.Needs.{needs}
-use Rattle.replay_fleet.proofs.signed.Statement.{statement}
-use Rattle.replay_fleet.proofs.signed.Tie as tie
+use Rattle.replay.proofs.signed64.Statement.{statement}
+use Rattle.replay.proofs.signed64.Tie as tie
 
 -- the machine's signed reading of 64 bits is the definition
 number-is : (n : ℕ) → toZ w64 n ≡ signedOf 64 n
@@ -39,5 +39,5 @@ returns-2 c =
     let e : 18446744073709551615 - (18446744073709551615 - n) ≡ n = omega arith in
     ap (toZ w64) e ∙ number-is n
 
-pub signed-spec : {M : Type 1} → statement M
-signed-spec = tie.close (tie.spec cast-result returns sub-result cast-result-2 returns-2)
+pub signed64-spec : {M : Type 1} → statement M
+signed64-spec = tie.close (tie.spec cast-result returns sub-result cast-result-2 returns-2)

@@ -1,0 +1,2 @@
+-- The definitions that the contracts of `charges` cite.
+pub mod Words
