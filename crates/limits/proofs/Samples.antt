@@ -1,14 +1,12 @@
 -- Laws of rates and samples that are accepted, on plain lists. Assumes nothing.
-use mathlib.Core.Path.{_≡_, refl, sym, ap, _∙_, subst}
+use mathlib.Core.Path.{_≡_, refl, subst}
 use mathlib.Core.Bool.{Bool, true, false, not, _&&_}
 use mathlib.Core.List.{List, [], _∷_}
-use Prim.Native.Nat.{ℕ, zero, suc, _+_, _-_, _≤_, _<_}
-use native.Mathlib.Numerals.{add-one}
+use Prim.Native.Nat.{ℕ, zero, suc, _≤_, _<_}
 use native.Mathlib.Omega.{arith}
 use lib.Dec.{T, leb}
 use borrow.Author.Tests.{leb-true}
 use lib.ListN.{length, getD, take, drop}
-use lib.Seq.{drop-cons, drop-length}
 use lib.Ieee.{Float, nan, inf, fin, isNan, neg, le, lt, eq}
 use Rattle.limits.specs.Limits.{lowestRate, highestRate, lowestDbm, highestDbm}
 use Rattle.limits.specs.Samples.{rateOk, isDbm, allDbm}
@@ -31,17 +29,6 @@ and-right false b e = absurd (no e)
   where
     no : false ≡ true → ⊥
     no e = subst (λ (t : Bool). T (not t)) e tt
-
--- a turn of the loop that looks at each sample
-pub all-turn : (ok : Bool) (l : List Float) (i : ℕ) (r w : Bool) → i < length l → r ≡ isDbm (getD l i nan)
-    → ok && allDbm (drop i l) ≡ w → (ok && r) && allDbm (drop (i + 1) l) ≡ w
-unfolding allDbm
-all-turn ok l i r w h e p =
-    rw (e, add-one i) (and-assoc ok (isDbm (getD l i nan)) (allDbm (drop (suc i) l)) ∙ rw (drop-cons l i nan h) at p)
-
-pub all-end : (ok : Bool) (l : List Float) (i : ℕ) (w : Bool) → i ≡ length l → ok && allDbm (drop i l) ≡ w → ok ≡ w
-unfolding allDbm
-all-end ok l i w e p = sym (and-true ok) ∙ rw (e, drop-length l) at p
 
 pub all-at : (l : List Float) (i : ℕ) → i < length l → allDbm l ≡ true → isDbm (getD l i nan) ≡ true
 unfolding allDbm
