@@ -20,6 +20,10 @@ recordsOf (suc n) l = take recordSize l ∷ recordsOf n (drop recordSize l)
 abbrev pub wholes : List ℕ → ℕ
 wholes l = length l / recordSize
 
+-- the most that a call reads: as many as 120,000,000 bytes hold
+abbrev pub mostRecords : ℕ
+mostRecords = 1000000
+
 -- the whole records
 abbrev pub eventsOf : List ℕ → List (List ℕ)
 eventsOf l = recordsOf (wholes l) l

@@ -87,10 +87,6 @@ rowsMost = 256
 abbrev pub hintsMost : ℕ
 hintsMost = 4096
 
--- as many records as 120,000,000 bytes
-abbrev pub mostRecords : ℕ
-mostRecords = 1000000
-
 -- more than the table holds
 abbrev pub overfull : ℕ
 overfull = 257

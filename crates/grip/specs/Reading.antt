@@ -1,20 +1,16 @@
 -- How a list is read for a grip, record by record and in parts; what the best so far stands for. `nearest_message` reads its list as one part. Assumes nothing.
-use Prim.Native.Nat.{ℕ, _+_, _/_, _%_}
+use Prim.Native.Nat.{ℕ, _+_, _%_}
 use mathlib.Core.Path.{_≡_}
 use mathlib.Core.Bool.{Bool, true, false, cond, _&&_, _||_, not}
 use mathlib.Core.List.{List, [], _∷_, _++_}
 use lib.Dec.{eqb}
 use lib.ListN.{length, getD}
 use lib.Ieee.{Float, lt, eq}
-use Rattle.limits.specs.Limits.{recordSize, mostRecordBytes}
+use Rattle.limits.specs.Limits.{recordSize}
 use Rattle.record.specs.Readers.{timeOf}
 use Rattle.event_list.specs.Events.{recordOk, eventsOf, listOk}
 use Rattle.grip.specs.declared.Best.{Best}
 use Rattle.grip.specs.Nearest.{distance, qualifies, IsNearest, NoneQualifies, Found, at, none}
-
--- the most records that are read: as many as the bytes of refusal 3 hold
-abbrev pub mostRecords : ℕ
-mostRecords = mostRecordBytes / recordSize
 
 -- record r is the best from here on
 abbrev pub takes : Float → Float → Best → List ℕ → Bool

@@ -8,11 +8,11 @@ ghost use Prim.Native.Nat.{_+_, _≤_};
 ghost use lib.ListN.{length};
 ghost use lib.Seq.{sets};
 ghost use Rattle.limits.specs.Answer.{answer, number, leaves};
-ghost use Rattle.event_list.specs.Events.{wholes};
+ghost use Rattle.event_list.specs.Events.{wholes, mostRecords};
 ghost use Rattle.grip.specs.Times.{isFinite, distanceOk};
 ghost use Rattle.grip.specs.Nearest.{said, gripCause, Call};
 ghost use Rattle.grip.specs.OnAir.{heard, airNumbers, airCause};
-ghost use Rattle.grip.specs.Reading.{mostRecords, readPart, foundOf};
+ghost use Rattle.grip.specs.Reading.{readPart, foundOf};
 
 // The pattern of the infinity.
 const INFINITY: u64 = 0x7ff0_0000_0000_0000;

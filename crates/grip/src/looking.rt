@@ -3,7 +3,8 @@ ghost use mathlib.Core.Path.{_≡_};
 ghost use Prim.Native.Nat.{_≤_, _<_};
 ghost use lib.ListN.{length};
 ghost use Rattle.limits.specs.Limits.{recordSize};
-ghost use Rattle.grip.specs.Reading.{mostRecords, looked};
+ghost use Rattle.event_list.specs.Events.{mostRecords};
+ghost use Rattle.grip.specs.Reading.{looked};
 use crate::Best;
 use record::read;
 

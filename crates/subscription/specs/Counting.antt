@@ -12,10 +12,6 @@ use Rattle.event_list.specs.Events.{isMessage}
 use Rattle.subscription.specs.declared.Plan.{Plan}
 use Rattle.subscription.specs.Charges.{dayS, days, between, inMonth, startOk, upperOf}
 
--- the most records of a list
-abbrev pub mostRecords : ℕ
-mostRecords = 1000000
-
 -- where the days begin; where the month's start is refused, anything serves
 abbrev pub secondOf : ℤ → ℕ
 secondOf z = cond (startOk z) (natAbs z) 0

@@ -3,8 +3,9 @@ ghost use mathlib.Core.Path.{_≡_};
 ghost use Prim.Native.Nat.{_≤_};
 ghost use lib.ListN.{length};
 ghost use Rattle.limits.specs.Limits.{recordSize};
+ghost use Rattle.event_list.specs.Events.{mostRecords};
 ghost use Rattle.subscription.specs.Charges.{days, latestStart};
-ghost use Rattle.subscription.specs.Counting.{mostRecords, dayAt, inside, stepped, Few};
+ghost use Rattle.subscription.specs.Counting.{dayAt, inside, stepped, Few};
 use crate::DAYS;
 use record::read;
 

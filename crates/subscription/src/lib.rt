@@ -8,9 +8,9 @@ ghost use Prim.Native.Nat.{_+_, _≤_};
 ghost use lib.ListN.{getD};
 ghost use lib.IntN.{natAbs};
 ghost use Rattle.limits.specs.Answer.{answer};
-ghost use Rattle.event_list.specs.Events.{wholes, eventsOf, messagesOf, listOk};
+ghost use Rattle.event_list.specs.Events.{wholes, mostRecords, eventsOf, messagesOf, listOk};
 ghost use Rattle.subscription.specs.Charges.{said, latestStart, allInMonth, planOk, startOk, centsOf, onDay, monthCause, chargeCause};
-ghost use Rattle.subscription.specs.Counting.{mostRecords, secondOf, tallied, Few};
+ghost use Rattle.subscription.specs.Counting.{secondOf, tallied, Few};
 
 // The most steps of a plan.
 pub const MOST_STEPS: usize = 8;

@@ -5,7 +5,7 @@ use mathlib.Core.Path.{_≡_, refl, ap, _∙_}
 use Prim.Native.Nat.{_-_, _*_, _≤_}
 use lib.ListN.{getD}
 use Rattle.subscription.specs.Charges.{sumTo, dayCost, costOf, days, dearest}
-use Rattle.subscription.specs.Counting.{mostRecords}
+use Rattle.event_list.specs.Events.{mostRecords}
 use Rattle.subscription.proofs.PriceLaws.{sum-more}
 use Rattle.subscription.proofs.prices.month_cost.Statement.{statement}
 use Rattle.subscription.proofs.prices.month_cost.Tie as tie
