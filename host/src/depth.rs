@@ -242,6 +242,8 @@ impl Clock {
 #[cfg(test)]
 mod tests {
     use super::*;
+    use crate::generate::format;
+    use crate::oracle::lines;
 
     const RATE: u32 = 1000;
 
@@ -382,6 +384,17 @@ mod tests {
         ] {
             assert_eq!(byte(depth), expected, "{depth}");
         }
+    }
+
+    /// "the C function, which has no dips, writes 0"
+    #[test]
+    fn of_the_c_function() {
+        let cases = format("bits").expect("it is a format").cases(1, 50);
+        let answers = cases.iter().map(|case| lines("bits", &case.bytes));
+        let answers: String = answers.map(|lines| lines.expect("it is a format")).collect();
+        let records: Vec<&str> = answers.lines().filter_map(|line| line.strip_prefix("0 ")).collect();
+        assert!(records.len() > 50);
+        assert!(records.iter().all(|record| &record[66..68] == "00"));
     }
 
     /// "a message has its first frame's"; one that was handed in has its own.
