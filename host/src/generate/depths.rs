@@ -77,7 +77,7 @@ pub fn directed() -> Vec<Case> {
     cases.extend(dips::directed().into_iter().map(of_dips));
     cases.extend(burstbits::directed().into_iter().map(|c| of_burstbits(c, PLACES)));
     crowded(&mut cases);
-    refused_by_two(&mut cases);
+    refused_by_several(&mut cases);
     cases
 }
 
@@ -352,13 +352,17 @@ fn refused(cases: &mut Vec<Case>) {
         cases.push(bits(format!("a sample of {v}"), 200, PLACES, &bad));
         cases.push(bits(format!("a sample of {v}, 5,999 places"), 200, 5999, &bad));
     }
+    let mut long = vec![LEVEL; 2401];
+    long[7] = f32::NAN;
+    cases.push(find("12 s and one more", 200, f64::NAN, &long));
+    cases.push(bits("12 s and one more", 200, PLACES, &long));
     for level in [f64::NAN, f64::INFINITY, f64::NEG_INFINITY, -25.0, -24.999] {
         cases.push(find(format!("level {level}"), 200, level, &seg));
     }
 }
 
-/// Every two causes of each call, and each with all the later ones.
-fn refused_by_two(cases: &mut Vec<Case>) {
+/// Every set of the causes of each call.
+fn refused_by_several(cases: &mut Vec<Case>) {
     let good = comb(200, &apart(&rising(8)));
     for causes in 0..16u8 {
         let has = |cause: u8| causes & cause != 0;
