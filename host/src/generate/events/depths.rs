@@ -6,35 +6,38 @@ use crate::generate::Case;
 use crate::generate::frame::Uplink;
 use crate::generate::signal::{Air, Shape};
 
+/// Rank, level and depth of a frame.
+type Frame = (usize, f64, f64);
+
+/// Frames two seconds apart, of one message; where each is of rank 0, of one message each.
+const LISTS: [(&str, &[Frame]); 7] = [
+    (
+        "the first deepest",
+        &[(0, -60.0, 30.0), (1, -60.0, 20.25), (2, -60.0, 10.0)],
+    ),
+    (
+        "the first least deep",
+        &[(0, -60.0, 6.75), (1, -60.0, 20.0), (2, -60.0, 30.5)],
+    ),
+    (
+        "rank 2 first, rank 0 loudest",
+        &[(2, -60.0, 12.5), (0, -40.0, 20.0), (1, -50.0, 9.0)],
+    ),
+    ("a rank twice", &[(1, -60.0, 15.0), (1, -50.0, 25.0)]),
+    (
+        "a fourth frame",
+        &[(0, -60.0, 8.0), (1, -60.0, 9.0), (2, -60.0, 10.0), (0, -60.0, 11.5)],
+    ),
+    ("half decibels", &[(0, -60.0, 20.25), (0, -60.0, 20.5)]),
+    (
+        "255 and more",
+        &[(0, 0.0, 127.25), (0, 0.0, 127.5), (0, 0.0, 128.0), (0, 0.0, 139.0)],
+    ),
+];
+
 /// Repetitions of other depths: a message has that of the frame that opened it, which need be neither rank 0 nor the loudest.
 pub fn directed(cases: &mut Vec<Case>) {
-    // rank, level, depth
-    let lists: [(&str, &[(usize, f64, f64)]); 7] = [
-        (
-            "the first deepest",
-            &[(0, -60.0, 30.0), (1, -60.0, 20.25), (2, -60.0, 10.0)],
-        ),
-        (
-            "the first least deep",
-            &[(0, -60.0, 6.75), (1, -60.0, 20.0), (2, -60.0, 30.5)],
-        ),
-        (
-            "rank 2 first, rank 0 loudest",
-            &[(2, -60.0, 12.5), (0, -40.0, 20.0), (1, -50.0, 9.0)],
-        ),
-        ("a rank twice", &[(1, -60.0, 15.0), (1, -50.0, 25.0)]),
-        (
-            "a fourth frame",
-            &[(0, -60.0, 8.0), (1, -60.0, 9.0), (2, -60.0, 10.0), (0, -60.0, 11.5)],
-        ),
-        ("half decibels", &[(0, -60.0, 20.25), (0, -60.0, 20.5)]),
-        (
-            "255 and more",
-            &[(0, 0.0, 127.25), (0, 0.0, 127.5), (0, 0.0, 128.0), (0, 0.0, 139.0)],
-        ),
-    ];
-    for (label, list) in lists {
-        // as many devices as there are frames, where each rank is 0
+    for (label, list) in LISTS {
         let of_one = list.iter().any(|&(rank, ..)| rank != 0);
         let mut air = Air::quiet(1000, 12_000, -140.0);
         for (i, &(rank, level, depth)) in list.iter().enumerate() {
