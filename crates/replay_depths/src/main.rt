@@ -6,7 +6,7 @@ use replay::Head;
 // The longest scratch that is lent.
 const MOST_SCRATCH: usize = 6001;
 
-fn print_dips(dips: &[f64; 6000], n: usize) -> bool {
+fn print_dips(dips: &[f64; limits::SCRATCH64], n: usize) -> bool {
     replay::print(b"D ");
     replay::print_number(n as u64);
     let end = dips::least(n, dips::DEPTHS);
@@ -27,7 +27,7 @@ fn dips_row() -> bool {
         return replay::print_short();
     }
     let mut seg = [0.0f32; 48001];
-    let mut dips = [0.0f64; 6000];
+    let mut dips = [0.0f64; limits::SCRATCH64];
     let kept = replay::read_f32s(&mut seg);
     if !kept.whole {
         return replay::print_short();
