@@ -8,7 +8,8 @@ const MODULES: [&str; 4] = ["frame", "demod", "frequency", "receiver"];
 
 /// Module, published text, text in its place. Nothing here changes what the Rust answers, but for 01's trigonometry,
 /// 01's rule on bit indexes and request 07's option in decode_capture; the start sample is carried along because 01's
-/// records hold it, the state of `deconvolve` because request 06 starts from any, the bit grid because it is drawn.
+/// records hold it, the state of `deconvolve` because request 06 starts from any, the bit grid because it is drawn, a frame's
+/// samples and the points of the clock because depths (src/depth.rs) are found from the former and must be those of the latter.
 const REPLACEMENTS: &[(&str, &str, &str)] = &[
     // 01's trigonometry
     ("demod", "a.sin()", "crate::trig::sin(a)"),
@@ -146,6 +147,42 @@ const REPLACEMENTS: &[(&str, &str, &str)] = &[
         "receiver",
         "                time: d.time,\n                first",
         "                start: d.start,\n                time: d.time,\n                first",
+    ),
+    // the points of the clock, a frame's samples, and those of the frame that opened a message
+    (
+        "demod",
+        "    pub dips: usize,\n",
+        "    pub dips: usize,\n    pub points: Vec<(i64, f64)>,\n",
+    ),
+    (
+        "demod",
+        "        dips: points.len(),\n",
+        "        dips: points.len(),\n        points,\n",
+    ),
+    (
+        "demod",
+        "    pub rssi: f32,\n",
+        "    pub rssi: f32,\n    pub segment: crate::depth::Segment,\n",
+    ),
+    (
+        "demod",
+        "    let bits = burst_bits(seg, rate)?;\n",
+        "    let bits = burst_bits(seg, rate)?;\n    let segment = crate::depth::Segment::new(seg, rate);\n",
+    ),
+    (
+        "demod",
+        "        rssi: b.peak_dbm,\n",
+        "        rssi: b.peak_dbm,\n        segment,\n",
+    ),
+    (
+        "receiver",
+        "    /// Best RSSI of the received frames (dBm)\n",
+        "    pub depth: crate::depth::First,\n    /// Best RSSI of the received frames (dBm)\n",
+    ),
+    (
+        "receiver",
+        "                rssi: d.rssi,\n",
+        "                depth: crate::depth::First::Frame(d.segment.clone()),\n                rssi: d.rssi,\n",
     ),
 ];
 

@@ -24,6 +24,7 @@ extern "C" {
 #define BARSHUNET_AT_COUNTER 12      /* u16 */
 #define BARSHUNET_AT_PAYLOAD 16      /* 12 bytes, 0 past its length */
 #define BARSHUNET_AT_AUTH 28         /* 5 bytes, 0 past its length */
+#define BARSHUNET_AT_DEPTH 33        /* u8: half decibels of the dips, rounded down, 255 for that and more */
 #define BARSHUNET_AT_MARK 34         /* u8: of a message BARSHUNET_INSIDE or BARSHUNET_OUTSIDE, 0 where no start second was given */
 #define BARSHUNET_AT_CLOCK_PPM 36    /* i32: over 0 where the sender is slow */
 #define BARSHUNET_AT_RSSI 40         /* binary32, dBm */
@@ -57,7 +58,7 @@ extern "C" {
 #define BARSHUNET_OUTSIDE 2
 
 /* Decodes the bits of one uplink frame, a byte 0 or 1 each, that start somewhere in its preamble.
-   0: the first 120 bytes of record are the frame's event record, with clock, RSSI, times and start 0.
+   0: the first 120 bytes of record are the frame's event record, with clock, RSSI, times, start and depth 0.
    255: there is no frame in the bits. 2: record is shorter than 120. 3: over 1,024 bits. 9: a bit byte over 1.
    On any answer but 0 nothing is written; bytes past the first 120 never are. The two may not overlap. */
 uint8_t sigfox_decode_bits(const uint8_t *bits, size_t bits_len, uint8_t *record, size_t record_len);

@@ -10,6 +10,8 @@ mod compare;
 #[cfg(has_record)]
 pub mod decode;
 #[cfg(has_rust)]
+pub mod depth;
+#[cfg(has_rust)]
 pub mod draw;
 #[cfg(has_rust)]
 pub mod generate;

@@ -9,6 +9,8 @@ pub const MOST_SAMPLES: usize = BUFFER_S * 4000;
 pub const MOST_READINGS: usize = 4096;
 pub const MOST_BITS: usize = 1024;
 pub const LONGEST_STREAM: usize = 1 << 40;
+/// Request 05: places of f64 scratch, for the dips and their depths.
+pub const SCRATCH64: usize = 6000;
 /// Places of the programs' lists.
 pub const READINGS_HELD: usize = 8000;
 pub const TUNINGS_HELD: usize = 64;

@@ -44,7 +44,7 @@ fn table() -> BTreeMap<String, usize> {
 fn the_table_has_the_headers_offsets() {
     let mut offsets = header();
     offsets.retain(|name, _| name.starts_with("AT_"));
-    assert_eq!(offsets.len(), 19);
+    assert_eq!(offsets.len(), 20);
     assert_eq!(table(), offsets);
 }
 
@@ -95,6 +95,7 @@ fn a_message_as_the_rust_gives_it() {
     assert_eq!(u16::from_le_bytes(r.bytes("AT_COUNTER", 0)), m.counter);
     assert_eq!(r.bytes::<12>("AT_PAYLOAD", 0), m.payload[..]);
     assert_eq!(r.bytes::<5>("AT_AUTH", 0), m.auth[..]);
+    assert_eq!(r.byte("AT_DEPTH"), bytes[33].into());
     assert_eq!(r.byte("AT_MARK"), r.number("OUTSIDE"));
     assert_eq!(i32::from_le_bytes(r.bytes("AT_CLOCK_PPM", 0)), m.clock_error_ppm);
     assert_eq!(f32::from_le_bytes(r.bytes("AT_RSSI", 0)), m.rssi);

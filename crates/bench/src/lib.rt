@@ -132,7 +132,7 @@ pub extern "C" fn bench_burst_bits(
     match clock::burst_bits(seg, rate, bits, scratch32, scratch64) {
         BurstBits::Refused(_) => 0,
         BurstBits::Nothing => 0,
-        BurstBits::Bits(count, _, _, _, _) => count,
+        BurstBits::Bits(count, _, _, _, _, _) => count,
     }
 }
 

@@ -16,7 +16,7 @@ fn flush(
     samples: &mut [f32; 48000],
     events: &mut [u8; 30720],
     scratch32: &mut [f32; 48000],
-    scratch64: &mut [f64; 3000],
+    scratch64: &mut [f64; limits::SCRATCH64],
 ) -> State {
     let given = s.receiver;
     let shifts = Shifts::none();
@@ -37,7 +37,7 @@ fn push_chunk(
     samples: &mut [f32; 48000],
     events: &mut [u8; 30720],
     scratch32: &mut [f32; 48000],
-    scratch64: &mut [f64; 3000],
+    scratch64: &mut [f64; limits::SCRATCH64],
 ) -> State
     requires { ⌜ 0 < step ⌝ }
 {
@@ -76,7 +76,7 @@ fn main() {
     let mut samples = [0.0f32; 48000];
     let mut events = [0u8; 30720];
     let mut scratch32 = [0.0f32; 48000];
-    let mut scratch64 = [0.0f64; 3000];
+    let mut scratch64 = [0.0f64; limits::SCRATCH64];
     let mut head = [0u8; 8];
     let whole = replay::read_part(&mut head);
     let receiver = SigfoxReceiver::new(endian::get_u32(&head, 0));

@@ -9,3 +9,4 @@ pub mod BackLaws
 pub mod RunningLaws
 pub mod BitLaws
 pub mod BitAnswers
+pub mod Example

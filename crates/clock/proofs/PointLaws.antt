@@ -3,7 +3,7 @@ use mathlib.Core.Path.{_≡_, refl, sym, ap, _∙_, subst}
 use mathlib.Core.Bool.{cond}
 use mathlib.Core.List.{List, [], _∷_, map}
 use mathlib.Core.Logic.{⊎-elim}
-use Prim.Native.Nat.{ℕ, suc, _+_, _*_, _^_, _≤_, _<_}
+use Prim.Native.Nat.{ℕ, zero, suc, _+_, _*_, _^_, _≤_, _<_}
 use native.Mathlib.Omega.{arith}
 use lib.Dec.{le→leb}
 use lib.ListN.{length, getD}
@@ -15,8 +15,10 @@ use Rattle.clock.specs.declared.Step.{Step}
 use Rattle.clock.specs.declared.Step.the-variants.{Lost, Skipped, Joined}
 use Rattle.clock.specs.declared.Fit.the-variants.{Astray, Fitted}
 use Rattle.clock.specs.Numbers.{farthestBit}
-use Rattle.clock.specs.Running.{step, astray, after, added, fitFrom, pointsFrom}
+use Rattle.clock.specs.Running.{step, astray, after, added, kept, fitFrom, pointsFrom, depthsFrom}
+use Rattle.order.specs.Order.{Numbers}
 use Rattle.dips.proofs.DipLaws.{lt-or-ge}
+use Rattle.dips.proofs.Depths.{Number, AllNumbers}
 use Rattle.clock.proofs.FitLaws.{Point, joined-point}
 use Rattle.clock.specs.Walk.{Rising, flat, rise}
 
@@ -76,6 +78,34 @@ facts c e (d ∷ ds) q g = go (step c d) (λ x s. joined-point c x d s) (λ x s.
     go Lost p i q = absurd (let z : _≡_ {A = ℕ} 0 1 = cc in omega arith)
     go Skipped p i q = i c q g
     go (Joined x) p i q = let t = p x refl in one-more c x e (pointsFrom x ds) t (i x q (good-point c x t g))
+
+-- no more points than dips
+pub points-few : (c : Clock) (ds : List Float) → length (pointsFrom c ds) ≤ length ds
+unfolding pointsFrom added after
+points-few c [] = omega arith
+points-few c (d ∷ ds) = go (step c d) (λ x. points-few x ds)
+  where
+    go : (s : Step) → ((x : Clock) → length (pointsFrom x ds) ≤ length ds) → length (added s (pointsFrom (after c s) ds)) ≤ length (d ∷ ds)
+    go Lost i = let h = i c in omega arith
+    go Skipped i = let h = i c in omega arith
+    go (Joined x) i = let h = i x in omega arith
+
+-- the depths that are kept are numbers where all are
+pub kept-numbers : (c : Clock) (ds hs : List Float) → AllNumbers hs → AllNumbers (depthsFrom c ds hs)
+unfolding depthsFrom kept after
+kept-numbers c [] hs n = tt
+kept-numbers c (d ∷ ds) [] n = tt
+kept-numbers c (d ∷ ds) (h ∷ hs) n = go (step c d) (λ x. kept-numbers x ds hs (n .1))
+  where
+    go : (s : Step) → ((x : Clock) → AllNumbers (depthsFrom x ds hs)) → AllNumbers (kept s h (depthsFrom (after c s) ds hs))
+    go Lost i = i c
+    go Skipped i = i c
+    go (Joined x) i = (n .0, i x)
+
+pub each-number : (l : List Float) → AllNumbers l → Numbers l
+each-number [] n i h = absurd (omega arith)
+each-number (x ∷ l) n zero h = n .0
+each-number (x ∷ l) n (suc i) h = each-number l (n .1) i (omega arith)
 
 -- a small place as a float, and back
 back : (n : ℕ) → n ≤ 2 * farthestBit → toUnsigned 64 (num n) ≡ n

@@ -12,12 +12,14 @@ use lib.Ieee.{Float, binary64, add, sub, mul, div, lt}
 use lib.Ieee.Fits.{div-fits}
 use borrow.Author.Tests.{ltb-false, ne-eqb}
 use Rattle.floats.specs.Number.{num}
+use Rattle.order.specs.Order.{kth}
+use Rattle.dips.specs.Dips.{Dip, positionsOf, depthsOf}
 use Rattle.clock.specs.declared.Clock.{Clock}
 use Rattle.clock.specs.declared.Fit.{Fit}
 use Rattle.clock.specs.declared.Fit.the-variants.{Astray, Fitted}
 use Rattle.clock.specs.Numbers.{refits, enoughPoints}
 use Rattle.clock.specs.Clock.{lost, asIndex, asFloat, atMost, Point, BitClock, firstIndex, lastIndex, sumFrom, sumK, sumD, sumKK, sumKD, det, slope, offset, refit, indexAt, skips, pushed, joined, track, startClock}
-use Rattle.clock.specs.Bits.{endIndex, larger, upward, indexes, onGrid, bitAt, allBits, ended, clocked}
+use Rattle.clock.specs.Bits.{endIndex, larger, upward, indexes, onGrid, bitAt, allBits, medianDepth, ended, clocked}
 use Rattle.clock.specs.Walk.{hasPlace, bitsFrom, placedBits}
 use Rattle.clock.specs.Running as run
 use Rattle.clock.proofs.ClockLaws.{step-lost, step-skipped, step-joined}
@@ -35,6 +37,9 @@ more f s (y ∷ xs) x = more f (add binary64 s (f y)) xs x
 
 abbrev placesOf : List Point → List ℕ
 placesOf ps = map (λ p. moved (p .index)) ps
+
+abbrev deepOf : List Point → List Float
+deepOf ps = map (λ p. p .dip .depth) ps
 
 abbrev Lows : List Point → Type 0
 Lows [] = T true
@@ -56,6 +61,10 @@ lows-more (q ∷ ps) p l a = (l .0, lows-more ps p (l .1) a)
 places-more : (ps : List Point) (p : Point) → placesOf (ps ++ (p ∷ [])) ≡ placesOf ps ++ (moved (p .index) ∷ [])
 places-more [] p = refl
 places-more (q ∷ ps) p = ap (λ (l : List ℕ). moved (q .index) ∷ l) (places-more ps p)
+
+deep-more : (ps : List Point) (p : Point) → deepOf (ps ++ (p ∷ [])) ≡ deepOf ps ++ (p .dip .depth ∷ [])
+deep-more [] p = refl
+deep-more (q ∷ ps) p = ap (λ (l : List Float). q .dip .depth ∷ l) (deep-more ps p)
 
 first-more : (ps : List Point) (p : Point) → firstPlace (ps ++ (p ∷ [])) ≡ cond (eqb (length ps) 0) (moved (p .index)) (firstPlace ps)
 unfolding firstPlace
@@ -98,15 +107,15 @@ refit-is c = go (leb refits (length (c .points)) && lt (num 0) (det (c .points))
     go true = refl
     go false = refl
 
-summed-is : (c : BitClock) (d x : Float) (k : ℤ) → asFloat k ≡ x → moved k ≡ run.place x → run.summed (summary c) d x ≡ summary (pushed c d k)
+summed-is : (c : BitClock) (d : Dip) (x : Float) (k : ℤ) → asFloat k ≡ x → moved k ≡ run.place x → run.summed (summary c) (d .at) x ≡ summary (pushed c d k)
 unfolding run.summed summary pushed sumK sumD sumKK sumKD
 summed-is c d x k e m =
     let p : Point = record { index = k; dip = d } in
     rw (
       more (λ p. asFloat (p .index)) (num 0) (c .points) p,
-      more (λ p. p .dip) (num 0) (c .points) p,
+      more (λ p. p .dip .at) (num 0) (c .points) p,
       more (λ p. mul binary64 (asFloat (p .index)) (asFloat (p .index))) (num 0) (c .points) p,
-      more (λ p. mul binary64 (asFloat (p .index)) (p .dip)) (num 0) (c .points) p,
+      more (λ p. mul binary64 (asFloat (p .index)) (p .dip .at)) (num 0) (c .points) p,
       length-append (c .points) (p ∷ []),
       first-more (c .points) p,
       last-more (c .points) p,
@@ -139,42 +148,45 @@ fitOf : Option BitClock → Fit
 fitOf none = Astray
 fitOf (some c) = Fitted (summary c)
 
-record Same (c : BitClock) (ds : List Float) : Type 0 where
-  fit : run.fitFrom (summary c) ds ≡ fitOf (track c ds)
-  points : (e : BitClock) → track c ds ≡ some e → (placesOf (c .points) ++ run.pointsFrom (summary c) ds ≡ placesOf (e .points)) × Lows (e .points)
+record Same (c : BitClock) (ds : List Dip) : Type 0 where
+  fit : run.fitFrom (summary c) (positionsOf ds) ≡ fitOf (track c ds)
+  points : (e : BitClock) → track c ds ≡ some e → (placesOf (c .points) ++ run.pointsFrom (summary c) (positionsOf ds) ≡ placesOf (e .points)) × Lows (e .points)
+  depths : (e : BitClock) → track c ds ≡ some e → deepOf (c .points) ++ run.depthsFrom (summary c) (positionsOf ds) (depthsOf ds) ≡ deepOf (e .points)
 
 no-dips : (c : BitClock) → Lows (c .points) → Same c []
-unfolding run.fitFrom run.pointsFrom track fitOf
+unfolding run.fitFrom run.pointsFrom run.depthsFrom track fitOf
 no-dips c l =
     record {
       fit = refl;
       points = λ e q. let s : c ≡ e = cc in subst (λ (x : BitClock). (placesOf (c .points) ++ [] ≡ placesOf (x .points)) × Lows (x .points)) s (append-nil (placesOf (c .points)), l);
+      depths = λ e q. let s : c ≡ e = cc in subst (λ (x : BitClock). deepOf (c .points) ++ [] ≡ deepOf (x .points)) s (append-nil (deepOf (c .points)));
     }
 
-module _ (c : BitClock) (d : Float) (ds : List Float) (l : Lows (c .points)) where
-  dip-lost : lost (indexAt c d) ≡ true → Same c (d ∷ ds)
+module _ (c : BitClock) (d : Dip) (ds : List Dip) (l : Lows (c .points)) where
+  dip-lost : lost (indexAt c (d .at)) ≡ true → Same c (d ∷ ds)
   unfolding run.fitFrom run.pointsFrom run.astray run.indexAt track fitOf indexAt summary
   dip-lost h =
       record {
-        fit = rw (← step-lost (summary c) d h, h);
+        fit = rw (← step-lost (summary c) (d .at) h, h);
         points = λ e q. absurd (let t : none ≡ some e = sym (rw h) ∙ q in let z : _≡_ {A = ℕ} 0 1 = cc in omega arith);
+        depths = λ e q. absurd (let t : none ≡ some e = sym (rw h) ∙ q in let z : _≡_ {A = ℕ} 0 1 = cc in omega arith);
       }
 
-  module _ (h : lost (indexAt c d) ≡ false) where
+  module _ (h : lost (indexAt c (d .at)) ≡ false) where
     k : ℤ
-    k = asIndex (indexAt c d)
+    k = asIndex (indexAt c (d .at))
 
-    back : asFloat k ≡ indexAt c d
+    back : asFloat k ≡ indexAt c (d .at)
     unfolding k indexAt
-    back = index-back (div binary64 (sub binary64 d (c .phase)) (c .period)) (div-fits binary64 (sub binary64 d (c .phase)) (c .period)) h
+    back = index-back (div binary64 (sub binary64 (d .at) (c .phase)) (c .period)) (div-fits binary64 (sub binary64 (d .at) (c .phase)) (c .period)) h
 
     low : Low k
     unfolding k
-    low = index-place (indexAt c d) h .0
+    low = index-place (indexAt c (d .at)) h .0
 
-    at : moved k ≡ run.place (indexAt c d)
+    at : moved k ≡ run.place (indexAt c (d .at))
     unfolding k
-    at = index-place (indexAt c d) h .1
+    at = index-place (indexAt c (d .at)) h .1
 
     point : Point
     point = record { index = k; dip = d }
@@ -195,37 +207,46 @@ module _ (c : BitClock) (d : Float) (ds : List Float) (l : Lows (c .points)) whe
     unfolding point
     places-next = ap placesOf points-more ∙ places-more (c .points) point
 
-    dip-skipped : skips c d k ≡ true → Same c ds → Same c (d ∷ ds)
-    unfolding run.fitFrom run.pointsFrom run.astray run.after run.added run.indexAt track indexAt summary joined k
+    deep-next : deepOf ((refit (pushed c d k)) .points) ≡ deepOf (c .points) ++ (d .depth ∷ [])
+    unfolding point
+    deep-next = ap deepOf points-more ∙ deep-more (c .points) point
+
+    dip-skipped : skips c (d .at) k ≡ true → Same c ds → Same c (d ∷ ds)
+    unfolding run.fitFrom run.pointsFrom run.depthsFrom run.astray run.after run.added run.kept run.indexAt track indexAt summary joined k
     dip-skipped g s =
-        let t = step-skipped (summary c) d h (skips-is c d (indexAt c d) k l low back at ∙ g) in
+        let t = step-skipped (summary c) (d .at) h (skips-is c (d .at) (indexAt c (d .at)) k l low back at ∙ g) in
         record {
           fit = rw (← t, h, g) (s .fit);
           points = λ e q. rw (← t) (s .points e (rw (h, g) at q));
+          depths = λ e q. rw (← t) (s .depths e (rw (h, g) at q));
         }
 
-    dip-joined : skips c d k ≡ false → Same (refit (pushed c d k)) ds → Same c (d ∷ ds)
-    unfolding run.fitFrom run.pointsFrom run.astray run.after run.added run.indexAt track indexAt summary joined k
+    dip-joined : skips c (d .at) k ≡ false → Same (refit (pushed c d k)) ds → Same c (d ∷ ds)
+    unfolding run.fitFrom run.pointsFrom run.depthsFrom run.astray run.after run.added run.kept run.indexAt track indexAt summary joined k
     dip-joined g s =
-        let t = step-joined (summary c) d (summary (refit (pushed c d k))) h (skips-is c d (indexAt c d) k l low back at ∙ g) (sym (ap run.refit (summed-is c d (indexAt c d) k back at) ∙ refit-is (pushed c d k))) in
+        let next = refit (pushed c d k) in
+        let t = step-joined (summary c) (d .at) (summary next) h (skips-is c (d .at) (indexAt c (d .at)) k l low back at ∙ g) (sym (ap run.refit (summed-is c d (indexAt c (d .at)) k back at) ∙ refit-is (pushed c d k))) in
         record {
           fit = rw (← t, h, g) (s .fit);
           points = λ e q.
               let r = s .points e (rw (h, g) at q) in
-              let rest = run.pointsFrom (summary (refit (pushed c d k))) ds in
+              let rest = run.pointsFrom (summary next) (positionsOf ds) in
               (rw (← t) (ap (λ (n : ℕ). placesOf (c .points) ++ (n ∷ rest)) last-next ∙ sym (append-assoc (placesOf (c .points)) (moved k ∷ []) rest) ∙ ap (λ (l : List ℕ). l ++ rest) (sym places-next) ∙ r .0), r .1);
+          depths = λ e q.
+              let rest = run.depthsFrom (summary next) (positionsOf ds) (depthsOf ds) in
+              rw (← t) (sym (append-assoc (deepOf (c .points)) (d .depth ∷ []) rest) ∙ ap (λ (l : List Float). l ++ rest) (sym deep-next) ∙ s .depths e (rw (h, g) at q));
         }
 
   one-more : ((e : BitClock) → Lows (e .points) → Same e ds) → Same c (d ∷ ds)
   unfolding k
-  one-more i = go (lost (indexAt c d)) (skips c d (asIndex (indexAt c d))) refl refl
+  one-more i = go (lost (indexAt c (d .at))) (skips c (d .at) (asIndex (indexAt c (d .at)))) refl refl
     where
-      go : (t u : Bool) → lost (indexAt c d) ≡ t → skips c d (asIndex (indexAt c d)) ≡ u → Same c (d ∷ ds)
+      go : (t u : Bool) → lost (indexAt c (d .at)) ≡ t → skips c (d .at) (asIndex (indexAt c (d .at))) ≡ u → Same c (d ∷ ds)
       go true u h g = dip-lost h
       go false true h g = dip-skipped h g (i c l)
-      go false false h g = dip-joined h g (i (refit (pushed c d (asIndex (indexAt c d)))) (lows-next h))
+      go false false h g = dip-joined h g (i (refit (pushed c d (asIndex (indexAt c (d .at))))) (lows-next h))
 
-all-dips : (ds : List Float) (c : BitClock) → Lows (c .points) → Same c ds
+all-dips : (ds : List Dip) (c : BitClock) → Lows (c .points) → Same c ds
 all-dips [] c l = no-dips c l
 all-dips (d ∷ ds) c l = one-more c d ds l (all-dips ds)
 
@@ -254,32 +275,36 @@ bits-are (p ∷ ps) x h l e =
     ap (λ (r : List ℕ). 1 ∷ r) (ap (λ (c : ℕ). map (bitAt (p ∷ ps)) (upward (p .index) c)) (n ∙ ap (λ (c : ℕ). c + 1 - moved (p .index)) m) ∙ bits-from (p ∷ ps) (max (lastPlace (p ∷ ps)) (run.place x) + 1 - moved (p .index)) (p .index) (l .0) l)
 
 ended-is : (seg : List Float) (rate : ℕ) (level : Float) (c : BitClock) → 0 < length (c .points) → Lows (c .points)
-    → ended seg rate level c ≡ run.ended seg rate level (placesOf (c .points)) (summary c)
-unfolding ended run.ended summary
+    → ended seg rate level c ≡ run.ended seg rate level (placesOf (c .points)) (deepOf (c .points)) (summary c)
+unfolding ended run.ended summary medianDepth
 ended-is seg rate level c h l = go (lost (endIndex level seg (c .period) (c .phase))) refl
   where
-    go : (t : Bool) → lost (endIndex level seg (c .period) (c .phase)) ≡ t → ended seg rate level c ≡ run.ended seg rate level (placesOf (c .points)) (summary c)
+    go : (t : Bool) → lost (endIndex level seg (c .period) (c .phase)) ≡ t → ended seg rate level c ≡ run.ended seg rate level (placesOf (c .points)) (deepOf (c .points)) (summary c)
     go true e = rw e
     go false e = rw (e, bits-are (c .points) (endIndex level seg (c .period) (c .phase)) h l e)
 
 clocked-is : (seg : List Float) (rate : ℕ) (level : Float) (c : BitClock) → Lows (c .points)
-    → clocked seg rate level (some c) ≡ run.clocked seg rate level (placesOf (c .points)) (Fitted (summary c))
+    → clocked seg rate level (some c) ≡ run.clocked seg rate level (placesOf (c .points)) (deepOf (c .points)) (Fitted (summary c))
 unfolding clocked run.clocked summary
 clocked-is seg rate level c l = go (ltb (length (c .points)) enoughPoints) (ltb-false (length (c .points)) enoughPoints)
   where
     go : (t : Bool) → (t ≡ false → enoughPoints ≤ length (c .points))
-        → cond t none (ended seg rate level c) ≡ cond t none (run.ended seg rate level (placesOf (c .points)) (summary c))
+        → cond t none (ended seg rate level c) ≡ cond t none (run.ended seg rate level (placesOf (c .points)) (deepOf (c .points)) (summary c))
     go true f = refl
     go false f = ended-is seg rate level c (let h = f refl in omega arith) l
 
-pub running-is : (seg : List Float) (rate : ℕ) (level nominal phase : Float) (ds : List Float)
-    → clocked seg rate level (track (startClock nominal phase) ds)
-    ≡ run.clocked seg rate level (run.pointsFrom (run.startClock nominal phase) ds) (run.fitFrom (run.startClock nominal phase) ds)
+pub running-is : (seg : List Float) (rate : ℕ) (level nominal phase : Float) (ds : List Dip) → let start = run.startClock nominal phase in
+    clocked seg rate level (track (startClock nominal phase) ds)
+    ≡ run.clocked seg rate level (run.pointsFrom start (positionsOf ds)) (run.depthsFrom start (positionsOf ds) (depthsOf ds)) (run.fitFrom start (positionsOf ds))
 unfolding clocked run.clocked fitOf summary startClock run.startClock sumK sumD sumKK sumKD firstPlace lastPlace
-running-is seg rate level nominal phase ds = go (track (startClock nominal phase) ds) (all-dips ds (startClock nominal phase) tt .fit) (all-dips ds (startClock nominal phase) tt .points)
+running-is seg rate level nominal phase ds =
+    let all = all-dips ds (startClock nominal phase) tt in
+    go (track (startClock nominal phase) ds) (all .fit) (all .points) (all .depths)
   where
-    go : (o : Option BitClock) → run.fitFrom (run.startClock nominal phase) ds ≡ fitOf o
-        → ((e : BitClock) → o ≡ some e → (run.pointsFrom (run.startClock nominal phase) ds ≡ placesOf (e .points)) × Lows (e .points))
-        → clocked seg rate level o ≡ run.clocked seg rate level (run.pointsFrom (run.startClock nominal phase) ds) (run.fitFrom (run.startClock nominal phase) ds)
-    go none f p = rw f
-    go (some e) f p = rw (f, p e refl .0) (clocked-is seg rate level e (p e refl .1))
+    go : (o : Option BitClock) → run.fitFrom (run.startClock nominal phase) (positionsOf ds) ≡ fitOf o
+        → ((e : BitClock) → o ≡ some e → (run.pointsFrom (run.startClock nominal phase) (positionsOf ds) ≡ placesOf (e .points)) × Lows (e .points))
+        → ((e : BitClock) → o ≡ some e → run.depthsFrom (run.startClock nominal phase) (positionsOf ds) (depthsOf ds) ≡ deepOf (e .points))
+        → clocked seg rate level o
+        ≡ run.clocked seg rate level (run.pointsFrom (run.startClock nominal phase) (positionsOf ds)) (run.depthsFrom (run.startClock nominal phase) (positionsOf ds) (depthsOf ds)) (run.fitFrom (run.startClock nominal phase) (positionsOf ds))
+    go none f p q = rw f
+    go (some e) f p q = rw (f, p e refl .0, q e refl) (clocked-is seg rate level e (p e refl .1))

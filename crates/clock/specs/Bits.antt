@@ -1,5 +1,5 @@
 -- `burst_bits` of demod.rs: the bits between the points of the clock, and what it hands over. Assumes nothing.
-use Prim.Native.Nat.{ℕ, zero, suc, _-_, _*_, min}
+use Prim.Native.Nat.{ℕ, zero, suc, _-_, _*_, _/_, min}
 use lib.IntN.{ℤ, pos, negsuc, sucℤ, _-ℤ_}
 use mathlib.Core.Bool.{Bool, false, cond, not, _||_}
 use mathlib.Core.List.{List, [], _∷_, _++_, map}
@@ -11,10 +11,11 @@ use Rattle.floats.specs.Floor.{floor, roundHalfUp}
 use Rattle.floats.specs.Number.{num}
 use Rattle.limits.specs.Limits.{badRate, short, long, badSample, bufferS, mostBits, scratch64}
 use Rattle.limits.specs.Samples.{rateOk, allDbm}
+use Rattle.order.specs.Order.{kth}
 use Rattle.rates.specs.Numbers.{levelQuantile}
 use Rattle.rates.specs.Rates.{nominalOf}
 use Rattle.bursts.specs.Levels.{quantile}
-use Rattle.dips.specs.Dips.{dipsOf}
+use Rattle.dips.specs.Dips.{Dip, foundIn, positionsOf}
 use Rattle.clock.specs.Numbers.{enoughDips, enoughPoints, endDb, million}
 use Rattle.clock.specs.Clock.{anchor, lost, asIndex, atMost, Point, BitClock, firstIndex, lastIndex, startClock, track}
 use Rattle.limits.specs.Answer.{Answer, refused, accepted, answer}
@@ -79,20 +80,25 @@ allBits ps end = 1 ∷ map (bitAt ps) (indexes (firstIndex ps) (larger (lastInde
 unfoldable pub ppmOf : Float → Float → ℤ
 ppmOf period nominal = toSigned 31 (roundHalfUp (mul binary64 (sub binary64 (div binary64 period nominal) (num 1)) million))
 
--- the Rust's `BurstBits`, a bit as 0 or 1, and its `Option`
+-- 02, request 05: "a burst's bits carry the median of its accepted dips, index length/2", of their sorted depths
+unfoldable pub medianDepth : List Point → Float
+medianDepth ps = kth binary64 (map (λ p. p .dip .depth) ps) (length ps / 2)
+
+-- the Rust's `BurstBits`, a bit as 0 or 1, with the depth, and its `Option`
 pub record Recovered : Type 0 where
   pub bits : List ℕ
   pub period : Float
   pub ppm : ℤ
   pub level : Float
   pub dips : ℕ
+  pub depth : Float
 
 abbrev pub Outcome : Type 0
 Outcome = Option Recovered
 
 -- from the clock: none where the end's index is lost
 unfoldable pub ended : List Float → ℕ → Float → BitClock → Outcome
-unfolding lost endIndex allBits ppmOf
+unfolding lost endIndex allBits ppmOf medianDepth
 ended seg rate level c =
     cond (lost (endIndex level seg (c .period) (c .phase))) none
     (some (record {
@@ -101,6 +107,7 @@ ended seg rate level c =
       ppm = ppmOf (c .period) (nominalOf rate);
       level = level;
       dips = length (c .points);
+      depth = medianDepth (c .points);
     }))
 
 -- none under 8 points
@@ -110,17 +117,17 @@ clocked seg rate level none = none
 clocked seg rate level (some c) = cond (ltb (length (c .points)) enoughPoints) none (ended seg rate level c)
 
 -- from the dips: none under 8
-unfoldable pub fromDips : List Float → ℕ → Float → List Float → Outcome
+unfoldable pub fromDips : List Float → ℕ → Float → List Dip → Outcome
 unfolding clocked anchor startClock track
 fromDips seg rate level ds =
     cond (ltb (length ds) enoughDips) none
-    (clocked seg rate level (track (startClock (nominalOf rate) (anchor (nominalOf rate) (getD ds 0 nan) ds)) ds))
+    (clocked seg rate level (track (startClock (nominalOf rate) (anchor (nominalOf rate) (getD (positionsOf ds) 0 nan) (positionsOf ds))) ds))
 
 -- the burst's level is the value at 0.9 of its sorted samples; no samples have none
 unfoldable pub outcome : List Float → ℕ → Outcome
 unfolding fromDips quantile
 outcome [] rate = none
-outcome (x ∷ l) rate = fromDips (x ∷ l) rate (quantile levelQuantile (x ∷ l)) (dipsOf (x ∷ l) rate (quantile levelQuantile (x ∷ l)))
+outcome (x ∷ l) rate = fromDips (x ∷ l) rate (quantile levelQuantile (x ∷ l)) (foundIn (x ∷ l) rate (quantile levelQuantile (x ∷ l)))
 
 -- what it leaves in the bits: the first 1,024, the rest kept
 unfoldable pub handed : Outcome → List ℕ → List ℕ
@@ -134,18 +141,19 @@ pub record Values : Type 0 where
   pub ppm : ℤ
   pub level : Float
   pub points : ℕ
+  pub depth : Float
 
 unfoldable pub valuesOf : Outcome → Option Values
 valuesOf none = none
-valuesOf (some b) = some (record { count = length (b .bits); period = b .period; ppm = b .ppm; level = b .level; points = b .dips })
+valuesOf (some b) = some (record { count = length (b .bits); period = b .period; ppm = b .ppm; level = b .level; points = b .dips; depth = b .depth })
 
 -- 01's number and values of each answer; no bits is an ordinary answer
 unfoldable pub said : BurstBits → Answer (Option Values)
 said (Refused n) = refused n
 said Nothing = accepted none
-said (Bits count period ppm level points) = accepted (some (record { count = count; period = period; ppm = ppm; level = level; points = points }))
+said (Bits count period ppm level points depth) = accepted (some (record { count = count; period = period; ppm = ppm; level = level; points = points; depth = depth }))
 
--- the first cause that applies to `burst_bits`, 0 where none does: room for 1,024 bits, 12 × rate f32 and 3,000 f64 is lent
+-- the first cause that applies to `burst_bits`, 0 where none does: room for 1,024 bits, 12 × rate f32 and 6,000 f64 is lent
 unfoldable pub bitsCause : List Float → ℕ → ℕ → ℕ → ℕ → ℕ
 bitsCause seg rate bits s32 s64 =
     cond (not (rateOk rate)) badRate

@@ -11,6 +11,7 @@ use lib.Ieee.{Float, binary64, add, sub, mul, div, lt, isNan, ofInt, toSigned, t
 use Rattle.floats.specs.Floor.{roundHalfUp}
 use Rattle.floats.specs.Number.{num}
 use Rattle.floats.specs.Trig.{tau, cosine, sine, magnitude, arctangent}
+use Rattle.dips.specs.Dips.{Dip}
 use Rattle.clock.specs.Numbers.{offGrid, anchors, refits, farthestBit}
 
 -- s, and f of each element added to it, in order (the Rust's `fold`, and its sums in a loop)
@@ -63,10 +64,10 @@ atMost (negsuc m) (negsuc n) = leb n m
 
 -- ---- points
 
--- (k, d): a bit index and the dip that stands there
+-- (k, d): a bit index and the dip that stands there, with its depth
 pub record Point : Type 0 where
   pub index : ℤ
-  pub dip : Float
+  pub dip : Dip
 
 -- the Rust's `period`, `phase` and `points`
 pub record BitClock : Type 0 where
@@ -93,7 +94,7 @@ sumK ps = sumFrom (λ p. asFloat (p .index)) (num 0) ps
 
 unfoldable pub sumD : List Point → Float
 unfolding sumFrom
-sumD ps = sumFrom (λ p. p .dip) (num 0) ps
+sumD ps = sumFrom (λ p. p .dip .at) (num 0) ps
 
 unfoldable pub sumKK : List Point → Float
 unfolding sumFrom
@@ -101,7 +102,7 @@ sumKK ps = sumFrom (λ p. mul binary64 (asFloat (p .index)) (asFloat (p .index))
 
 unfoldable pub sumKD : List Point → Float
 unfolding sumFrom
-sumKD ps = sumFrom (λ p. mul binary64 (asFloat (p .index)) (p .dip)) (num 0) ps
+sumKD ps = sumFrom (λ p. mul binary64 (asFloat (p .index)) (p .dip .at)) (num 0) ps
 
 -- n * skk - sk * sk
 unfoldable pub det : List Point → Float
@@ -140,20 +141,20 @@ skips c d k =
     || (ltb 0 (length (c .points)) && atMost k (lastIndex (c .points)))
 
 -- points.push((k, d))
-unfoldable pub pushed : BitClock → Float → ℤ → BitClock
+unfoldable pub pushed : BitClock → Dip → ℤ → BitClock
 pushed c d k = record { period = c .period; phase = c .phase; points = c .points ++ (record { index = k; dip = d } ∷ []) }
 
-unfoldable pub joined : BitClock → Float → ℤ → BitClock
+unfoldable pub joined : BitClock → Dip → ℤ → BitClock
 unfolding skips pushed refit
-joined c d k = cond (skips c d k) c (refit (pushed c d k))
+joined c d k = cond (skips c (d .at) k) c (refit (pushed c d k))
 
 -- ---- all dips
 
 -- in order; 01: none where an index is lost, of a dip later skipped too
-unfoldable pub track : BitClock → List Float → Option BitClock
+unfoldable pub track : BitClock → List Dip → Option BitClock
 unfolding lost indexAt joined
 track c [] = some c
-track c (d ∷ ds) = cond (lost (indexAt c d)) none (track (joined c d (asIndex (indexAt c d))) ds)
+track c (d ∷ ds) = cond (lost (indexAt c (d .at))) none (track (joined c d (asIndex (indexAt c (d .at)))) ds)
 
 -- before the first dip
 unfoldable pub startClock : Float → Float → BitClock

@@ -1,6 +1,6 @@
 -- Scaffolding: the bit clock as the code keeps it, with its four sums and its bit indexes moved up by 2^31, and the outcome from there.
 -- Law `running-is` of the proofs says that it is `Clock`'s and `Bits`'. Assumes nothing.
-use Prim.Native.Nat.{ℕ, _+_, _-_, max}
+use Prim.Native.Nat.{ℕ, _+_, _-_, _/_, max}
 use mathlib.Core.Bool.{Bool, true, false, cond, _&&_, _||_}
 use mathlib.Core.List.{List, [], _∷_}
 use mathlib.Core.Option.{none, some}
@@ -9,6 +9,7 @@ use lib.Ieee.{Float, binary64, add, sub, mul, div, lt}
 use Rattle.floats.specs.Floor.{roundHalfUp}
 use Rattle.floats.specs.Number.{num}
 use Rattle.floats.specs.Trig.{magnitude}
+use Rattle.order.specs.Order.{kth}
 use Rattle.rates.specs.Rates.{nominalOf}
 use Rattle.clock.specs.Numbers.{offGrid, refits, enoughPoints, farthestBit}
 use Rattle.clock.specs.Clock.{sizeOf, lost}
@@ -117,6 +118,18 @@ unfolding step after added
 pointsFrom c [] = []
 pointsFrom c (d ∷ ds) = added (step c d) (pointsFrom (after c (step c d)) ds)
 
+unfoldable pub kept : Step → Float → List Float → List Float
+kept Lost h l = l
+kept Skipped h l = l
+kept (Joined c) h l = h ∷ l
+
+-- the depths of the accepted dips, of the depths of all
+unfoldable pub depthsFrom : Clock → List Float → List Float → List Float
+unfolding step after kept
+depthsFrom c [] hs = []
+depthsFrom c (d ∷ ds) [] = []
+depthsFrom c (d ∷ ds) (h ∷ hs) = kept (step c d) h (depthsFrom (after c (step c d)) ds hs)
+
 -- before the first dip
 unfoldable pub startClock : Float → Float → Clock
 startClock nominal phase =
@@ -124,8 +137,8 @@ startClock nominal phase =
 
 -- ---- the outcome
 
-unfoldable pub ended : List Float → ℕ → Float → List ℕ → Clock → Outcome
-ended seg rate level points c =
+unfoldable pub ended : List Float → ℕ → Float → List ℕ → List Float → Clock → Outcome
+ended seg rate level points depths c =
     cond (lost (endIndex level seg (c .period) (c .phase))) none
     (some (record {
       bits = placedBits points (c .first) (max (c .last) (place (endIndex level seg (c .period) (c .phase))));
@@ -133,9 +146,10 @@ ended seg rate level points c =
       ppm = ppmOf (c .period) (nominalOf rate);
       level = level;
       dips = c .count;
+      depth = kth binary64 depths (c .count / 2);
     }))
 
-unfoldable pub clocked : List Float → ℕ → Float → List ℕ → Fit → Outcome
+unfoldable pub clocked : List Float → ℕ → Float → List ℕ → List Float → Fit → Outcome
 unfolding ended
-clocked seg rate level points Astray = none
-clocked seg rate level points (Fitted c) = cond (ltb (c .count) enoughPoints) none (ended seg rate level points c)
+clocked seg rate level points depths Astray = none
+clocked seg rate level points depths (Fitted c) = cond (ltb (c .count) enoughPoints) none (ended seg rate level points depths c)

@@ -2,14 +2,16 @@
 ghost use mathlib.Core.Path.{_≡_};
 ghost use mathlib.Core.Bool.{true, false, cond};
 ghost use mathlib.Core.List.{_∷_, _++_};
-ghost use Prim.Native.Nat.{_<_, _≤_, _-_, _*_, max};
+ghost use Prim.Native.Nat.{_<_, _≤_, _-_, _*_, _/_, max};
 ghost use lib.ListN.{length, take, drop, getD};
-ghost use lib.Ieee.{nan, lt, toUnsigned};
+ghost use lib.Ieee.{nan, lt, toUnsigned, binary64};
+ghost use Rattle.order.specs.Order.{kth, Numbers};
 ghost use Rattle.limits.specs.Limits.{lowestRate, highestRate, bufferS, mostSamples, mostBits, scratch64};
 ghost use Rattle.limits.specs.Samples.{allDbm};
 ghost use Rattle.rates.specs.Numbers.{levelQuantile};
 ghost use Rattle.rates.specs.Rates.{nominalOf};
 ghost use Rattle.bursts.specs.Levels.{quantile};
+ghost use Rattle.dips.specs.Numbers.{depthsAt};
 ghost use Rattle.clock.specs.Numbers.{farthestBit};
 ghost use Rattle.clock.specs.Clock.{angle, anchor, sizeOf, lost};
 ghost use Rattle.clock.specs.Running.{place, indexAt, skips, det, refit, summed, step, startClock, clocked};
@@ -223,11 +225,11 @@ fn track(c: Clock, d: f64) -> Step
 }
 
 // What `burst_bits` answers: the number of all bits, of which the first 1,024 are handed over, the period in samples, the clock's error, the
-// level and the number of points.
+// level, the number of points and the median of their dips' depths.
 pub enum BurstBits {
     Refused(u8),
     Nothing,
-    Bits(usize, f64, i32, f32, usize),
+    Bits(usize, f64, i32, f32, usize, f64),
 }
 
 // A place as a float and back: exact.
@@ -237,10 +239,10 @@ fn place_back(x: f64) -> usize
     floats::to_usize_saturating(x)
 }
 
-// The clock after all of the first n dips; the places of the points overwrite the dips, from the front.
+// The clock after all of the first n dips; the places of the points overwrite the dips from the front, and their depths those of all dips.
 fn fit_clock(dips: &mut [f64], n: usize, start: Clock) -> Fit
-    requires { ⌜ (n ≤ length (now dips)) × (n ≤ scratch64) × (start .count ≡ 0) ⌝ }
-    ensures { λ r. ⌜ Tracked start (take n (now (dips .entry))) r (now (dips .exit)) ⌝ }
+    requires { ⌜ (scratch64 ≤ length (now dips)) × (n ≤ depthsAt) × (start .count ≡ 0) ⌝ }
+    ensures { λ r. ⌜ Tracked start (take n (now (dips .entry))) (take n (drop depthsAt (now (dips .entry)))) r (now (dips .exit)) ⌝ }
 {
     let mut clock = start;
     let mut i: usize = 0;
@@ -254,7 +256,9 @@ fn fit_clock(dips: &mut [f64], n: usize, start: Clock) -> Fit
             }
             Step::Joined(next) => {
                 let at = clock.count;
+                let depth = dips[dips::DEPTHS + i];
                 dips[at] = floats::count_as_f64(next.last);
+                dips[dips::DEPTHS + at] = depth;
                 clock = next;
                 i += 1;
             }
@@ -344,6 +348,15 @@ fn greatest(a: usize, b: usize) -> usize
     if a < b { b } else { a }
 }
 
+// The median of the depths of n points' dips: index n / 2 of their order (02, request 05).
+fn median_depth(points: &[f64], n: usize) -> f64
+    requires { ⌜ (0 < n) × (n ≤ depthsAt) × (scratch64 ≤ length (now points)) × Numbers (take n (drop depthsAt (now points))) ⌝ }
+    ensures { λ r. ⌜ r ≡ kth binary64 (take n (drop depthsAt (now (points .entry)))) (n / 2) ⌝ }
+{
+    let depths = &points[dips::DEPTHS..dips::DEPTHS + n];
+    order::select64(depths, n / 2)
+}
+
 // The bits up to where the signal ends: those after the last dip are 1s (no reversal).
 fn clocked_bits(
     seg: &[f32],
@@ -353,9 +366,9 @@ fn clocked_bits(
     points: &[f64],
     bits: &mut [u8],
 ) -> BurstBits
-    requires { ⌜ (0 < length (now seg)) × (length (now seg) ≤ mostSamples) × (c .count ≤ length (now points)) × (mostBits ≤ length (now bits)) × Ready c (places (now points) (c .count)) ⌝ }
-    ensures { λ r. ⌜ (said r ≡ accepted (valuesOf (clocked (now (seg .entry)) rate level (places (now (points .entry)) (c .count)) (Fit.Fitted c))))
-        × (now (bits .exit) ≡ handed (clocked (now (seg .entry)) rate level (places (now (points .entry)) (c .count)) (Fit.Fitted c)) (now (bits .entry))) ⌝ }
+    requires { ⌜ (0 < length (now seg)) × (length (now seg) ≤ mostSamples) × (c .count ≤ depthsAt) × (mostBits ≤ length (now bits)) × Ready c (places (now points) (c .count)) × (scratch64 ≤ length (now points)) × Numbers (take (c .count) (drop depthsAt (now points))) ⌝ }
+    ensures { λ r. ⌜ (said r ≡ accepted (valuesOf (clocked (now (seg .entry)) rate level (places (now (points .entry)) (c .count)) (take (c .count) (drop depthsAt (now (points .entry)))) (Fit.Fitted c))))
+        × (now (bits .exit) ≡ handed (clocked (now (seg .entry)) rate level (places (now (points .entry)) (c .count)) (take (c .count) (drop depthsAt (now (points .entry)))) (Fit.Fitted c)) (now (bits .entry))) ⌝ }
 {
     let n = c.count;
     if n < ENOUGH_POINTS {
@@ -376,6 +389,7 @@ fn clocked_bits(
         ppm_of(c.period, nominal_of(rate)),
         level,
         n,
+        median_depth(points, n),
     )
 }
 

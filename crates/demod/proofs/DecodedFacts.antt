@@ -34,7 +34,7 @@ use Rattle.frame.proofs.FieldLaws.{li-lt}
 use Rattle.bursts.specs.declared.Burst.{Burst}
 use Rattle.clock.specs.Bits as bits
 use Rattle.limits.specs.Answer.{accepted}
-use Rattle.demod.specs.Decode.{segmentOf, timeAt, heardAs, withBurst, heardIn, decodeBurst, shown}
+use Rattle.demod.specs.Decode.{segmentOf, timeAt, depthByte, heardAs, withBurst, heardIn, decodeBurst, shown}
 use Rattle.demod.specs.declared.DecodedFrame.{DecodedFrame}
 use Rattle.demod.specs.declared.BurstFrame.{BurstFrame}
 
@@ -113,7 +113,7 @@ unfolding heardIn withBurst
 burst-in t e r none x q = absurd (let z : _≡_ {A = ℕ} 0 1 = cc in omega arith)
 burst-in t e r (some b) x q =
     heard-lawful (decodeUplink (map odd (b .bits)) .outcome)
-    (record { frame = decodeUplink (map odd (b .bits)) .frame; time = t; end = e; rssi = r; «clock_error_ppm» = b .ppm }) x q
+    (record { frame = decodeUplink (map odd (b .bits)) .frame; time = t; end = e; rssi = r; «clock_error_ppm» = b .ppm; depth = depthByte (b .depth) }) x q
     (decoded-lawful (map odd (b .bits)))
 
 pub burst-lawful : (dbm : List Float) (rate : ℕ) (b : Burst) (t0 : Float) (x : DecodedFrame) → decodeBurst dbm rate b t0 ≡ some x → Lawful (x .frame)
@@ -137,7 +137,7 @@ unfolding heardIn withBurst
 written-in t e r none x q p s = absurd (let z : _≡_ {A = ℕ} 0 1 = cc in omega arith)
 written-in t e r (some b) x q p s =
     heard-written (decodeUplink (map odd (b .bits)) .outcome)
-    (record { frame = decodeUplink (map odd (b .bits)) .frame; time = t; end = e; rssi = r; «clock_error_ppm» = b .ppm }) x q
+    (record { frame = decodeUplink (map odd (b .bits)) .frame; time = t; end = e; rssi = r; «clock_error_ppm» = b .ppm; depth = depthByte (b .depth) }) x q
     (record { time = p; rssi = s })
 
 pub burst-written : (dbm : List Float) (rate : ℕ) (b : Burst) (t0 : Float) (x : DecodedFrame) → decodeBurst dbm rate b t0 ≡ some x → T (fits binary32 (b .«peak_dbm»)) → Written x

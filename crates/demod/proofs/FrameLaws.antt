@@ -1,5 +1,5 @@
 -- From the bits of a burst to its frame: they are bits, and the first 1,024 decode as all do. Assumes nothing.
-use mathlib.Core.Path.{_≡_, refl, sym, ap, _∙_, subst}
+use mathlib.Core.Path.{_≡_, refl, sym, ap, ap₂, _∙_, subst}
 use mathlib.Core.Bool.{Bool, true, false, cond, _&&_}
 use mathlib.Core.List.{List, [], _∷_, map}
 use mathlib.Core.Option.{Option, none, some}
@@ -24,7 +24,7 @@ use Rattle.frame.specs.declared.DecodedUplink.{DecodedUplink}
 use Rattle.frame.proofs.PrefixLaws.{decode-prefix}
 use Rattle.bursts.specs.Levels.{quantile}
 use Rattle.bursts.specs.declared.Burst.{Burst}
-use Rattle.dips.specs.Dips.{dipsOf}
+use Rattle.dips.specs.Dips.{Dip, positionsOf, foundIn}
 use Rattle.clock.specs.Numbers.{enoughDips, enoughPoints}
 use Rattle.clock.specs.Clock.{anchor, lost, asIndex, Point, BitClock, firstIndex, lastIndex, startClock, track}
 use Rattle.limits.specs.Answer.{accepted}
@@ -32,7 +32,7 @@ use Rattle.clock.specs.Bits.{endIndex, larger, indexes, onGrid, bitAt, allBits,
 use Rattle.clock.specs.declared.BurstBits.the-variants as bits
 use Rattle.clock.proofs.BitLaws.{ppm-fits}
 use Rattle.demod.specs.declared.DecodedFrame.{DecodedFrame}
-use Rattle.demod.specs.Decode.{without, fromOf, toOf, segmentOf, timeAt, withBurst, heardIn, decodeBurst, shown}
+use Rattle.demod.specs.Decode.{without, fromOf, toOf, segmentOf, timeAt, depthByte, withBurst, heardIn, decodeBurst, shown}
 use Rattle.demod.specs.declared.BurstFrame.{BurstFrame}
 
 -- ---- every outcome's bits are bits, and its ppm is an i32
@@ -69,16 +69,16 @@ unfolding Clean clocked
 clean-clocked seg rate level none = tt
 clean-clocked seg rate level (some c) = clean-if (ltb (length (c .points)) enoughPoints) (ended seg rate level c) (clean-ended seg rate level c)
 
-clean-dips : (seg : List Float) (rate : ℕ) (level : Float) (ds : List Float) → Clean (fromDips seg rate level ds)
+clean-dips : (seg : List Float) (rate : ℕ) (level : Float) (ds : List Dip) → Clean (fromDips seg rate level ds)
 unfolding fromDips
 clean-dips seg rate level ds =
-    let clock = track (startClock (nominalOf rate) (anchor (nominalOf rate) (getD ds 0 nan) ds)) ds in
+    let clock = track (startClock (nominalOf rate) (anchor (nominalOf rate) (getD (positionsOf ds) 0 nan) (positionsOf ds))) ds in
     clean-if (ltb (length ds) enoughDips) (clocked seg rate level clock) (clean-clocked seg rate level clock)
 
 clean-outcome : (seg : List Float) (rate : ℕ) → Clean (outcome seg rate)
 unfolding Clean outcome
 clean-outcome [] rate = tt
-clean-outcome (x ∷ l) rate = clean-dips (x ∷ l) rate (quantile levelQuantile (x ∷ l)) (dipsOf (x ∷ l) rate (quantile levelQuantile (x ∷ l)))
+clean-outcome (x ∷ l) rate = clean-dips (x ∷ l) rate (quantile levelQuantile (x ∷ l)) (foundIn (x ∷ l) rate (quantile levelQuantile (x ∷ l)))
 
 take-clean : (n : ℕ) (l : List ℕ) → areBits l ≡ true → areBits (take n l) ≡ true
 unfolding areBits
@@ -102,24 +102,25 @@ unfolding said valuesOf heardIn shown
 told-nothing none t e r q = refl
 told-nothing (some b) t e r q = absurd (let z : _≡_ {A = ℕ} 0 1 = cc in omega arith)
 
-record Says (o : Outcome) (n : ℕ) (m : ℤ) : Type 0 where
+record Says (o : Outcome) (n : ℕ) (m : ℤ) (h : Float) : Type 0 where
   read : Recovered
   is : o ≡ some read
   count : n ≡ length (read .bits)
   ppm : m ≡ read .ppm
+  depth : h ≡ read .depth
 
-says : (o : Outcome) (n k : ℕ) (p l : Float) (m : ℤ) → said (bits.Bits n p m l k) ≡ accepted (valuesOf o) → Says o n m
+says : (o : Outcome) (n k : ℕ) (p l h : Float) (m : ℤ) → said (bits.Bits n p m l k h) ≡ accepted (valuesOf o) → Says o n m h
 unfolding said valuesOf
-says none n k p l m q = absurd (let z : _≡_ {A = ℕ} 0 1 = cc in omega arith)
-says (some b) n k p l m q =
-    let v : _≡_ {A = Values} (record { count = n; period = p; ppm = m; level = l; points = k })
-    (record { count = length (b .bits); period = b .period; ppm = b .ppm; level = b .level; points = b .dips }) = cc in
-    record { read = b; is = refl; count = ap (λ (x : Values). x .count) v; ppm = ap (λ (x : Values). x .ppm) v }
+says none n k p l h m q = absurd (let z : _≡_ {A = ℕ} 0 1 = cc in omega arith)
+says (some b) n k p l h m q =
+    let v : _≡_ {A = Values} (record { count = n; period = p; ppm = m; level = l; points = k; depth = h })
+    (record { count = length (b .bits); period = b .period; ppm = b .ppm; level = b .level; points = b .dips; depth = b .depth }) = cc in
+    record { read = b; is = refl; count = ap (λ (x : Values). x .count) v; ppm = ap (λ (x : Values). x .ppm) v; depth = ap (λ (x : Values). x .depth) v }
 
-module _ (seg : List Float) (rate n k : ℕ) (p l : Float) (m : ℤ) (q : said (bits.Bits n p m l k) ≡ accepted (valuesOf (outcome seg rate)))
+module _ (seg : List Float) (rate n k : ℕ) (p l h : Float) (m : ℤ) (q : said (bits.Bits n p m l k h) ≡ accepted (valuesOf (outcome seg rate)))
     (old now : List ℕ) (w : now ≡ handed (outcome seg rate) old) (len : ℕ) (e : len ≡ min n mostBits) where
-  s : Says (outcome seg rate) n m
-  s = says (outcome seg rate) n k p l m q
+  s : Says (outcome seg rate) n m h
+  s = says (outcome seg rate) n k p l h m q
 
   clean : (areBits (s .read .bits) ≡ true) × SFits w32 (s .read .ppm)
   unfolding Clean
@@ -144,13 +145,16 @@ module _ (seg : List Float) (rate n k : ℕ) (p l : Float) (m : ℤ) (q : said (
   same = ap (λ (b : List ℕ). decodeUplink (map odd b)) sent ∙ ap decodeUplink (map-take mostBits (s .read .bits)) ∙ decode-prefix mostBits (map odd (s .read .bits)) (lit≤ tt)
 
   -- the frame that was decoded is the burst's
-  pub heard-frame : (t end r : Float) (d : DecodedUplink) (x : BurstFrame) → d ≡ decodeUplink (map odd (take len now)) → x ≡ shown (accepted (withBurst t end r (toZ w32 (ofZ w32 m)) d))
+  pub heard-frame : (t end r : Float) (y : ℕ) (d : DecodedUplink) (x : BurstFrame) → y ≡ depthByte h → d ≡ decodeUplink (map odd (take len now))
+      → x ≡ shown (accepted (withBurst t end r (toZ w32 (ofZ w32 m)) y d))
       → x ≡ shown (accepted (heardIn t end r (outcome seg rate)))
   unfolding heardIn
-  heard-frame t end r d x f h =
+  heard-frame t end r y d x deep f shows =
       let g : toZ w32 (ofZ w32 m) ≡ m = toZ-ofZ w32 m (subst (λ (z : ℤ). SFits w32 z) (sym (s .ppm)) (clean .1)) in
-      let i : heardIn t end r (outcome seg rate) ≡ withBurst t end r (s .read .ppm) (decodeUplink (map odd (s .read .bits))) = rw (s .is) in
-      h ∙ ap (λ (o : Option DecodedFrame). shown (accepted o)) (ap (λ (z : ℤ). withBurst t end r z d) (g ∙ s .ppm) ∙ ap (withBurst t end r (s .read .ppm)) (f ∙ same) ∙ sym i)
+      let i : heardIn t end r (outcome seg rate) ≡ withBurst t end r (s .read .ppm) (depthByte (s .read .depth)) (decodeUplink (map odd (s .read .bits))) = rw (s .is) in
+      let j : withBurst t end r (toZ w32 (ofZ w32 m)) y d ≡ heardIn t end r (outcome seg rate) =
+      ap₂ (λ (z : ℤ) (c : ℕ). withBurst t end r z c d) (g ∙ s .ppm) (deep ∙ ap depthByte (s .depth)) ∙ ap (withBurst t end r (s .read .ppm) (depthByte (s .read .depth))) (f ∙ same) ∙ sym i in
+      shows ∙ ap (λ (o : Option DecodedFrame). shown (accepted o)) j
 
 -- ---- the segment
 

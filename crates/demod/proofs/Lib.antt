@@ -1,4 +1,5 @@
 pub mod Constants
+pub mod Depths
 pub mod FrameLaws
 pub mod BurstAnswers
 pub mod DecodedFacts

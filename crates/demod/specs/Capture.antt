@@ -28,7 +28,7 @@ floorOf (Given x) dbm = x
 
 -- what the record has besides the frame; its start is the burst's index
 abbrev pub receptionOf : DecodedFrame → ℕ → Reception
-receptionOf d start = record { «clock_error_ppm» = d .«clock_error_ppm»; rssi = d .rssi; time = d .time; end = d .end; start = start }
+receptionOf d start = record { «clock_error_ppm» = d .«clock_error_ppm»; rssi = d .rssi; time = d .time; end = d .end; start = start; depth = d .depth }
 
 -- the record of a burst that has a frame
 unfoldable pub recordIf : Option DecodedFrame → ℕ → List (List ℕ)

@@ -6,7 +6,8 @@ use mathlib.Core.Option.{Option, none, some}
 use lib.IntN.{ℤ, pos}
 use lib.Dec.{leb, ltb}
 use lib.ListN.{length, take, drop}
-use lib.Ieee.{Float, binary64, add, div, isNan}
+use lib.Ieee.{Float, binary64, add, mul, div, isNan, toUnsigned}
+use Rattle.floats.specs.Floor.{floor}
 use Rattle.floats.specs.Number.{num}
 use Rattle.limits.specs.Limits.{badRate, short, long, badSample, badNumber, bufferS, scratch64, longestStream}
 use Rattle.limits.specs.Samples.{rateOk, isDbm, timeOk, allDbm}
@@ -28,7 +29,7 @@ widestPad = 80
 
 -- the fields of an answer that has no frame, and such answers
 abbrev pub blankDecoded : DecodedFrame
-blankDecoded = record { frame = blankFrame; time = num 0; end = num 0; rssi = num 0; «clock_error_ppm» = pos 0 }
+blankDecoded = record { frame = blankFrame; time = num 0; end = num 0; rssi = num 0; «clock_error_ppm» = pos 0; depth = 0 }
 
 abbrev pub without : Outcome → BurstFrame
 without o = record { outcome = o; decoded = blankDecoded }
@@ -49,21 +50,30 @@ segmentOf dbm rate b = take (toOf dbm rate b - fromOf dbm rate b) (drop (fromOf 
 abbrev pub timeAt : Float → ℕ → ℕ → Float
 timeAt t0 rate i = add binary64 t0 (div binary64 (num i) (num rate))
 
+-- 'Event byte 33 gives it in half decibels, rounded down, 255 if more' (02, request 05). Twice a depth is exact. A depth is over 0, a difference of levels from
+-- -200 to 100 dBm; what is under 0 or no number would give 0
+abbrev pub mostDepth : ℕ
+mostDepth = 255
+
+unfoldable pub depthByte : Float → ℕ
+depthByte depth = min mostDepth (toUnsigned 64 (floor (mul binary64 depth (num 2))))
+
 -- what was decoded, where a frame was: the Rust's Option<DecodedFrame>
 unfoldable pub heardAs : Outcome → DecodedFrame → Option DecodedFrame
 heardAs (Refused n) d = none
 heardAs Nothing d = none
 heardAs Frame d = some d
 
--- a frame with the burst's times, its level and the clock's error
-unfoldable pub withBurst : Float → Float → Float → ℤ → DecodedUplink → Option DecodedFrame
+-- a frame with the burst's times, its level, the clock's error and the dips' depth in half decibels
+unfoldable pub withBurst : Float → Float → Float → ℤ → ℕ → DecodedUplink → Option DecodedFrame
 unfolding heardAs
-withBurst time end rssi ppm d = heardAs (d .outcome) (record { frame = d .frame; time = time; end = end; rssi = rssi; «clock_error_ppm» = ppm })
+withBurst time end rssi ppm depth d =
+    heardAs (d .outcome) (record { frame = d .frame; time = time; end = end; rssi = rssi; «clock_error_ppm» = ppm; depth = depth })
 
 unfoldable pub heardIn : Float → Float → Float → bits.Outcome → Option DecodedFrame
-unfolding withBurst
+unfolding depthByte withBurst
 heardIn time end rssi none = none
-heardIn time end rssi (some b) = withBurst time end rssi (b .ppm) (decodeUplink (map odd (b .bits)))
+heardIn time end rssi (some b) = withBurst time end rssi (b .ppm) (depthByte (b .depth)) (decodeUplink (map odd (b .bits)))
 
 unfoldable pub decodeBurst : List Float → ℕ → Burst → Float → Option DecodedFrame
 unfolding segmentOf heardIn

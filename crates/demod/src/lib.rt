@@ -12,7 +12,7 @@ ghost use Rattle.rates.specs.Rates.{padOf};
 ghost use Rattle.record.specs.Record.{frameRecord};
 ghost use Rattle.bursts.specs.Levels.{noiseFloor};
 ghost use Rattle.clock.specs.Bits.{outcome};
-ghost use Rattle.demod.specs.Decode.{widestPad, without, timeAt, withBurst, heardIn, decodeBurst, burstOk, shown, decodeCause, decodeAnswer};
+ghost use Rattle.demod.specs.Decode.{widestPad, without, timeAt, depthByte, withBurst, heardIn, decodeBurst, burstOk, shown, decodeCause, decodeAnswer};
 ghost use Rattle.demod.specs.Capture.{floorOf, floorOk, receptionOf, recordOf, captured, joined, said, captureAnswer, inFront};
 
 pub struct DecodedFrame {
@@ -22,6 +22,8 @@ pub struct DecodedFrame {
     pub end: f64,
     pub rssi: f32,
     pub clock_error_ppm: i32,
+    // Of the dips, in half decibels.
+    pub depth: u8,
 }
 
 // What `decode_burst` answers: all zero besides the outcome where there is no frame.
@@ -56,13 +58,27 @@ fn no_frame(outcome: frame::Outcome) -> BurstFrame
             end: 0.0,
             rssi: 0.0,
             clock_error_ppm: 0,
+            depth: 0,
         },
     }
 }
 
-// What was decoded, with the burst's times, its level and the clock's error.
-fn heard(d: frame::DecodedUplink, time: f64, end: f64, rssi: f32, ppm: i32) -> BurstFrame
-    ensures { λ r. ⌜ r ≡ shown (accepted (withBurst time end rssi ppm d)) ⌝ }
+// The most half decibels that a byte holds.
+const MOST_DEPTH: usize = 255;
+
+// A depth in half decibels, rounded down.
+fn depth_byte(depth: f64) -> u8
+    ensures { λ r. ⌜ r ≡ depthByte depth ⌝ }
+{
+    dips::least(
+        MOST_DEPTH,
+        floats::to_usize_saturating(floats::floor64(depth * 2.0)),
+    ) as u8
+}
+
+// What was decoded, with the burst's times, its level, the clock's error and the dips' depth.
+fn heard(d: frame::DecodedUplink, time: f64, end: f64, rssi: f32, ppm: i32, depth: u8) -> BurstFrame
+    ensures { λ r. ⌜ r ≡ shown (accepted (withBurst time end rssi ppm depth d)) ⌝ }
 {
     let outcome = d.outcome;
     let f = d.frame;
@@ -77,6 +93,7 @@ fn heard(d: frame::DecodedUplink, time: f64, end: f64, rssi: f32, ppm: i32) -> B
                 end,
                 rssi,
                 clock_error_ppm: ppm,
+                depth,
             },
         },
     }
@@ -98,9 +115,16 @@ fn decode_segment(
     match clock::bits_of(seg, rate, &mut bits, scratch) {
         clock::BurstBits::Refused(_) => no_frame(frame::Outcome::Nothing),
         clock::BurstBits::Nothing => no_frame(frame::Outcome::Nothing),
-        clock::BurstBits::Bits(count, _, ppm, _, _) => {
+        clock::BurstBits::Bits(count, _, ppm, _, _, depth) => {
             let len = dips::least(count, limits::MOST_BITS);
-            heard(frame::decode_bits(&bits[..len]), time, end, rssi, ppm)
+            heard(
+                frame::decode_bits(&bits[..len]),
+                time,
+                end,
+                rssi,
+                ppm,
+                depth_byte(depth),
+            )
         }
     }
 }
@@ -208,6 +232,7 @@ fn put_decoded(d: DecodedFrame, start: usize, events: &mut [u8], at: usize)
             time: d.time,
             end: d.end,
             start: start as u64,
+            depth: d.depth,
         },
         events,
         at,

@@ -1,14 +1,14 @@
 -- Laws of the dips, on plain lists: the loops over the windows, the room that a dip takes, and the loop that writes them. Assumes nothing.
 use mathlib.Core.Path.{_≡_, refl, sym, ap, _∙_}
 use mathlib.Core.Bool.{Bool, true, false, cond, not, _&&_, _||_, true≢false}
-use mathlib.Core.List.{List, [], _∷_, _++_, map, append-assoc, append-nil}
+use mathlib.Core.List.{List, [], _∷_, _++_, map, map-map, append-assoc, append-nil}
 use Prim.Native.Nat.{ℕ, zero, suc, _+_, _-_, _*_, _/_, _≤_, _<_, min}
 use native.Mathlib.Nat.{suc-mul, add-mul, lt-of-mul-lt-mul-right}
 use native.Mathlib.Numerals.{add-one}
 use native.Mathlib.Omega.{arith}
 use lib.Dec.{ltb}
-use lib.ListN.{length, getD, take, drop, set, length-set, take-append-drop}
-use lib.Seq.{slice, slice-cons, slice-empty, length-slice, getD-drop, getD-take, take-suc-set, drop-set-lt, drop-drop, length-take-le}
+use lib.ListN.{length, getD, take, drop, set, length-set, length-take, length-drop, take-append-drop}
+use lib.Seq.{slice, slice-cons, slice-empty, length-slice, getD-drop, getD-take, take-suc-set, take-set-lt, take-set-le, drop-set-lt, drop-set-add, drop-drop, length-take-le}
 use lib.Ieee.{Float, nan, lt, le, eq}
 use mathlib.Core.Logic.{_⊎_, inl, inr, ⊎-elim}
 use borrow.Author.Tests.{lt-ltb, ltb-true, ltb-false}
@@ -17,8 +17,11 @@ use Rattle.limits.specs.Limits.{lowestRate, highestRate, bufferS}
 use Rattle.limits.specs.Samples.{allDbm}
 use Rattle.rates.specs.Rates.{winOf, halfOf}
 use Rattle.rates.proofs.Rates.{half-is}
-use Rattle.dips.specs.Numbers.{mostDips}
-use Rattle.dips.specs.Dips.{sides, against, lowestOf, neighbours, isDip, centre, indicesFrom, dipIndices, Written}
+use Rattle.dips.specs.Numbers.{mostDips, depthsAt}
+use Rattle.dips.specs.Dips.{sides, against, lowestOf, neighbours, isDip, centre, depthOf, indicesFrom, dipIndices, Dip, dipAt, foundIn, positionsOf, depthsOf, dipsOf, Written, Stored}
+use Rattle.dips.specs.Tested.{tested}
+use Rattle.dips.specs.declared.Tested.{Tested}
+use Rattle.dips.specs.declared.Tested.the-variants.{Other, Deep}
 use Rattle.limits.proofs.Samples.{and-left, numbers}
 use Rattle.dips.proofs.Compares.{compared}
 
@@ -121,13 +124,32 @@ module _ (half : ℕ) (seg : List Float) (i : ℕ) (h : 0 < half) (a : 0 < i) (b
 
 -- the two tests, one after the other
 module _ (level : Float) (win half : ℕ) (seg : List Float) (i : ℕ) where
-  pub by-sides : (r : Bool) → neighbours half seg i ≡ true → r ≡ sides level win seg i → r ≡ isDip level win half seg i
+  pub by-sides : (r : Tested) (d : Float) → neighbours half seg i ≡ true → r ≡ tested (sides level win seg i) d → r ≡ tested (isDip level win half seg i) d
   unfolding isDip
-  by-sides r n e = rw n e
+  by-sides r d n e = rw n e
 
-  pub by-neighbours : neighbours half seg i ≡ false → false ≡ isDip level win half seg i
-  unfolding isDip
-  by-neighbours n = rw n
+  pub by-neighbours : (d : Float) → neighbours half seg i ≡ false → Other ≡ tested (isDip level win half seg i) d
+  unfolding isDip tested
+  by-neighbours d n = rw n
+
+pub as-other : (t s : Bool) (d : Float) → t ≡ true → not t ≡ s → Other ≡ tested s d
+unfolding tested
+as-other t s d e f = rw (← f, e)
+
+pub as-deep : (t s : Bool) (d x : Float) → t ≡ false → not t ≡ s → x ≡ d → Deep x ≡ tested s d
+unfolding tested
+as-deep t s d x e f q = rw (← f, e, q)
+
+-- what an answer says of the test
+pub tested-deep : (t : Bool) (d x : Float) → Deep x ≡ tested t d → (t ≡ true) × (x ≡ d)
+unfolding tested
+tested-deep true d x e = (refl, cc)
+tested-deep false d x e = absurd (let z : _≡_ {A = ℕ} 0 1 = cc in omega arith)
+
+pub tested-other : (t : Bool) (d : Float) → Other ≡ tested t d → t ≡ false
+unfolding tested
+tested-other true d e = absurd (let z : _≡_ {A = ℕ} 0 1 = cc in omega arith)
+tested-other false d e = refl
 
 -- ---- what is left of the list at an index, and the loop that writes it, n so far
 
@@ -151,12 +173,13 @@ module _ (level : Float) (win half : ℕ) (seg : List Float) where
       let z : length seg - 1 - i ≡ suc (length seg - 1 - suc i) = omega arith in
       rw (z, e, add-one i)
 
-  pub record DipsAt (whole old : List Float) (n i : ℕ) (now : List Float) : Type 0 where
+  -- of what f says of each dip
+  pub record DipsAt (f : ℕ → Float) (whole old : List Float) (n i : ℕ) (now : List Float) : Type 0 where
     pub room : n * (half + 1) + 1 ≤ i
     pub size : length now ≡ length old
     pub within : n ≤ length now
     pub past : drop n now ≡ drop n old
-    pub here : take n now ++ map (centre seg) (dipsLeft i) ≡ whole
+    pub here : take n now ++ map f (dipsLeft i) ≡ whole
 
   module _ (v : allDbm seg ≡ true) where
     apart : (i j : ℕ) → i < j → j < length seg → j ≤ i + half → neighbours half seg i ≡ true → neighbours half seg j ≡ true → ⊥
@@ -220,16 +243,16 @@ module _ (level : Float) (win half : ℕ) (seg : List Float) where
         (λ g. counted-past i g h)
         (lt-or-ge (i + 1) (length seg))
 
-    module _ (whole old : List Float) where
-      pub dips-start : whole ≡ map (centre seg) (dipsLeft 1) → DipsAt whole old 0 1 old
+    module _ (f : ℕ → Float) (whole old : List Float) where
+      pub dips-start : whole ≡ map f (dipsLeft 1) → DipsAt f whole old 0 1 old
       dips-start e = record { room = omega arith; size = refl; within = omega arith; past = refl; here = sym e }
 
-      module _ (n i : ℕ) (now : List Float) (d : DipsAt whole old n i now) where
+      module _ (n i : ℕ) (now : List Float) (d : DipsAt f whole old n i now) where
         pub dips-few : (r : ℕ) → bufferS * r ≤ mostDips * (half + 1) + 2 → length seg ≤ bufferS * r → i + 1 < length seg → n < mostDips
         dips-few r a b h = lt-of-mul-lt-mul-right (half + 1) (omega (arith, d .room))
 
-        pub dips-dip : (x : Float) → n < length now → i + 1 < length seg → isDip level win half seg i ≡ true → x ≡ centre seg i
-            → DipsAt whole old (n + 1) (i + (half + 1)) (set now n x)
+        pub dips-dip : (x : Float) → n < length now → i + 1 < length seg → isDip level win half seg i ≡ true → x ≡ f i
+            → DipsAt f whole old (n + 1) (i + (half + 1)) (set now n x)
         dips-dip x m h e q =
             record {
               room = rw (add-mul n 1 (half + 1)) (omega (arith, d .room));
@@ -238,26 +261,79 @@ module _ (level : Float) (win half : ℕ) (seg : List Float) where
               past = drop-set-lt (n + 1) now n x (omega arith) ∙ sym (drop-drop 1 n now) ∙ ap (drop 1) (d .past) ∙ drop-drop 1 n old;
               here =
                   rw (add-one n, take-suc-set now n x m, append-assoc, q)
-                  (ap (λ (l : List ℕ). take n now ++ map (centre seg) l) (ap (λ (l : List ℕ). i ∷ l) (sym (skipped i half (omega arith) e)) ∙ sym (left-dip i h e)) ∙ d .here);
+                  (ap (λ (l : List ℕ). take n now ++ map f l) (ap (λ (l : List ℕ). i ∷ l) (sym (skipped i half (omega arith) e)) ∙ sym (left-dip i h e)) ∙ d .here);
             }
 
-        pub dips-other : i + 1 < length seg → isDip level win half seg i ≡ false → DipsAt whole old n (i + 1) now
+        pub dips-other : i + 1 < length seg → isDip level win half seg i ≡ false → DipsAt f whole old n (i + 1) now
         dips-other h e =
             record {
               room = omega (arith, d .room);
               size = d .size;
               within = d .within;
               past = d .past;
-              here = ap (λ (l : List ℕ). take n now ++ map (centre seg) l) (sym (left-other i h e)) ∙ d .here;
+              here = ap (λ (l : List ℕ). take n now ++ map f l) (sym (left-other i h e)) ∙ d .here;
             }
 
         pub dips-end : length seg ≤ i + 1 → Written whole old n now
         dips-end h =
-            let t : take n now ≡ whole = sym (append-nil (take n now)) ∙ ap (λ (l : List ℕ). take n now ++ map (centre seg) l) (sym (left-none i h)) ∙ d .here in
+            let t : take n now ≡ whole = sym (append-nil (take n now)) ∙ ap (λ (l : List ℕ). take n now ++ map f l) (sym (left-none i h)) ∙ d .here in
             record {
               count = sym (length-take-le n now (d .within)) ∙ ap length t;
               holds = sym (take-append-drop n now) ∙ ap (λ (l : List Float). l ++ drop n now) t ∙ ap (λ (l : List Float). whole ++ l) (d .past);
             }
+
+  -- both halves of the slice: positions in front, depths from place 3,000 on
+  pub record StoredAt (found : List Dip) (old : List Float) (n i : ℕ) (now : List Float) : Type 0 where
+    pub size : length now ≡ length old
+    pub front : DipsAt (centre seg) (positionsOf found) (take depthsAt old) n i (take depthsAt now)
+    pub rest : DipsAt (depthOf win seg) (depthsOf found) (drop depthsAt old) n i (drop depthsAt now)
+
+  module _ (v : allDbm seg ≡ true) (found : List Dip) (old : List Float) where
+    pub stored-start : found ≡ map (dipAt win seg) (dipsLeft 1) → StoredAt found old 0 1 old
+    unfolding dipAt
+    stored-start e =
+        record {
+          size = refl;
+          front = dips-start v (centre seg) (positionsOf found) (take depthsAt old) (ap positionsOf e ∙ map-map (λ (d : Dip). d .at) (dipAt win seg) (dipsLeft 1));
+          rest = dips-start v (depthOf win seg) (depthsOf found) (drop depthsAt old) (ap depthsOf e ∙ map-map (λ (d : Dip). d .depth) (dipAt win seg) (dipsLeft 1));
+        }
+
+    module _ (n i : ℕ) (now : List Float) (d : StoredAt found old n i now) where
+      pub stored-few : (r : ℕ) → bufferS * r ≤ mostDips * (half + 1) + 2 → length seg ≤ bufferS * r → i + 1 < length seg → n < mostDips
+      stored-few r a b h = dips-few v (centre seg) (positionsOf found) (take depthsAt old) n i (take depthsAt now) (d .front) r a b h
+
+      pub stored-dip : (x y : Float) → n < depthsAt → depthsAt + n < length now → i + 1 < length seg → isDip level win half seg i ≡ true → x ≡ centre seg i → y ≡ depthOf win seg i
+          → StoredAt found old (n + 1) (i + (half + 1)) (set (set now n x) (depthsAt + n) y)
+      stored-dip x y m k h e p q =
+          let a : take depthsAt (set (set now n x) (depthsAt + n) y) ≡ set (take depthsAt now) n x =
+          take-set-le depthsAt (set now n x) (depthsAt + n) y (omega arith) ∙ take-set-lt depthsAt now n x m in
+          let b : drop depthsAt (set (set now n x) (depthsAt + n) y) ≡ set (drop depthsAt now) n y =
+          drop-set-add depthsAt (set now n x) n y ∙ ap (λ (l : List Float). set l n y) (drop-set-lt depthsAt now n x m) in
+          record {
+            size = length-set (set now n x) (depthsAt + n) y ∙ length-set now n x ∙ d .size;
+            front = rw a (dips-dip v (centre seg) (positionsOf found) (take depthsAt old) n i (take depthsAt now) (d .front) x (omega (arith, length-take depthsAt now)) h e p);
+            rest = rw b (dips-dip v (depthOf win seg) (depthsOf found) (drop depthsAt old) n i (drop depthsAt now) (d .rest) y (omega (arith, length-drop depthsAt now)) h e q);
+          }
+
+      pub stored-other : i + 1 < length seg → isDip level win half seg i ≡ false → StoredAt found old n (i + 1) now
+      stored-other h e =
+          record {
+            size = d .size;
+            front = dips-other v (centre seg) (positionsOf found) (take depthsAt old) n i (take depthsAt now) (d .front) h e;
+            rest = dips-other v (depthOf win seg) (depthsOf found) (drop depthsAt old) n i (drop depthsAt now) (d .rest) h e;
+          }
+
+      pub stored-end : length seg ≤ i + 1 → Stored found old n now
+      stored-end h =
+          record {
+            positions = dips-end v (centre seg) (positionsOf found) (take depthsAt old) n i (take depthsAt now) (d .front) h;
+            depths = dips-end v (depthOf win seg) (depthsOf found) (drop depthsAt old) n i (drop depthsAt now) (d .rest) h;
+          }
+
+-- the positions of the dips are their centres
+pub dips-are : (seg : List Float) (rate : ℕ) (level : Float) → dipsOf seg rate level ≡ map (centre seg) (dipIndices seg rate level)
+unfolding dipsOf foundIn dipAt
+dips-are seg rate level = map-map (λ (d : Dip). d .at) (dipAt (winOf rate) seg) (dipIndices seg rate level)
 
 -- no 12 s of samples have more than 2,906 dips
 module _ (rate : ℕ) (lo : lowestRate ≤ rate) (hi : rate ≤ highestRate) where

@@ -3,3 +3,4 @@ pub mod Compares
 pub mod DipLaws
 pub mod DipAnswers
 pub mod Sequence
+pub mod Depths

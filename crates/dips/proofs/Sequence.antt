@@ -1,5 +1,5 @@
 -- The two tests of a dip find the same dips in either sequence, and a segment computed in both. Assumes nothing.
-use mathlib.Core.Path.{_≡_, refl, ap}
+use mathlib.Core.Path.{_≡_, refl, ap, _∙_}
 use mathlib.Core.Bool.{Bool, true, false, _&&_}
 use mathlib.Core.List.{List, [], _∷_, map}
 use Prim.Native.Nat.{ℕ, zero, suc, _-_}
@@ -9,8 +9,9 @@ use Rattle.floats.specs.Floor.{floor, roundHalfUp}
 use Rattle.floats.specs.Fold.{maxFrom}
 use Rattle.floats.specs.Number.{num}
 use Rattle.rates.specs.Rates.{winOf, halfOf}
-use Rattle.dips.specs.Dips.{leftOf, rightOf, sides, lowestOf, neighbours, isDip, indicesFrom, centre, dipIndices, dipsOf}
+use Rattle.dips.specs.Dips.{leftOf, rightOf, sides, lowestOf, neighbours, isDip, indicesFrom, centre, dipIndices, depthOf, dipAt, foundIn, dipsOf}
 use Rattle.dips.specs.Sequence.{sidesFirst, rustDips, SameDips}
+use Rattle.dips.proofs.DipLaws.{dips-are}
 
 and-either : (a b : Bool) → a && b ≡ b && a
 and-either true true = refl
@@ -29,11 +30,11 @@ unfolding isDip sidesFirst
 same-test level win half seg i = and-either (neighbours half seg i) (sides level win seg i)
 
 pub same-dips : SameDips
-unfolding dipsOf dipIndices rustDips
+unfolding dipIndices rustDips
 same-dips seg rate level =
     let win = winOf rate in
     let half = halfOf rate in
-    ap (map (centre seg)) (same-indices (isDip level win half seg) (sidesFirst level win half seg) (same-test level win half seg) (length seg - 1 - 1) 1)
+    dips-are seg rate level ∙ ap (map (centre seg)) (same-indices (isDip level win half seg) (sidesFirst level win half seg) (same-test level win half seg) (length seg - 1 - 1) 1)
 
 -- ---- a segment at 200/s, where a side is 3 samples and the half window 1
 
@@ -55,5 +56,5 @@ unfolding segment sides leftOf rightOf maxFrom sub add lt le eq round ofInt neg
 deep = (refl, refl, refl)
 
 one-dip : (dipsOf segment 200 (neg (num 60)) ≡ num 4 ∷ []) × (rustDips segment 200 (neg (num 60)) ≡ num 4 ∷ [])
-unfolding segment dipsOf dipIndices rustDips indicesFrom isDip sidesFirst centre winOf halfOf roundHalfUp floor mul div toUnsigned neighbours lowestOf sides leftOf rightOf maxFrom add sub lt le eq ne round ofInt ofBits neg
+unfolding segment dipsOf foundIn dipAt depthOf dipIndices rustDips indicesFrom isDip sidesFirst centre winOf halfOf roundHalfUp floor mul div toUnsigned neighbours lowestOf sides leftOf rightOf maxFrom add sub lt le eq ne round ofInt ofBits neg
 one-dip = (refl, refl)

@@ -1,10 +1,10 @@
--- `find_dips` of demod.rs: local minima deep under both sides, half a bit apart, refined to sub-sample. Assumes nothing.
+-- `find_dips` of demod.rs: local minima deep under both sides, half a bit apart, refined to sub-sample; and their depths (02, request 05). Assumes nothing.
 use Prim.Native.Nat.{ℕ, zero, suc, _+_, _-_, _*_, min}
 use mathlib.Core.Path.{_≡_}
 use mathlib.Core.Bool.{Bool, true, false, cond, not, _&&_, _||_}
 use mathlib.Core.List.{List, [], _∷_, _++_, map}
 use lib.Dec.{ltb}
-use lib.ListN.{length, drop, getD}
+use lib.ListN.{length, take, drop, getD}
 use lib.Seq.{slice}
 use lib.Ieee.{Float, nan, binary64, add, sub, mul, div, le, lt, eq, ne, isNan}
 use Rattle.floats.specs.Fold.{maxOf, maxFrom}
@@ -13,7 +13,7 @@ use Rattle.limits.specs.Limits.{badRate, short, long, badSample, badNumber, buf
 use Rattle.limits.specs.Samples.{rateOk, allDbm}
 use Rattle.limits.specs.Answer.{Answer, refused, accepted, answer, leaves}
 use Rattle.rates.specs.Rates.{winOf, halfOf}
-use Rattle.dips.specs.Numbers.{dipDb, dimDb, lowestSide}
+use Rattle.dips.specs.Numbers.{dipDb, dimDb, lowestSide, depthsAt}
 use Rattle.dips.specs.declared.DipCount.{DipCount}
 use Rattle.dips.specs.declared.DipCount.the-variants.{Refused, Count}
 
@@ -73,14 +73,45 @@ centre seg i =
     let denom = add binary64 (sub binary64 a (mul binary64 (num 2) v)) c in
     add binary64 (num i) (cond (ne denom (num 0)) (div binary64 (mul binary64 (near 1 2) (sub binary64 a c)) denom) (num 0))
 
+-- 02, request 05: "Each dip carries its depth, the lower side level minus its own, rounded once in the levels' own width": binary64, since demod.rs
+-- widens the samples before it compares levels
+unfoldable pub depthOf : ℕ → List Float → ℕ → Float
+unfolding leftOf rightOf
+depthOf win seg i = sub binary64 (minOf (leftOf win seg i) (rightOf win seg i)) (getD seg i nan)
+
+pub record Dip : Type 0 where
+  pub at : Float
+  pub depth : Float
+
+unfoldable pub dipAt : ℕ → List Float → ℕ → Dip
+unfolding centre depthOf
+dipAt win seg i = record { at = centre seg i; depth = depthOf win seg i }
+
+-- the dips of a burst
+unfoldable pub foundIn : List Float → ℕ → Float → List Dip
+unfolding dipIndices dipAt
+foundIn seg rate level = map (dipAt (winOf rate) seg) (dipIndices seg rate level)
+
+-- where dips are, and how deep
+abbrev pub positionsOf : List Dip → List Float
+positionsOf ds = map (λ d. d .at) ds
+
+abbrev pub depthsOf : List Dip → List Float
+depthsOf ds = map (λ d. d .depth) ds
+
 unfoldable pub dipsOf : List Float → ℕ → Float → List Float
-unfolding dipIndices centre
-dipsOf seg rate level = map (centre seg) (dipIndices seg rate level)
+unfolding foundIn
+dipsOf seg rate level = positionsOf (foundIn seg rate level)
 
 -- a list stands in the front of a slice, n long, and past it the slice is as it was
 pub record Written (found old : List Float) (n : ℕ) (now : List Float) : Type 0 where
   pub count : n ≡ length found
   pub holds : now ≡ found ++ drop n old
+
+-- n dips stand in a slice: where they are in its front, how deep from place 3,000 on
+pub record Stored (found : List Dip) (old : List Float) (n : ℕ) (now : List Float) : Type 0 where
+  pub positions : Written (positionsOf found) (take depthsAt old) n (take depthsAt now)
+  pub depths : Written (depthsOf found) (drop depthsAt old) n (drop depthsAt now)
 
 -- 01's number and values of each answer: how many dips
 unfoldable pub said : DipCount → Answer ℕ
@@ -98,11 +129,17 @@ dipCause seg rate level room =
     0))))
 
 unfoldable pub dipAnswer : List Float → ℕ → Float → ℕ → Answer ℕ
-unfolding dipsOf dipCause
-dipAnswer seg rate level room = answer (dipCause seg rate level room) (length (dipsOf seg rate level))
+unfolding foundIn dipCause
+dipAnswer seg rate level room = answer (dipCause seg rate level room) (length (foundIn seg rate level))
 
--- the slice lent for the dips after a call: they stand in its front, the rest is kept
+-- a list in the front of places, the rest as it was
+abbrev pub laid : List Float → List Float → List Float
+laid l old = l ++ drop (length l) old
+
+-- the slice lent for the dips after a call: where they are in its front, how deep from place 3,000 on, the rest is kept
 unfoldable pub dipsAfter : List Float → ℕ → Float → List Float → List Float
-unfolding dipsOf dipCause
+unfolding foundIn dipCause
 dipsAfter seg rate level old =
-    leaves (dipCause seg rate level (length old)) (dipsOf seg rate level ++ drop (length (dipsOf seg rate level)) old) old
+    leaves (dipCause seg rate level (length old))
+    (laid (positionsOf (foundIn seg rate level)) (take depthsAt old) ++ laid (depthsOf (foundIn seg rate level)) (drop depthsAt old))
+    old

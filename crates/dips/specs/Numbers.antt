@@ -25,3 +25,7 @@ widestHalf = 16
 -- no 12 s of samples have more dips
 abbrev pub mostDips : ℕ
 mostDips = 2906
+
+-- the place of the first depth in the slice lent for dips: more than there are dips
+abbrev pub depthsAt : ℕ
+depthsAt = 3000

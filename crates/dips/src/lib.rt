@@ -10,7 +10,8 @@ ghost use Rattle.limits.specs.Limits.{lowestRate, highestRate, bufferS, mostSam
 ghost use Rattle.limits.specs.Samples.{allDbm};
 ghost use Rattle.rates.specs.Rates.{winOf, halfOf};
 ghost use Rattle.dips.specs.Numbers.{lowestSide, widestSide, widestHalf, mostDips};
-ghost use Rattle.dips.specs.Dips.{sides, against, neighbours, isDip, centre, dipsOf, Written, said, dipAnswer, dipsAfter};
+ghost use Rattle.dips.specs.Dips.{sides, against, neighbours, isDip, centre, depthOf, foundIn, Stored, said, dipAnswer, dipsAfter};
+ghost use Rattle.dips.specs.Tested.{tested};
 
 // A dip lies strictly more than DIP_DB under the lower side, and the higher side at most DIM_DB under the level.
 const DIP_DB: f64 = 6.0;
@@ -31,6 +32,15 @@ const SIDE_UNIT: u32 = 2 * BIT_RATE;
 const HALF_FIFTHS: u32 = 2;
 
 const HALF_UNIT: u32 = 5 * BIT_RATE;
+
+// The place of the first depth in the slice lent for dips.
+pub const DEPTHS: usize = 3000;
+
+// What the tests of a sample answer: a dip, with its depth, or none.
+pub enum Tested {
+    Other,
+    Deep(f64),
+}
 
 // What `find_dips` answers.
 pub enum DipCount {
@@ -67,18 +77,24 @@ fn side_level(seg: &[f32], half: usize, i: usize, from: usize, to: usize) -> f32
 
 // Dips are measured against the local envelope on each side (max over 1.5 bits). A real dip has a high level on both sides; this rejects the
 // rising and falling edges of the frame, and copes with the transmit power ramping during the first part of a frame.
-fn sides_high(seg: &[f32], win: usize, half: usize, level: f64, i: usize) -> bool
+// The depth is what the sample lies under the lower side (02, request 05).
+fn sides_high(seg: &[f32], win: usize, half: usize, level: f64, i: usize) -> Tested
     requires { ⌜ (neighbours half (now seg) i ≡ true) × (i < length (now seg)) × (length (now seg) ≤ mostSamples) × (win ≤ mostSamples) ⌝ }
-    ensures { λ r. ⌜ r ≡ sides level win (now (seg .entry)) i ⌝ }
+    ensures { λ r. ⌜ r ≡ tested (sides level win (now (seg .entry)) i) (depthOf win (now (seg .entry)) i) ⌝ }
 {
     let v = std::num::f32_to_f64_with_nan(seg[i]);
     let l = side_level(seg, half, i, back(i, win), i);
     let left = std::num::f32_to_f64_with_nan(l);
     let r = side_level(seg, half, i, i + 1, least(i + 1 + win, seg.len()));
     let right = std::num::f32_to_f64_with_nan(r);
-    let shallow = v >= floats::pick64(right < left, right, left) - DIP_DB;
-    let dim = floats::pick64(left < right, right, left) < level - DIM_DB;
-    !(shallow | dim)
+    let lower = floats::pick64(right < left, right, left);
+    let higher = floats::pick64(left < right, right, left);
+    let shallow = v >= lower - DIP_DB;
+    let dim = higher < level - DIM_DB;
+    if shallow | dim {
+        return Tested::Other;
+    }
+    Tested::Deep(lower - v)
 }
 
 // Whether the samples beside i don't speak against a minimum there: most samples drop out here.
@@ -120,16 +136,16 @@ fn neighbours_higher(seg: &[f32], half: usize, i: usize) -> bool
 }
 
 // The side levels cost most, so they come last.
-fn is_dip(seg: &[f32], win: usize, half: usize, level: f64, i: usize) -> bool
+fn dip_depth(seg: &[f32], win: usize, half: usize, level: f64, i: usize) -> Tested
     requires { ⌜ (0 < i) × (i + 1 < length (now seg)) × (length (now seg) ≤ mostSamples) × (win ≤ mostSamples) × (half ≤ mostSamples) × (0 < half) ⌝ }
-    ensures { λ r. ⌜ r ≡ isDip level win half (now (seg .entry)) i ⌝ }
+    ensures { λ r. ⌜ r ≡ tested (isDip level win half (now (seg .entry)) i) (depthOf win (now (seg .entry)) i) ⌝ }
 {
     if beside_higher(seg, i) {
         if neighbours_higher(seg, half, i) {
             return sides_high(seg, win, half, level, i);
         }
     }
-    false
+    Tested::Other
 }
 
 // The dip's place, refined to sub-sample.
@@ -160,28 +176,32 @@ fn half_window(rate: u32) -> usize
     ((HALF_FIFTHS * rate + HALF_UNIT / 2) / HALF_UNIT) as usize
 }
 
-// The dips of valid samples into the front of a slice; a dip leaves no room for another in its half window.
+// The dips of valid samples into a slice, their depths from place 3,000 on; a dip leaves no room for another in its half window.
 pub fn dips_into(seg: &[f32], rate: u32, level: f64, dips: &mut [f64]) -> usize
     requires { ⌜ (lowestRate ≤ rate) × (rate ≤ highestRate) × (length (now seg) ≤ bufferS * rate) × (allDbm (now seg) ≡ true) × (scratch64 ≤ length (now dips)) ⌝ }
-    ensures { λ r. ⌜ Written (dipsOf (now (seg .entry)) rate level) (now (dips .entry)) r (now (dips .exit)) × (r ≤ mostDips) ⌝ }
+    ensures { λ r. ⌜ Stored (foundIn (now (seg .entry)) rate level) (now (dips .entry)) r (now (dips .exit)) × (r ≤ mostDips) ⌝ }
 {
     let win = side_window(rate);
     let half = half_window(rate);
     let mut n: usize = 0;
     let mut i: usize = 1;
     while i + 1 < seg.len() {
-        if is_dip(seg, win, half, level, i) {
-            dips[n] = dip_centre(seg, i);
-            n += 1;
-            i += half + 1;
-        } else {
-            i += 1;
+        match dip_depth(seg, win, half, level, i) {
+            Tested::Other => {
+                i += 1;
+            }
+            Tested::Deep(depth) => {
+                dips[n] = dip_centre(seg, i);
+                dips[DEPTHS + n] = depth;
+                n += 1;
+                i += half + 1;
+            }
         }
     }
     n
 }
 
-// The dips of a burst, into the front of the slice lent for them (demod.rs `find_dips`).
+// The dips of a burst into the slice lent for them (demod.rs `find_dips`), their depths from place 3,000 on.
 pub fn find_dips(seg: &[f32], rate: u32, level: f64, dips: &mut [f64]) -> DipCount
     ensures { λ r. ⌜ (said r ≡ dipAnswer (now (seg .entry)) rate level (length (now (dips .entry))))
         × (now (dips .exit) ≡ dipsAfter (now (seg .entry)) rate level (now (dips .entry))) ⌝ }

@@ -92,7 +92,7 @@ fn hear(
     samples: &mut [f32; 12000],
     events: &mut [u8; 30720],
     scratch32: &mut [f32; 12000],
-    scratch64: &mut [f64; 3000],
+    scratch64: &mut [f64; limits::SCRATCH64],
 ) -> Stream
     requires { ⌜ end ≤ length (now input) ⌝ }
 {
@@ -144,7 +144,7 @@ fn turn(
     samples: &mut [f32; 12000],
     events: &mut [u8; 30720],
     scratch32: &mut [f32; 12000],
-    scratch64: &mut [f64; 3000],
+    scratch64: &mut [f64; limits::SCRATCH64],
 ) -> Stream
     requires { ⌜ s .filled < 4096 ⌝ }
     ensures { λ r. ⌜ r .filled < 4096 ⌝ }
@@ -190,7 +190,7 @@ fn finish(
     samples: &mut [f32; 12000],
     events: &mut [u8; 30720],
     scratch32: &mut [f32; 12000],
-    scratch64: &mut [f64; 3000],
+    scratch64: &mut [f64; limits::SCRATCH64],
 ) {
     if s.going {
         let receiver = s.receiver;
@@ -206,7 +206,7 @@ fn run(shifts: Shifts, closed: &[u32]) {
     let mut samples = [0.0f32; 12000];
     let mut events = [0u8; 30720];
     let mut scratch32 = [0.0f32; 12000];
-    let mut scratch64 = [0.0f64; 3000];
+    let mut scratch64 = [0.0f64; limits::SCRATCH64];
     let mut s = fresh();
     let mut left = MOST_READS;
     while left > 0 && s.more {

@@ -75,7 +75,7 @@ runs-exist p (a ∷ more) w =
 -- finds nothing
 
 abbrev enough : Request → Asked
-enough r = record { request = r; schedule = noSchedule; events = replicate 30720 0; scratch32 = replicate 2400 nan; scratch64 = replicate 3000 nan }
+enough r = record { request = r; schedule = noSchedule; events = replicate 30720 0; scratch32 = replicate 2400 nan; scratch64 = replicate 6000 nan }
 
 abbrev tooLittle : Request → Asked
 tooLittle r = record { request = r; schedule = noSchedule; events = replicate 30720 0; scratch32 = replicate 2400 nan; scratch64 = [] }
@@ -87,7 +87,7 @@ closedTwice r =
       schedule = record { shifts = noShifts; closed = 3 ∷ 3 ∷ [] };
       events = replicate 30720 0;
       scratch32 = replicate 2400 nan;
-      scratch64 = replicate 3000 nan;
+      scratch64 = replicate 6000 nan;
     }
 
 abbrev places : List Float

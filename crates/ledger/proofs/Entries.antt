@@ -10,7 +10,7 @@ use lib.Ieee.{Float}
 use borrow.Author.Tests.{le-leb}
 use Rattle.ledger.specs.Types.{Pending}
 use Rattle.ledger.specs.Frames.{Frame, keyOf, rankOf, rssiOf, timeOf, startOf}
-use Rattle.ledger.specs.Merge.{entryKey, has, threeRanks, louder, openEntry, merge, mergeAll, expires}
+use Rattle.ledger.specs.Merge.{entryKey, has, threeRanks, louder, openEntry, merge, mergeAll, expires, finished}
 use Rattle.ledger.specs.Ledger.{Message, frames, messageKey, summary, ranked, latest, complete}
 use Rattle.ledger.specs.Causes.{mostPayload, mostAuth, spansFit, inFront, entryFits}
 use Rattle.ledger.proofs.Basics.{and-true, Every}
@@ -72,13 +72,14 @@ pub record Same (e d : Pending) : Type 0 where
   pub auth : d .message .auth ≡ e .message .auth
   pub time : d .message .time ≡ e .message .time
   pub start : d .message .start ≡ e .message .start
+  pub depth : d .message .depth ≡ e .message .depth
 
 all-same : (e : Pending) (l : List Frame) → Same e (mergeAll e l)
 unfolding mergeAll merge entryKey
-all-same e [] = record { key = refl; payload = refl; auth = refl; time = refl; start = refl }
+all-same e [] = record { key = refl; payload = refl; auth = refl; time = refl; start = refl; depth = refl }
 all-same e (f ∷ l) =
     let i = all-same (merge e f) l in
-    record { key = i .key; payload = i .payload; auth = i .auth; time = i .time; start = i .start }
+    record { key = i .key; payload = i .payload; auth = i .auth; time = i .time; start = i .start; depth = i .depth }
 
 pub summary-key : (m : Message) → entryKey (summary m) ≡ messageKey m
 unfolding openEntry keyOf entryKey
@@ -99,6 +100,11 @@ summary-time m = all-same (openEntry (m .first)) (m .more) .time
 pub summary-start : (m : Message) → summary m .message .start ≡ startOf (m .first)
 unfolding openEntry startOf
 summary-start m = all-same (openEntry (m .first)) (m .more) .start
+
+-- "a message has its first frame's" (02, request 05), as it is written
+pub message-depth : (m : Message) → finished (summary m) .depth ≡ m .first .reception .depth
+unfolding openEntry finished
+message-depth m = all-same (openEntry (m .first)) (m .more) .depth
 
 all-last : (e : Pending) (g : Frame) (l : List Frame) → e .last ≡ timeOf g → mergeAll e l .last ≡ timeOf (latest g l)
 unfolding mergeAll merge latest

@@ -131,7 +131,7 @@ pub record Lent : Type 0 where
   pub scratch32 : ℕ
   pub scratch64 : ℕ
 
--- "lent slice short: samples 12×rate, events 30,720 bytes, scratch 12×rate f32 and 3,000 f64"
+-- "lent slice short: samples 12×rate, events 30,720 bytes, scratch 12×rate f32 and 3,000 f64"; 02, request 05: "refusal 2 now wants 6,000 f64 of scratch"
 abbrev pub tooShort : ℕ → Lent → Bool
 tooShort rate b =
     ltb (b .samples) (capacity rate) || (ltb (b .events) eventsSize || (ltb (b .scratch32) (capacity rate) || ltb (b .scratch64) scratch64))

@@ -41,6 +41,7 @@ heard device rank second =
       end = num (second + 1);
       rssi = neg (num (60 + second));
       «clock_error_ppm» = pos 0;
+      depth = 40 + second;
     }
 
 abbrev frameOf : ℕ → ℕ → ℕ → Frame
@@ -117,15 +118,19 @@ pub listed : (joins byFrames (frameOf 8 0 1 ∷ frameOf 9 0 5 ∷ []) [] ≡ rec
 unfolding joins keyOf ledger.join
 listed = (refl, refl)
 
--- ---- "of different device or different counter": two frames of one message are not alike in either order, in its time and in what joined last
+-- ---- "of different device or different counter": two frames of one message are not alike in either order, in its time, its depth and in what joined last
 
 abbrev times : List Frame → List Float
 times fs = map (λ (e : Pending). e .message .time) (joins byEntry fs [])
+
+abbrev depths : List Frame → List ℕ
+depths fs = map (λ (e : Pending). e .message .depth) (joins byEntry fs [])
 
 abbrev lasts : List Frame → List Float
 lasts fs = map (λ (e : Pending). e .last) (joins byEntry fs [])
 
 pub one-message : (times (frameOf 7 0 1 ∷ frameOf 7 1 5 ∷ []) ≡ num 1 ∷ []) × (lasts (frameOf 7 0 1 ∷ frameOf 7 1 5 ∷ []) ≡ num 5 ∷ [])
     × (times (frameOf 7 1 5 ∷ frameOf 7 0 1 ∷ []) ≡ num 5 ∷ []) × (lasts (frameOf 7 1 5 ∷ frameOf 7 0 1 ∷ []) ≡ num 1 ∷ [])
+    × (depths (frameOf 7 0 1 ∷ frameOf 7 1 5 ∷ []) ≡ 41 ∷ []) × (depths (frameOf 7 1 5 ∷ frameOf 7 0 1 ∷ []) ≡ 45 ∷ [])
 unfolding joins keyOf timeOf ledger.join merge.openEntry merge.merge merge.entryKey
-one-message = (refl, refl, refl, refl)
+one-message = (refl, refl, refl, refl, refl, refl)

@@ -14,7 +14,7 @@ use lib.Ieee.{Float, binary64, neg, ofInt, lt, sub, add, mul, div, le, eq, isNan
 use Rattle.floats.specs.Number.{num}
 use Rattle.endian.specs.Bytes.{bytesOf}
 use Rattle.record.specs.Record.{upTo, headBytes, markBytes, identityBytes, frameRecord, messageRecord}
-use Rattle.record.specs.Readers.{markOf}
+use Rattle.record.specs.Readers.{depthOf, markOf}
 use Rattle.limits.specs.Samples.{allDbm}
 use Rattle.shifts.specs.Shifts as shifts
 use Rattle.shifts.specs.Shifts.{Schedule, noSchedule, markBy}
@@ -55,6 +55,7 @@ heard =
       end = div binary64 (num 49) (num 20);
       rssi = neg (num 60);
       «clock_error_ppm» = pos 0;
+      depth = 45;
     }
 
 pub rank-is : (x : DecodedFrame) → some heard ≡ some x → x .frame .rank ≤ 2
@@ -75,10 +76,10 @@ demo =
     }
 
 abbrev enough : Lent
-enough = record { samples = 2400; events = 30720; scratch32 = 2400; scratch64 = 3000 }
+enough = record { samples = 2400; events = 30720; scratch32 = 2400; scratch64 = 6000 }
 
 abbrev tooLittle : Lent
-tooLittle = record { samples = 2400; events = 30720; scratch32 = 2400; scratch64 = 2999 }
+tooLittle = record { samples = 2400; events = 30720; scratch32 = 2400; scratch64 = 5999 }
 
 -- 3 s and 8.1 s of -110 dBm
 abbrev three : Call
@@ -124,15 +125,19 @@ refused = refl
 abbrev marks : Schedule → Ledger byFrames → Call → List ℕ
 marks p l c = map markOf (map (recordOf (markBy p)) (callEvents 200 demo l c 0))
 
+-- and byte 33
+abbrev depths : Ledger byFrames → Call → List ℕ
+depths l c = map depthOf (map (recordOf (markBy noSchedule)) (callEvents 200 demo l c 0))
+
 abbrev heardThen : Ledger byFrames
 heardThen = afterCall 200 demo fresh three 0
 
--- the message came at 1 s, whenever it is written: the first minute of Monday where the stream began at 0, the second where it began at 59, and a closed date; a frame has no mark
+-- the message came at 1 s, whenever it is written: the first minute of Monday where the stream began at 0, the second where it began at 59, and a closed date; a frame has no mark. Both have the depth
 pub marked : (marks (given (Given 0) 0 1 []) heardThen flush ≡ 1 ∷ []) × (marks (given (Given 59) 0 1 []) heardThen flush ≡ 2 ∷ [])
     × (marks (given (Given 0) 0 1 (0 ∷ [])) heardThen flush ≡ 2 ∷ []) × (marks (given Unknown 0 1 (0 ∷ [])) heardThen flush ≡ 0 ∷ [])
-    × (marks (given (Given 0) 0 1 []) fresh three ≡ 0 ∷ [])
+    × (marks (given (Given 0) 0 1 []) fresh three ≡ 0 ∷ []) × (depths fresh three ≡ 45 ∷ []) × (depths heardThen flush ≡ 45 ∷ [])
 unfolding recordOf frameRecord messageRecord headBytes identityBytes markBytes upTo bytesOf keyOf rankOf rightCrc rssiOf timeOf startOf allDbm le lt eq neg ofInt sub add mul div isNan round toUnsigned shifts.markFrom shifts.markAt shifts.holds shifts.any causes.callEvents causes.afterCall ledger.fresh ledger.scans ledger.startCall ledger.fills ledger.fill ledger.halve ledger.amount ledger.add ledger.due ledger.scanned ledger.scan ledger.takeEach ledger.takeOne ledger.takes ledger.near ledger.spaced ledger.hear ledger.remember ledger.join ledger.forget ledger.startsFrom ledger.closed ledger.messages ledger.now ledger.seconds ledger.ready ledger.complete ledger.ranked ledger.latest ledger.chosen ledger.others merge.openEntry merge.mergeAll merge.merge merge.meet merge.has merge.spanOf merge.endAfter merge.finished merge.orElse merge.lowestLater merge.knownOf merge.entryKey
-marked = (refl, refl, refl, refl, refl)
+marked = (refl, refl, refl, refl, refl, refl, refl)
 
 -- what the bounds need of a demodulation can be had too
 pub demo-fair : Fair 200 demo

@@ -23,7 +23,7 @@ abbrev pub frameAt : ℕ → DecodedFrame → Frame
 frameAt s d =
     record {
       uplink = d .frame;
-      reception = record { «clock_error_ppm» = d .«clock_error_ppm»; rssi = d .rssi; time = d .time; end = d .end; start = s };
+      reception = record { «clock_error_ppm» = d .«clock_error_ppm»; rssi = d .rssi; time = d .time; end = d .end; start = s; depth = d .depth };
     }
 
 unfoldable pub keyOf : Frame → Key

@@ -44,10 +44,11 @@ heard device time =
       end = time;
       rssi = neg (num 60);
       «clock_error_ppm» = pos 0;
+      depth = 0;
     }
 
 abbrev enough : Lent
-enough = record { samples = 2400; events = 30720; scratch32 = 2400; scratch64 = 3000 }
+enough = record { samples = 2400; events = 30720; scratch32 = 2400; scratch64 = 6000 }
 
 abbrev ok : Call → Attempt
 ok c = record { call = c; lent = enough; schedule = noSchedule }

@@ -62,7 +62,7 @@ endAfter o f = cond (eqb (rankOf f) 0) (Known (f .reception .end)) o
 unfoldable pub louder : Float → Float → Float
 louder v w = cond (lt v w) w v
 
--- where no message is open with its device and counter
+-- where no message is open with its device and counter; "a message has its first frame's" depth (02, request 05)
 unfoldable pub openEntry : Frame → Pending
 openEntry f =
     record {
@@ -83,6 +83,7 @@ openEntry f =
             spans = spanOf f ∷ emptySpan ∷ emptySpan ∷ [];
             «clock_error_ppm» = f .reception .«clock_error_ppm»;
             start = f .reception .start;
+            depth = f .reception .depth;
           };
       last = f .reception .time;
     }
@@ -108,6 +109,7 @@ merge e f =
             spans = meet (e .message .spans) f;
             «clock_error_ppm» = e .message .«clock_error_ppm»;
             start = e .message .start;
+            depth = e .message .depth;
           };
       last = timeOf f;
     }
@@ -171,4 +173,5 @@ finished e =
       spans = e .message .spans;
       «clock_error_ppm» = e .message .«clock_error_ppm»;
       start = e .message .start;
+      depth = e .message .depth;
     }

@@ -79,15 +79,16 @@ mostBits = 1024
 abbrev pub mostRecordBytes : ℕ
 mostRecordBytes = 120000000
 
--- events 30,720 bytes (C function: 120), scratch 3,000 f64
+-- events 30,720 bytes (C function: 120)
 abbrev pub recordSize : ℕ
 recordSize = 120
 
 abbrev pub eventsSize : ℕ
 eventsSize = 30720
 
+-- 02, request 05: 'refusal 2 now wants 6,000 f64 of scratch'
 abbrev pub scratch64 : ℕ
-scratch64 = 3000
+scratch64 = 6000
 
 -- stream would pass 2^40 samples
 abbrev pub longestStream : ℕ

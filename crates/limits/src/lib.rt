@@ -69,8 +69,8 @@ pub const RECORD: usize = 120;
 
 pub const EVENTS: usize = 30_720;
 
-// f64 places of scratch.
-pub const SCRATCH64: usize = 3000;
+// f64 places of scratch (02, request 05).
+pub const SCRATCH64: usize = 6000;
 
 // The longest stream, in samples: 2^40.
 pub const LONGEST_STREAM: u64 = 1_099_511_627_776;

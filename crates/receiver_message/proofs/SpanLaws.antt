@@ -196,6 +196,7 @@ changed m e x l z =
       spans = l;
       «clock_error_ppm» = z;
       start = m .start;
+      depth = m .depth;
     }
 
 pub merged-is : (p : Pending) (f : UplinkFrame) (r : Reception) (e : FirstFrameEnd) (x : Float) (l : List FrameSpan) (z : ℤ)
@@ -233,6 +234,7 @@ pub opened-is : (f : UplinkFrame) (r : Reception) (e : FirstFrameEnd) (s : Frame
                 ∷ record { rank = noSpan; time = ofBits binary64 0; end = ofBits binary64 0 } ∷ [];
             «clock_error_ppm» = z;
             start = r .start;
+            depth = r .depth;
           };
       last = r .time;
     })

@@ -150,6 +150,7 @@ pub fn opened(f: UplinkFrame, r: Reception) -> Pending
         spans: [first, none, none],
         clock_error_ppm: r.clock_error_ppm,
         start: r.start,
+        depth: r.depth,
     };
     Pending {
         message,
@@ -196,6 +197,7 @@ pub fn merged(p: Pending, f: UplinkFrame, r: Reception) -> Pending
         spans,
         clock_error_ppm: m.clock_error_ppm,
         start: m.start,
+        depth: m.depth,
     };
     joined(p, message, r.time)
 }
@@ -294,6 +296,7 @@ pub fn finished(p: Pending) -> SigfoxMessage
         spans,
         clock_error_ppm: m.clock_error_ppm,
         start: m.start,
+        depth: m.depth,
     }
 }
 

@@ -91,6 +91,7 @@ fn hear(d: DecodedFrame, start: u64, waiting: Waiting, events: &mut [u8], count:
         time: d.time,
         end: d.end,
         start,
+        depth: d.depth,
     };
     let right = f.crc_ok;
     record::put_frame(f, r, events, limits::RECORD * count);

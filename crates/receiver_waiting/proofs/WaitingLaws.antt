@@ -59,6 +59,7 @@ outside-message =
             spans = [];
             «clock_error_ppm» = pos 0;
             start = 0;
+            depth = 0;
           };
       last = nan;
     }

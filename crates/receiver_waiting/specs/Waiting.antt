@@ -66,6 +66,7 @@ blank =
             spans = blankSpan ∷ blankSpan ∷ blankSpan ∷ [];
             «clock_error_ppm» = pos 0;
             start = 0;
+            depth = 0;
           };
       last = num 0;
     }

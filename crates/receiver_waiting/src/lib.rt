@@ -127,6 +127,7 @@ fn blank() -> Pending
         spans: [none, none, none],
         clock_error_ppm: 0,
         start: 0,
+        depth: 0,
     };
     Pending { message, last: 0.0 }
 }

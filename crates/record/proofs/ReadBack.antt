@@ -14,15 +14,15 @@ use Rattle.endian.proofs.Numbers.{bytes-length}
 use Rattle.endian.proofs.Values.{pattern-small}
 use Rattle.frame.specs.declared.UplinkFrame.{UplinkFrame}
 use Rattle.record.specs.Record as rec
-use Rattle.record.specs.Record.{frameKind, messageKind, noRank, noMarks, messageMarks, frameFlags, messageFlags, repairNumber, repairPlace, maskOf, spanOf, spare, upTo, timeBytes, spanBytes, rankBytes, frameHead, messageHead, frameRecord, messageRecord}
-use Rattle.record.specs.Readers.{kindOf, rankOf, flagsOf, payloadLenOf, authLenOf, repairOf, placeOf, deviceOf, counterOf, payloadOf, authOf, markOf, ppmOf, rssiOf, spanRankOf, timeOf, endOf, spanTimeOf, spanEndOf, startOf}
+use Rattle.record.specs.Record.{frameKind, messageKind, noRank, frameMarks, messageMarks, frameFlags, messageFlags, repairNumber, repairPlace, maskOf, spanOf, spare, upTo, timeBytes, spanBytes, rankBytes, frameHead, messageHead, frameRecord, messageRecord}
+use Rattle.record.specs.Readers.{kindOf, rankOf, flagsOf, payloadLenOf, authLenOf, repairOf, placeOf, deviceOf, counterOf, payloadOf, authOf, depthOf, markOf, ppmOf, rssiOf, spanRankOf, timeOf, endOf, spanTimeOf, spanEndOf, startOf}
 use Rattle.record.specs.declared.Reception.{Reception}
 use Rattle.record.specs.declared.FrameSpan.{FrameSpan}
 use Rattle.record.specs.declared.SigfoxMessage.{SigfoxMessage}
 use Rattle.record.proofs.PartLaws.{length-span}
 use Rattle.record.proofs.RecordLaws.{length-spans}
 use Rattle.record.proofs.JoinLaws.{number-part, number-of-part}
-use Rattle.record.proofs.ReaderLaws.{Fields, Sized, Held, at-spans, read-place, read-device, read-counter, read-payload, read-auth, read-mark, read-ppm, read-rssi, read-span-rank, read-time, read-end, read-start}
+use Rattle.record.proofs.ReaderLaws.{Fields, Sized, Held, at-spans, read-place, read-device, read-counter, read-payload, read-auth, read-depth, read-mark, read-ppm, read-rssi, read-span-rank, read-time, read-end, read-start}
 
 -- ---- frames
 
@@ -33,7 +33,7 @@ frameFields f r = record {
   counter = f .counter;
   payload = f .payload;
   auth = f .auth;
-  marks = noMarks;
+  marks = frameMarks r;
   ppm = r .«clock_error_ppm»;
   rssi = r .rssi;
   rank0 = noRank;
@@ -67,6 +67,7 @@ pub record FrameRead (f : UplinkFrame) (r : Reception) (l : List ℕ) : Type 0 w
   pub counter : counterOf l ≡ f .counter
   pub payload : payloadOf l ≡ upTo (f .«payload_len») (f .payload)
   pub auth : authOf l ≡ upTo (f .«auth_len») (f .auth)
+  pub depth : depthOf l ≡ r .depth
   pub marked : markOf l ≡ 0
   pub ppm : ppmOf l ≡ r .«clock_error_ppm»
   pub rssi : rssiOf l ≡ r .rssi
@@ -91,6 +92,7 @@ frame-read f r h =
       counter = read-counter x (h .sized) (h .counter-held);
       payload = read-payload x (h .sized);
       auth = read-auth x (h .sized);
+      depth = read-depth x (h .sized);
       marked = read-mark x (h .sized);
       ppm = read-ppm x (h .sized) (h .ppm-held);
       rssi = read-rssi x (h .sized) (h .rssi-held);
@@ -109,7 +111,7 @@ messageFields mark m = record {
   counter = m .counter;
   payload = m .payload;
   auth = m .auth;
-  marks = messageMarks mark;
+  marks = messageMarks mark m;
   ppm = m .«clock_error_ppm»;
   rssi = m .rssi;
   rank0 = spanOf m 0 .rank;
@@ -194,6 +196,7 @@ pub record MessageRead (mark : ℕ) (m : SigfoxMessage) (l : List ℕ) : Type 0 
   pub counter : counterOf l ≡ m .counter
   pub payload : payloadOf l ≡ upTo (m .«payload_len») (m .payload)
   pub auth : authOf l ≡ upTo (m .«auth_len») (m .auth)
+  pub depth : depthOf l ≡ m .depth
   pub marked : markOf l ≡ mark
   pub ppm : ppmOf l ≡ m .«clock_error_ppm»
   pub rssi : rssiOf l ≡ m .rssi
@@ -220,6 +223,7 @@ message-read mark m h =
       counter = read-counter x (h .sized) (h .counter-held);
       payload = read-payload x (h .sized);
       auth = read-auth x (h .sized);
+      depth = read-depth x (h .sized);
       marked = read-mark x (h .sized);
       ppm = read-ppm x (h .sized) (h .ppm-held);
       rssi = read-rssi x (h .sized) (h .rssi-held);

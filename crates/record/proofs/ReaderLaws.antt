@@ -13,10 +13,10 @@ use Rattle.endian.specs.Bytes.{bytesOf, bitsOf, signedBits, signedOf, numberAt}
 use Rattle.endian.proofs.Numbers.{bytes-length}
 use Rattle.endian.proofs.Values.{signed-small, signed-back, pattern-small}
 use Rattle.record.specs.Record.{spare, upTo, headBytes, markBytes, identityBytes, levelBytes, rankBytes, timeBytes, startBytes}
-use Rattle.record.specs.Readers.{kindOf, rankOf, flagsOf, payloadLenOf, authLenOf, repairOf, placeOf, deviceOf, counterOf, payloadOf, authOf, markOf, ppmOf, rssiOf, spanRankOf, timeOf, endOf, startOf}
+use Rattle.record.specs.Readers.{byteAt, kindOf, rankOf, flagsOf, payloadLenOf, authLenOf, repairOf, placeOf, deviceOf, counterOf, payloadOf, authOf, depthOf, markOf, ppmOf, rssiOf, spanRankOf, timeOf, endOf, startOf}
 use Rattle.record.specs.declared.parts.Head.{Head}
 use Rattle.record.specs.declared.parts.Marks.{Marks}
-use Rattle.record.proofs.PartLaws.{length-up-to, length-head, length-identity, length-levels, length-ranks, length-times}
+use Rattle.record.proofs.PartLaws.{length-up-to, length-head, length-marks, length-identity, length-levels, length-ranks, length-times}
 use Rattle.record.proofs.JoinLaws.{joined, pick, before, part, number-part, whole-part, number-of-part, byte-part}
 
 -- what a record is made of
@@ -207,11 +207,20 @@ module _ (x : Fields) (h : Sized x) where
       part (headBytes (x .head)) (parts x) 1 5 20 28 (omega (arith, n1)) (omega (arith, n2))
       ∙ whole-part (bytesOf 4 (x .device)) later 4 20 5 (omega (arith, bytes-length 4 (x .device), bytes-length 2 (x .counter), length-payload)) length-auth
 
+  -- a byte of the marks
+  at-marks : (i : ℕ) → i < 3 → byteAt (made x) (33 + i) ≡ getD (markBytes (x .marks)) i 0
+  unfolding identityBytes
+  at-marks i b =
+      byte-part (headBytes (x .head)) (parts x) 1 (33 + i) (25 + i) (omega (arith, n1)) (omega (arith, n2))
+      ∙ byte-part (bytesOf 4 (x .device)) later 5 (25 + i) i (omega (arith, bytes-length 4 (x .device), bytes-length 2 (x .counter), length-payload, length-auth)) (omega (arith, length-marks (x .marks)))
+
+  pub read-depth : depthOf (made x) ≡ x .marks .depth
+  unfolding markBytes
+  read-depth = at-marks 0 (omega arith)
+
   pub read-mark : markOf (made x) ≡ x .marks .shift
-  unfolding identityBytes markBytes
-  read-mark =
-      byte-part (headBytes (x .head)) (parts x) 1 34 26 (omega (arith, n1)) (omega (arith, n2))
-      ∙ byte-part (bytesOf 4 (x .device)) later 5 26 1 (omega (arith, bytes-length 4 (x .device), bytes-length 2 (x .counter), length-payload, length-auth)) (omega arith)
+  unfolding markBytes
+  read-mark = at-marks 1 (omega arith)
 
 -- ---- fields at the edges of their widths are held
 
@@ -222,7 +231,7 @@ edgeFields = record {
   counter = 65535;
   payload = spare 12;
   auth = spare 5;
-  marks = record { shift = 255 };
+  marks = record { depth = 255; shift = 255 };
   ppm = negsuc 0x7ffffffe;
   rssi = ofBits binary32 0x7f7fffff;
   rank0 = 255;

@@ -14,9 +14,9 @@ use Rattle.frame.specs.declared.Outcome.the-variants.{Refused, Nothing, Frame}
 use Rattle.record.specs.Record.{frameRecord}
 use Rattle.record.specs.declared.Reception.{Reception}
 
--- bits alone have no clock, RSSI, times and start
+-- bits alone have no clock, RSSI, times and start; "the C function, which has no dips, writes 0" (02, request 05)
 abbrev pub unheard : Reception
-unheard = record { «clock_error_ppm» = pos 0; rssi = ofBits binary32 0; time = ofBits binary64 0; end = ofBits binary64 0; start = 0 }
+unheard = record { «clock_error_ppm» = pos 0; rssi = ofBits binary32 0; time = ofBits binary64 0; end = ofBits binary64 0; start = 0; depth = 0 }
 
 unfoldable pub decodeNumber : List ℕ → List ℕ → ℕ
 decodeNumber bits out = cond (ltb (length out) recordSize) short (numberOf (uplinkAnswer bits .outcome))

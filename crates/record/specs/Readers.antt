@@ -43,6 +43,10 @@ payloadOf l = take 12 (drop 16 l)
 abbrev pub authOf : List ℕ → List ℕ
 authOf l = take 5 (drop 28 l)
 
+-- the dips' depth in half decibels (02, request 05)
+abbrev pub depthOf : List ℕ → ℕ
+depthOf l = byteAt l 33
+
 -- the mark of a message (02, request 03)
 abbrev pub markOf : List ℕ → ℕ
 markOf l = byteAt l 34

@@ -90,12 +90,9 @@ maskOf m = rankBit (spanOf m 0 .rank) + rankBit (spanOf m 1 .rank) + rankBit (sp
 unfoldable pub headBytes : Head → List ℕ
 headBytes h = h .kind ∷ h .rank ∷ h .flags ∷ h .«payload_len» ∷ h .«auth_len» ∷ h .repair ∷ bytesOf 2 (h .place)
 
--- 33-35: "Event byte 34 holds the mark" (02, request 03); spare bytes beside it
+-- 33-35: "Event byte 33 gives it in half decibels" (02, request 05: the depth), "Event byte 34 holds the mark" (request 03), a spare byte
 unfoldable pub markBytes : Marks → List ℕ
-markBytes k = spare 1 ++ (k .shift ∷ spare 1)
-
-abbrev pub noMarks : Marks
-noMarks = record { shift = 0 }
+markBytes k = k .depth ∷ k .shift ∷ spare 1
 
 -- 8-35: device, counter, payload and auth with their lengths, marks
 unfoldable pub identityBytes : ℕ → ℕ → ℕ → List ℕ → ℕ → List ℕ → Marks → List ℕ
@@ -140,11 +137,15 @@ frameHead f = record {
   place = repairPlace (f .repaired);
 }
 
+-- a frame has a depth and no mark
+abbrev pub frameMarks : Reception → Marks
+frameMarks r = record { depth = r .depth; shift = 0 }
+
 unfoldable pub frameRecord : UplinkFrame → Reception → List ℕ
 unfolding headBytes identityBytes levelBytes rankBytes timeBytes
 frameRecord f r =
     headBytes (frameHead f)
-    ++ (identityBytes (f .«device_id») (f .counter) (f .«payload_len») (f .payload) (f .«auth_len») (f .auth) noMarks
+    ++ (identityBytes (f .«device_id») (f .counter) (f .«payload_len») (f .payload) (f .«auth_len») (f .auth) (frameMarks r)
     ++ (levelBytes (r .«clock_error_ppm») (r .rssi)
     ++ (rankBytes noRank noRank noRank
     ++ (timeBytes (r .time) (r .end)
@@ -162,15 +163,15 @@ messageHead m = record {
   place = 0;
 }
 
-abbrev pub messageMarks : ℕ → Marks
-messageMarks mark = record { shift = mark }
+abbrev pub messageMarks : ℕ → SigfoxMessage → Marks
+messageMarks mark m = record { depth = m .depth; shift = mark }
 
 -- a message with its mark
 unfoldable pub messageRecord : ℕ → SigfoxMessage → List ℕ
 unfolding headBytes identityBytes levelBytes rankBytes timeBytes spanBytes
 messageRecord mark m =
     headBytes (messageHead m)
-    ++ (identityBytes (m .«device_id») (m .counter) (m .«payload_len») (m .payload) (m .«auth_len») (m .auth) (messageMarks mark)
+    ++ (identityBytes (m .«device_id») (m .counter) (m .«payload_len») (m .payload) (m .«auth_len») (m .auth) (messageMarks mark m)
     ++ (levelBytes (m .«clock_error_ppm») (m .rssi)
     ++ (rankBytes (spanOf m 0 .rank) (spanOf m 1 .rank) (spanOf m 2 .rank)
     ++ (timeBytes (m .time) (endOf (m .«first_frame_end»))

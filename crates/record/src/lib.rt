@@ -44,6 +44,8 @@ pub struct Reception {
     pub end: f64,
     // Absolute sample.
     pub start: u64,
+    // Of the dips, in half decibels.
+    pub depth: u8,
 }
 
 // When a frame of a message was on air; rank 255: no span in this place.
@@ -75,6 +77,8 @@ pub struct SigfoxMessage {
     pub spans: [FrameSpan; 3],
     pub clock_error_ppm: i32,
     pub start: u64,
+    // Of its first frame's dips, in half decibels.
+    pub depth: u8,
 }
 
 fn frame_head(f: UplinkFrame) -> Head
@@ -108,7 +112,10 @@ pub fn put_frame(f: UplinkFrame, r: Reception, out: &mut [u8], at: usize)
         f.counter,
         &payload,
         &auth,
-        Marks { shift: 0 },
+        Marks {
+            depth: r.depth,
+            shift: 0,
+        },
         r.clock_error_ppm,
         r.rssi,
     );
@@ -155,7 +162,10 @@ pub fn put_message(m: SigfoxMessage, mark: u8, out: &mut [u8], at: usize)
         m.counter,
         &payload,
         &auth,
-        Marks { shift: mark },
+        Marks {
+            depth: m.depth,
+            shift: mark,
+        },
         m.clock_error_ppm,
         m.rssi,
     );
@@ -184,6 +194,7 @@ pub extern "C" fn sigfox_decode_bits(bits: &[u8], record: &mut [u8]) -> u8
                 time: 0.0,
                 end: 0.0,
                 start: 0,
+                depth: 0,
             };
             let found = decoded.frame;
             put_frame(found, heard, record, 0);

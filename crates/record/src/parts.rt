@@ -22,6 +22,7 @@ pub struct Head {
 
 // Bytes 33 to 35: what 02 adds to a record.
 pub struct Marks {
+    pub depth: u8,
     pub shift: u8,
 }
 
@@ -66,7 +67,7 @@ pub fn put_marks(out: &mut [u8], at: usize, k: Marks)
     requires { ⌜ at + 3 ≤ length (now out) ⌝ }
     ensures { λ _. ⌜ now (out .exit) ≡ sets (now (out .entry)) at (markBytes k) ⌝ }
 {
-    put_byte(out, at, 0);
+    put_byte(out, at, k.depth);
     put_byte(out, at + 1, k.shift);
     put_byte(out, at + 2, 0);
 }

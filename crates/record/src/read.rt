@@ -3,7 +3,7 @@ ghost use mathlib.Core.Path.{_≡_};
 ghost use Prim.Native.Nat.{_≤_, _<_};
 ghost use lib.ListN.{length};
 ghost use Rattle.limits.specs.Limits.{recordSize};
-ghost use Rattle.record.specs.Readers.{kindOf, rankOf, flagsOf, payloadLenOf, authLenOf, repairOf, placeOf, deviceOf, counterOf, markOf, ppmOf, rssiOf, timeOf, endOf, startOf, spanRankOf, spanTimeOf, spanEndOf};
+ghost use Rattle.record.specs.Readers.{kindOf, rankOf, flagsOf, payloadLenOf, authLenOf, repairOf, placeOf, deviceOf, counterOf, depthOf, markOf, ppmOf, rssiOf, timeOf, endOf, startOf, spanRankOf, spanTimeOf, spanEndOf};
 
 pub fn kind_of(r: &[u8]) -> u8
     requires { ⌜ recordSize ≤ length (now r) ⌝ }
@@ -67,6 +67,14 @@ pub fn counter_of(r: &[u8]) -> u16
     ensures { λ x. ⌜ x ≡ counterOf (now (r .entry)) ⌝ }
 {
     endian::get_u16(r, 12)
+}
+
+// Half decibels of the dips' depth; 0 where there were none.
+pub fn depth_of(r: &[u8]) -> u8
+    requires { ⌜ recordSize ≤ length (now r) ⌝ }
+    ensures { λ x. ⌜ x ≡ depthOf (now (r .entry)) ⌝ }
+{
+    r[33]
 }
 
 // The mark of a message: 1 inside its shifts, 2 outside, 0 where no start second was given.

@@ -6,7 +6,7 @@ use frame::Outcome;
 use record::Reception;
 use replay::Head;
 
-// The record is the C function's, with the clock error set.
+// The record is the C function's, with the clock error and the depth set.
 fn print_frame(d: DecodedFrame) -> bool {
     let mut out = [0u8; 120];
     let found = d.frame;
@@ -16,6 +16,7 @@ fn print_frame(d: DecodedFrame) -> bool {
         time: 0.0,
         end: 0.0,
         start: 0,
+        depth: d.depth,
     };
     record::put_frame(found, clock, &mut out, 0);
     replay_records::print_record(&mut out);
@@ -52,7 +53,7 @@ fn burst_of(head: &[u8; 36]) -> Burst {
 fn case(head: &[u8; 36]) -> bool {
     let mut dbm = [0.0f32; 48001];
     let mut scratch32 = [0.0f32; 48000];
-    let mut scratch64 = [0.0f64; 3000];
+    let mut scratch64 = [0.0f64; limits::SCRATCH64];
     let kept = replay::read_f32s(&mut dbm);
     if !kept.whole {
         return replay::print_short();

@@ -21,7 +21,7 @@ fn case(head: &[u8; 4]) -> bool {
     let mut seg = [0.0f32; 48001];
     let mut bits = [0u8; 1024];
     let mut scratch32 = [0.0f32; 48000];
-    let mut scratch64 = [0.0f64; 3000];
+    let mut scratch64 = [0.0f64; limits::SCRATCH64];
     let kept = replay::read_f32s(&mut seg);
     if !kept.whole {
         return replay::print_short();
@@ -31,7 +31,7 @@ fn case(head: &[u8; 4]) -> bool {
     match clock::burst_bits(&seg[..n], rate, &mut bits, &mut scratch32, &mut scratch64) {
         BurstBits::Refused(n) => replay::print_refusal(n),
         BurstBits::Nothing => replay::print_none(),
-        BurstBits::Bits(count, period, ppm, level, points) => {
+        BurstBits::Bits(count, period, ppm, level, points, _) => {
             print_bits(count, points, ppm, period, level, &bits)
         }
     }

@@ -21,7 +21,7 @@ fn case(head: &[u8; 17]) -> bool {
     let mut dbm = [0.0f32; 48001];
     let mut events = [0u8; 30720];
     let mut scratch32 = [0.0f32; 48000];
-    let mut scratch64 = [0.0f64; 3000];
+    let mut scratch64 = [0.0f64; limits::SCRATCH64];
     let kept = replay::read_f32s(&mut dbm);
     if !kept.whole {
         return replay::print_short();

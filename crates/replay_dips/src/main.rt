@@ -17,7 +17,7 @@ fn print_dips(dips: &[f64], n: usize) -> bool {
 
 fn case(head: &[u8; 12]) -> bool {
     let mut seg = [0.0f32; 48001];
-    let mut dips = [0.0f64; 3000];
+    let mut dips = [0.0f64; limits::SCRATCH64];
     let kept = replay::read_f32s(&mut seg);
     if !kept.whole {
         return replay::print_short();

@@ -134,6 +134,7 @@ fn message_of(r: &[u8; 120]) -> SigfoxMessage {
         spans,
         clock_error_ppm: read::ppm_of(r),
         start: read::start_of(r),
+        depth: read::depth_of(r),
     }
 }
 

@@ -49,7 +49,7 @@ fn push(
     samples: &mut [f32; 48001],
     events: &mut [u8; 30720],
     scratch32: &mut [f32; 48000],
-    scratch64: &mut [f64; 3000],
+    scratch64: &mut [f64; limits::SCRATCH64],
 ) -> State {
     let mut dbm = [0.0f32; 48001];
     let mut closed = [0u32; 64];
@@ -79,7 +79,7 @@ fn push_raw(
     samples: &mut [f32; 48001],
     events: &mut [u8; 30720],
     scratch32: &mut [f32; 48000],
-    scratch64: &mut [f64; 3000],
+    scratch64: &mut [f64; limits::SCRATCH64],
 ) -> State {
     let mut raw = [0u8; 48001];
     let mut closed = [0u32; 64];
@@ -109,7 +109,7 @@ fn flush(
     samples: &mut [f32; 48001],
     events: &mut [u8; 30720],
     scratch32: &mut [f32; 48000],
-    scratch64: &mut [f64; 3000],
+    scratch64: &mut [f64; limits::SCRATCH64],
 ) -> State {
     let mut closed = [0u32; 64];
     let behind = read_block(s.shifted, &mut closed);
@@ -148,7 +148,7 @@ fn call(
     samples: &mut [f32; 48001],
     events: &mut [u8; 30720],
     scratch32: &mut [f32; 48000],
-    scratch64: &mut [f64; 3000],
+    scratch64: &mut [f64; limits::SCRATCH64],
 ) -> State {
     match number {
         0 => push(s, samples, events, scratch32, scratch64),
@@ -164,7 +164,7 @@ fn turn(
     samples: &mut [f32; 48001],
     events: &mut [u8; 30720],
     scratch32: &mut [f32; 48000],
-    scratch64: &mut [f64; 3000],
+    scratch64: &mut [f64; limits::SCRATCH64],
 ) -> State {
     let mut head = [0u8; 1];
     match replay::read_head(&mut head) {
@@ -192,7 +192,7 @@ pub fn run(shifted: bool) {
     let mut samples = [0.0f32; 48001];
     let mut events = [0u8; 30720];
     let mut scratch32 = [0.0f32; 48000];
-    let mut scratch64 = [0.0f64; 3000];
+    let mut scratch64 = [0.0f64; limits::SCRATCH64];
     let mut s = start(shifted);
     let mut left = replay::MOST_CASES;
     while left > 0 {

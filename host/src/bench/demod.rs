@@ -2,11 +2,11 @@
 
 use super::{Row, grouped};
 use crate::generate::load;
+use crate::limits::SCRATCH64;
 use crate::rust::default_options;
 use crate::rust::demod::{BIT_RATE, burst_bits, decode_capture, find_bursts, find_dips, noise_floor};
 
 const BUFFER_S: usize = 12;
-const DIPS: usize = 3000;
 const BITS: usize = 1024;
 const EVENTS: usize = 30_720;
 
@@ -127,7 +127,7 @@ fn dips_row(rate: u32) -> Row {
     let nominal = f64::from(rate) / f64::from(BIT_RATE);
     let level = load::FRAME_DBM;
     let rust = move |seg: &Vec<f32>| find_dips(seg, nominal, level).len();
-    let port = move |seg: &Vec<f32>| dips(seg, rate, level, &mut [0.0; DIPS]);
+    let port = move |seg: &Vec<f32>| dips(seg, rate, level, &mut [0.0; SCRATCH64]);
     assert_eq!(port(&seg), rust(&seg));
     Row::new(
         "demod.rs",
@@ -144,7 +144,7 @@ fn bits_row(rate: u32) -> Row {
     let rust = move |seg: &Vec<f32>| burst_bits(seg, rate).map_or(0, |b| b.bits.len());
     let port = move |seg: &Vec<f32>| {
         let mut scratch32 = vec![0.0; BUFFER_S * rate as usize];
-        bits(seg, rate, &mut [0; BITS], &mut scratch32, &mut [0.0; DIPS])
+        bits(seg, rate, &mut [0; BITS], &mut scratch32, &mut [0.0; SCRATCH64])
     };
     assert_eq!(port(&seg), rust(&seg));
     Row::new(
@@ -162,7 +162,7 @@ fn capture_row(rate: u32) -> Row {
     let rust = move |dbm: &Vec<f32>| decode_capture(dbm, rate, 0.0, None).len();
     let port = move |dbm: &Vec<f32>| {
         let mut scratch32 = vec![0.0; BUFFER_S * rate as usize];
-        capture(dbm, rate, &mut [0; EVENTS], &mut scratch32, &mut [0.0; DIPS])
+        capture(dbm, rate, &mut [0; EVENTS], &mut scratch32, &mut [0.0; SCRATCH64])
     };
     assert_eq!(port(&dbm), rust(&dbm));
     Row::new(

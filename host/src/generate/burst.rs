@@ -70,8 +70,53 @@ pub fn directed() -> Vec<Case> {
     for rate in [325, 375, 425, 500] {
         pads(&mut cases, rate);
     }
+    depths(&mut cases);
     refused(&mut cases, &burst);
     cases
+}
+
+/// Depths about whole half decibels and about 255 of them; depths that differ; and dips off the grid, which are skipped.
+fn depths(cases: &mut Vec<Case>) {
+    for depth in [6.03125, 6.5, 20.25, 20.5, 127.25, 127.5, 128.0, 200.0] {
+        cases.push(deep(format!("dips of {depth} dB"), |_| depth, None));
+    }
+    let rng = &mut Rng::new(33);
+    for i in 0..6 {
+        let drawn: Vec<f64> = (0..200).map(|_| rng.real(6.5, 150.0)).collect();
+        cases.push(deep(format!("dips of other depths, {i}"), |n| drawn[n], None));
+    }
+    for off in [6.5, 150.0] {
+        let label = format!("dips of {off} dB off the grid");
+        cases.push(deep(label, |n| 20.0 + n as f64 / 4.0, Some(off)));
+    }
+}
+
+/// A frame at 200/s whose dips, one sample each, have a depth by their number; where the level stays, dips of another depth half a bit
+/// off the grid.
+fn deep(label: String, depth: impl Fn(usize) -> f64, off_grid: Option<f64>) -> Case {
+    const LEVEL: f32 = 50.0;
+    let rate = 200;
+    let uplink = Uplink::new(4, 0x00ab_cdef, 0x321, 0, true, &[0xff; 12]);
+    let bits = uplink.bits(0, 16);
+    let mut dbm = vec![LEVEL; 2 * bits.len() + 4];
+    let turns = (1..bits.len()).filter(|&i| !bits[i]);
+    for (n, bit) in turns.enumerate() {
+        dbm[2 * bit] = LEVEL - depth(n) as f32;
+    }
+    if let Some(depth) = off_grid {
+        for bit in (20..bits.len() - 2).step_by(2) {
+            if dbm[2 * bit - 1..2 * bit + 4].iter().all(|&v| v == LEVEL) {
+                dbm[2 * bit + 1] = LEVEL - depth as f32;
+            }
+        }
+    }
+    let burst = Burst {
+        start: 0,
+        end: dbm.len(),
+        peak_dbm: LEVEL,
+        floor_dbm: -110.0,
+    };
+    of(label, rate, 0.0, &burst, &dbm)
 }
 
 /// A frame that ends in ones on air that stays loud: where the padding ends decides how many there are.
@@ -155,4 +200,35 @@ pub fn random(rng: &mut Rng) -> Case {
     let t0 = if rng.chance(0.5) { 0.0 } else { rng.real(-1e3, 1e6) };
     let whole = of("a scene", rate, t0, &burst, &dbm);
     if rng.chance(0.01) { cut(rng, 0, whole) } else { whole }
+}
+
+#[cfg(test)]
+mod tests {
+    use super::*;
+    use crate::oracle::lines;
+
+    /// Byte 33 of the record.
+    fn byte(case: &Case) -> u8 {
+        let answer = lines("burst", &case.bytes).expect("it is a format");
+        u8::from_str_radix(answer.get(66..68).expect("a record"), 16).expect("two digits")
+    }
+
+    /// "in half decibels, rounded down, 255 if more"
+    #[test]
+    fn half_decibels() {
+        let mut cases = vec![];
+        depths(&mut cases);
+        let bytes: Vec<u8> = cases.iter().map(byte).collect();
+        assert_eq!(bytes[..8], [12, 13, 40, 41, 254, 255, 255, 255]);
+    }
+
+    /// The skipped dips would move the median, downwards or upwards.
+    #[test]
+    fn skipped_dips() {
+        let rising = |n: usize| 20.0 + n as f64 / 4.0;
+        let without = byte(&deep(String::new(), rising, None));
+        for off in [6.5, 150.0] {
+            assert_eq!(byte(&deep(String::new(), rising, Some(off))), without);
+        }
+    }
 }

@@ -13,11 +13,22 @@ fn of(label: impl Into<String>, rate: u32, t0: f64, floor: Option<f32>, dbm: &[f
 
 /// Frames of all ranks one after the other, the first from the first sample on.
 fn three(rate: u32) -> Vec<f32> {
+    deep(rate, -60.0, -110.0, [Shape::clean(-60.0).depth; 3])
+}
+
+/// The same at this level over this background, each frame with dips of its own depth.
+fn deep(rate: u32, level: f64, background: f64, depths: [f64; 3]) -> Vec<f32> {
     let uplink = Uplink::new(0, 0x00ab_cdef, 0x321, 3, true, &[]);
-    let envelopes = [0, 1, 2].map(|rank| Shape::clean(-60.0).envelope(&uplink.bits(rank, 16), rate));
+    let envelopes = [0, 1, 2].map(|rank| {
+        let shape = Shape {
+            depth: depths[rank],
+            ..Shape::clean(level)
+        };
+        shape.envelope(&uplink.bits(rank, 16), rate)
+    });
     let gap = rate as usize / 2;
     let length = envelopes.iter().map(Vec::len).sum::<usize>();
-    let mut air = Air::quiet(rate, length + 3 * gap, -110.0);
+    let mut air = Air::quiet(rate, length + 3 * gap, background);
     let mut at = 0;
     for envelope in &envelopes {
         air.send(at, envelope);
@@ -44,6 +55,10 @@ pub fn directed() -> Vec<Case> {
     }
     for t0 in [-1e9, 1e9, -0.0] {
         cases.push(of(format!("t0 {t0}"), 300, t0, None, &dbm));
+    }
+    for depths in [[6.75, 20.25, 20.5], [127.25, 127.5, 128.0], [60.0, 7.0, 150.0]] {
+        let dbm = deep(200, 20.0, -180.0, depths);
+        cases.push(of(format!("depths {depths:?}"), 200, 0.0, Some(-180.0), &dbm));
     }
     let mut few = vec![-100.0; 20];
     for floor in [-200.5, 100.5, f32::NAN] {

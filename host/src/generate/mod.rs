@@ -8,6 +8,7 @@ mod bursts;
 mod bytes;
 mod capture;
 mod charges;
+mod depths;
 mod dips;
 mod events;
 mod fleet;
@@ -83,6 +84,14 @@ pub const FORMATS: &[Format] = &[
         directed: bursts::directed,
         random: bursts::random,
         runs: None,
+    },
+    Format {
+        name: "depths",
+        stream: false,
+        rows: depths::ROWS,
+        directed: depths::directed,
+        random: depths::random,
+        runs: Some(|| vec![("replay_depths", depths::sample())]),
     },
     Format {
         name: "dips",

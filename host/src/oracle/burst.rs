@@ -32,11 +32,12 @@ fn answer(dbm: &[f32], rate: u32, burst: &Burst, t0: f64) -> Result<String, u8> 
     limits::floor(burst.floor_dbm)?;
     limits::number(!burst.peak_dbm.is_nan())?;
     Ok(decode_burst(dbm, rate, burst, t0).map_or("none".to_string(), |d| {
-        let clock = Reception {
+        let reception = Reception {
+            depth: d.segment.byte(),
             clock_error_ppm: d.clock_error_ppm,
             ..Reception::default()
         };
-        let record = hex_bytes(&record::frame(&d.frame, clock));
+        let record = hex_bytes(&record::frame(&d.frame, reception));
         format!("{record} {} {} {}", hex64(d.time), hex64(d.end), hex32(d.rssi))
     }))
 }

@@ -7,6 +7,7 @@ mod bursts;
 mod bytes;
 mod capture;
 mod charges;
+mod depths;
 mod dips;
 mod events;
 mod fleet;
@@ -39,6 +40,7 @@ fn replay(name: &str) -> Option<Replay> {
         "burst" => burst::case,
         "capture" => capture::case,
         "charges" => charges::case,
+        "depths" => depths::case,
         "tracker" => tracker::stream,
         "grip" => grip::case,
         "misc" => misc::case,

@@ -1,5 +1,6 @@
 //! The 120-byte event record of 01's table, as compared: a zero is +0.
 
+use crate::depth::First;
 use crate::rust::demod::DecodedFrame;
 use crate::rust::frame::{DeviceId, Repair, UplinkFrame};
 use crate::rust::frequency::FrameSpan;
@@ -11,6 +12,8 @@ pub const RECORD: usize = 120;
 /// What a receiver adds to a frame.
 #[derive(Default)]
 pub struct Reception {
+    /// Byte 33 (request 05)
+    pub depth: u8,
     pub clock_error_ppm: i32,
     pub rssi: f32,
     pub time: f64,
@@ -54,6 +57,7 @@ fn common(f: Common) -> Record {
     r.put(12, &f.counter.to_le_bytes());
     r.put(16, f.payload);
     r.put(28, f.auth);
+    r.0[33] = f.reception.depth;
     r.put(36, &f.reception.clock_error_ppm.to_le_bytes());
     r.put(40, &bits32(f.reception.rssi).to_le_bytes());
     r.put(44, &[255; 3]);
@@ -99,6 +103,7 @@ pub fn received(d: &DecodedFrame) -> [u8; RECORD] {
     frame(
         &d.frame,
         Reception {
+            depth: d.segment.byte(),
             clock_error_ppm: d.clock_error_ppm,
             rssi: d.rssi,
             time: d.time,
@@ -132,6 +137,7 @@ pub fn read_message(r: &[u8; RECORD]) -> SigfoxMessage {
         start: u64_at(112) as usize,
         time: f64_at(48),
         first_frame_end: (r[2] & 32 != 0).then_some(f64_at(56)),
+        depth: First::Given(r[33]),
         rssi: f32::from_bits(u32_at(40)),
         ranks: frames.iter().map(|f| f.rank).collect(),
         frames,
@@ -150,6 +156,7 @@ pub fn message(m: &SigfoxMessage, mark: u8) -> [u8; RECORD] {
         downlink: m.downlink,
         control: m.control,
         reception: Reception {
+            depth: m.depth.byte(),
             clock_error_ppm: m.clock_error_ppm,
             rssi: m.rssi,
             time: m.time,

@@ -6,8 +6,10 @@ use Prim.Native.Nat.{max}
 use mathlib.Core.Path.{_≡_, refl, sym, ap, _∙_}
 use native.Mathlib.Omega.{arith}
 use lib.IntN.{ℤ}
+use lib.ListN.{take, drop}
 use mir.Syntax.{w32}
 use mir.Val.{toZ, ofZ}
+use Rattle.dips.specs.Numbers.{depthsAt}
 use Rattle.clock.specs.Clock.{lost}
 use Rattle.clock.specs.Bits.{ppmOf}
 use Rattle.clock.specs.Walk.{places}
@@ -19,7 +21,7 @@ use Rattle.clock.proofs.clocked_bits.Tie as tie
 returns : tie.Need-returns
 returns c =
     let a = c .before .before .before .before .args in
-    tells-none _ (a .bits .now) (clock-few (a .rate) (a .seg .now) (a .level) (places (a .points .now) (a .c .count)) (a .c) (c .if1 .taken))
+    tells-none _ (a .bits .now) (clock-few (a .rate) (a .seg .now) (a .level) (places (a .points .now) (a .c .count)) (take (a .c .count) (drop depthsAt (a .points .now))) (a .c) (c .if1 .taken))
 
 end-index-requires : tie.Need-end-index-requires
 end-index-requires c κs = search needs
@@ -30,7 +32,7 @@ is-lost-requires c κs = search needs
 returns-2 : tie.Need-returns-2
 returns-2 c =
     let a = c .before .before .before .before .before .before .before .args in
-    tells-none _ (a .bits .now) (clock-lost (a .rate) (a .seg .now) (a .level) (places (a .points .now) (a .c .count)) (a .c) (c .before .before .before .if1 .left)
+    tells-none _ (a .bits .now) (clock-lost (a .rate) (a .seg .now) (a .level) (places (a .points .now) (a .c .count)) (take (a .c .count) (drop depthsAt (a .points .now))) (a .c) (c .before .before .before .if1 .left)
     (ap lost (sym (c .before .before .end-index .ensures)) ∙ sym (c .before .is-lost .ensures) ∙ c .if2 .taken))
 
 place-of-requires : tie.Need-place-of-requires
@@ -60,7 +62,7 @@ write-bits-requires c κs =
     let h = c .before .before .before .before .before .before .before .if1 .left in
     let o = s .pre .4 .order (omega (arith, h)) in
     let l = s .pre .4 .low (omega (arith, h)) in
-    (s .pre .2, omega (arith, c .before .least .ensures), omega (arith, c .before .least .ensures), omega (arith, c .before .least .ensures, s .pre .3), omega (arith, o, l))
+    (omega (arith, s .pre .2, s .pre .5), omega (arith, c .before .least .ensures), omega (arith, c .before .least .ensures), omega (arith, c .before .least .ensures, s .pre .3), omega (arith, o, l))
 
 nominal-of-requires : tie.Need-nominal-of-requires
 nominal-of-requires c κs = search needs
@@ -71,16 +73,21 @@ ppm-of-requires c κs = search needs
 same-length : tie.Need-same-length
 same-length c = search needs
 
+median-depth-requires : tie.Need-median-depth-requires
+median-depth-requires c κs =
+    let s = c .before .before .before .before .before .before .before .before .before .before .before .before .before .before .before .before in
+    (omega (arith, c .before .before .before .before .before .before .before .before .before .before .before .before .if1 .left), s .pre .2, s .pre .5, s .pre .6)
+
 returns-3 : tie.Need-returns-3
 returns-3 c =
-    let s = c .before .before .before .before .before .before .before .before .before .before .before .before .before .before .before .before in
+    let s = c .before .before .before .before .before .before .before .before .before .before .before .before .before .before .before .before .before in
     let a = s .args in
-    let k = c .before .before .before .before .before .before .before .before .before .before .before .end-index in
-    let p : toZ w32 (ofZ w32 (c .ppm-of .result)) ≡ ppmOf (a .c .period) (nominalOf (a .rate)) =
-    ap (λ (z : ℤ). toZ w32 (ofZ w32 z)) (c .ppm-of .ensures ∙ ap (ppmOf (a .c .period)) (c .before .nominal-of .ensures)) ∙ toZ-ofZ w32 _ (ppm-fits (a .c .period) (nominalOf (a .rate))) in
-    clock-bits (a .rate) (a .seg .now) (a .level) (places (a .points .now) (a .c .count)) (a .c) (k .result) (c .before .before .before .before .before .before .before .greatest .result) _ (c .before .before .before .before .before .before .least .result) _ (a .bits .now) _
-    (c .before .before .before .before .before .before .before .before .before .before .before .before .if1 .left) (k .ensures) (sym (c .before .before .before .before .before .before .before .before .before .before .is-lost .ensures) ∙ c .before .before .before .before .before .before .before .before .before .if2 .left) (c .before .before .before .before .before .before .before .greatest .ensures ∙ ap (max (a .c .last)) (c .before .before .before .before .before .before .before .before .place-of .ensures .0)) refl (c .before .before .before .before .before .before .least .ensures)
-    p (s .pre .4) (c .before .before .before .before .write-bits .ensures)
+    let k = c .before .before .before .before .before .before .before .before .before .before .before .before .end-index in
+    let p : toZ w32 (ofZ w32 (c .before .ppm-of .result)) ≡ ppmOf (a .c .period) (nominalOf (a .rate)) =
+    ap (λ (z : ℤ). toZ w32 (ofZ w32 z)) (c .before .ppm-of .ensures ∙ ap (ppmOf (a .c .period)) (c .before .before .nominal-of .ensures)) ∙ toZ-ofZ w32 _ (ppm-fits (a .c .period) (nominalOf (a .rate))) in
+    clock-bits (a .rate) (a .seg .now) (a .level) (places (a .points .now) (a .c .count)) (take (a .c .count) (drop depthsAt (a .points .now))) (a .c) (k .result) (c .before .before .before .before .before .before .before .before .greatest .result) _ (c .before .before .before .before .before .before .before .least .result) _ (c .median-depth .result) (a .bits .now) _
+    (c .before .before .before .before .before .before .before .before .before .before .before .before .before .if1 .left) (k .ensures) (sym (c .before .before .before .before .before .before .before .before .before .before .before .is-lost .ensures) ∙ c .before .before .before .before .before .before .before .before .before .before .if2 .left) (c .before .before .before .before .before .before .before .before .greatest .ensures ∙ ap (max (a .c .last)) (c .before .before .before .before .before .before .before .before .before .place-of .ensures .0)) refl (c .before .before .before .before .before .before .before .least .ensures)
+    p (c .median-depth .ensures) (s .pre .4) (c .before .before .before .before .before .write-bits .ensures)
 
 pub clocked-bits-spec : {M : Type 1} → statement M
 clocked-bits-spec =
@@ -98,5 +105,6 @@ clocked-bits-spec =
     write-bits-requires
     nominal-of-requires
     ppm-of-requires
+    median-depth-requires
     same-length
     returns-3)

@@ -1,8 +1,9 @@
 -- `clock::fit_clock` meets its contract. The invariant: the clock so far, over the dips left, ends as the whole does, and the places of its points stand in front. Assumes nothing.
 use borrow.Author.Needs.{needs}
-use mathlib.Core.Path.{sym, _∙_}
+use mathlib.Core.Path.{refl, sym, _∙_}
 use Prim.Native.Nat.{_-_, _≤_}
 use native.Mathlib.Omega.{arith}
+use lib.Seq.{lt-length-set}
 use Rattle.clock.proofs.FitLaws.{joined-point, FitAt, fit-start, fit-end, fit-lost, fit-skipped, fit-joined}
 use Rattle.clock.proofs.fit_clock.Statement.{statement}
 use Rattle.clock.proofs.fit_clock.Tie as tie
@@ -20,7 +21,7 @@ mul-track : tie.Need-mul-track Inv-loop μ-loop
 mul-track c = omega (arith, c .before .loop .inv .0, c .before .before .before .pre .1)
 
 slice-read-track : tie.Need-slice-read-track Inv-loop μ-loop
-slice-read-track c = omega (arith, c .before .before .loop .inv .1 .size, c .before .loop-test .taken, c .before .before .before .before .pre .0)
+slice-read-track c = omega (arith, c .before .before .loop .inv .1 .size, c .before .loop-test .taken, c .before .before .before .before .pre .0, c .before .before .before .before .pre .1)
 
 track-requires : tie.Need-track-requires Inv-loop μ-loop
 track-requires c κs = omega (arith, c .before .before .loop .inv .1 .few, c .before .loop-test .taken, c .before .before .before .before .pre .1)
@@ -35,7 +36,8 @@ returns : tie.Need-returns Inv-loop μ-loop
 returns c =
     let l = c .before .before .before .before .before in
     let a = l .before .before .args in
-    fit-lost (a .start) (a .n) (a .dips .now) (l .loop .dips) (l .loop .clock) (l .loop .i) (l .loop .inv .1) (c .before .before .before .before .loop-test .taken) (omega (arith, l .loop .inv .1 .size, l .before .before .pre .0))
+    let p = l .before .before .pre in
+    fit-lost (a .start) (a .n) (a .dips .now) (l .loop .dips) (l .loop .clock) (l .loop .i) (l .loop .inv .1) (c .before .before .before .before .loop-test .taken) (p .1) (omega (arith, l .loop .inv .1 .size, p .0))
     (c .before .before .track .result) (c .before .before .track .ensures) (c .enum-told .given .1)
 
 enum-told-2 : tie.Need-enum-told-2 Inv-loop μ-loop
@@ -50,39 +52,61 @@ loop-less c = omega (arith, c .before .before .before .before .loop-test .taken)
 loop-again : tie.Need-loop-again Inv-loop μ-loop
 loop-again c =
     let l = c .before .before .before .before .before in
-    let a = l .before .before .args in (
+    let a = l .before .before .args in
+    let p = l .before .before .pre in (
       omega (arith, c .before .before .before .before .loop-test .taken),
-      fit-skipped (a .start) (a .n) (a .dips .now) (l .loop .dips) (l .loop .clock) (l .loop .i) (l .loop .inv .1) (c .before .before .before .before .loop-test .taken) (omega (arith, l .loop .inv .1 .size, l .before .before .pre .0))
+      fit-skipped (a .start) (a .n) (a .dips .now) (l .loop .dips) (l .loop .clock) (l .loop .i) (l .loop .inv .1) (c .before .before .before .before .loop-test .taken) (p .1) (omega (arith, l .loop .inv .1 .size, p .0))
           (c .before .before .track .result) (c .before .before .track .ensures) (c .enum-told2 .given .1),
     )
 
 enum-known-next : tie.Need-enum-known-next Inv-loop μ-loop
 enum-known-next c = search needs
 
+add-depth : tie.Need-add-depth Inv-loop μ-loop
+add-depth c = omega (arith, c .before .before .before .before .before .loop-test .taken, c .before .before .before .before .before .before .before .before .pre .1)
+
+mul-depth : tie.Need-mul-depth Inv-loop μ-loop
+mul-depth c = omega (arith, c .before .before .before .before .before .loop-test .taken, c .before .before .before .before .before .before .before .before .pre .1)
+
+slice-read-depth : tie.Need-slice-read-depth Inv-loop μ-loop
+slice-read-depth c = omega (arith, c .before .before .before .before .before .before .before .loop .inv .1 .size, c .before .before .before .before .before .before .loop-test .taken, c .before .before .before .before .before .before .before .before .before .pre .0, c .before .before .before .before .before .before .before .before .before .pre .1)
+
 count-as-f64-requires : tie.Need-count-as-f64-requires Inv-loop μ-loop
 count-as-f64-requires c κs =
-    let p = joined-point (c .before .before .before .before .before .before .loop .clock) (c .before .next .given .0 .0) _ (sym (c .before .before .before .track .ensures) ∙ c .before .next .given .1) in
+    let p = joined-point (c .before .before .before .before .before .before .before .loop .clock) (c .before .before .next .given .0 .0) _ (sym (c .before .before .before .before .track .ensures) ∙ c .before .before .next .given .1) in
     omega (arith, p .small)
 
 mul-dips : tie.Need-mul-dips Inv-loop μ-loop
-mul-dips c = omega (arith, c .before .before .before .before .before .before .before .loop .inv .1 .few, c .before .before .before .before .before .before .loop-test .taken, c .before .before .before .before .before .before .before .before .before .pre .1)
+mul-dips c = omega (arith, c .before .before .before .before .before .before .before .before .loop .inv .1 .few, c .before .before .before .before .before .before .before .loop-test .taken, c .before .before .before .before .before .before .before .before .before .before .pre .1)
 
 slice-write-dips : tie.Need-slice-write-dips Inv-loop μ-loop
-slice-write-dips c = omega (arith, c .before .before .before .before .before .before .before .loop .inv .1 .few, c .before .before .before .before .before .before .before .loop .inv .1 .size, c .before .before .before .before .before .before .loop-test .taken, c .before .before .before .before .before .before .before .before .before .pre .0)
+slice-write-dips c = omega (arith, c .before .before .before .before .before .before .before .before .loop .inv .1 .few, c .before .before .before .before .before .before .before .before .loop .inv .1 .size, c .before .before .before .before .before .before .before .loop-test .taken, c .before .before .before .before .before .before .before .before .before .before .pre .0, c .before .before .before .before .before .before .before .before .before .before .pre .1)
+
+add-dips : tie.Need-add-dips Inv-loop μ-loop
+add-dips c = omega (arith, c .before .before .before .before .before .before .before .before .loop .inv .1 .few, c .before .before .before .before .before .before .before .loop-test .taken, c .before .before .before .before .before .before .before .before .before .before .pre .1)
+
+mul-dips-2 : tie.Need-mul-dips-2 Inv-loop μ-loop
+mul-dips-2 c = omega (arith, c .before .before .before .before .before .before .before .before .loop .inv .1 .few, c .before .before .before .before .before .before .before .loop-test .taken, c .before .before .before .before .before .before .before .before .before .before .pre .1)
+
+slice-write-dips-2 : tie.Need-slice-write-dips-2 Inv-loop μ-loop
+slice-write-dips-2 c =
+    lt-length-set (c .before .before .before .before .before .before .before .before .loop .dips) (c .before .before .before .before .before .before .before .before .loop .clock .count) (c .count-as-f64 .result)
+    (omega (arith, c .before .before .before .before .before .before .before .before .loop .inv .1 .few, c .before .before .before .before .before .before .before .before .loop .inv .1 .size, c .before .before .before .before .before .before .before .loop-test .taken, c .before .before .before .before .before .before .before .before .before .before .pre .0, c .before .before .before .before .before .before .before .before .before .before .pre .1))
 
 add-i-2 : tie.Need-add-i-2 Inv-loop μ-loop
-add-i-2 c = omega (arith, c .before .before .before .before .before .before .loop-test .taken, c .before .before .before .before .before .before .before .before .before .pre .1)
+add-i-2 c = omega (arith, c .before .before .before .before .before .before .before .loop-test .taken, c .before .before .before .before .before .before .before .before .before .before .pre .1)
 
 loop-less-2 : tie.Need-loop-less-2 Inv-loop μ-loop
-loop-less-2 c = omega (arith, c .before .before .before .before .before .before .loop-test .taken)
+loop-less-2 c = omega (arith, c .before .before .before .before .before .before .before .loop-test .taken)
 
 loop-again-2 : tie.Need-loop-again-2 Inv-loop μ-loop
 loop-again-2 c =
-    let l = c .before .before .before .before .before .before .before in
-    let a = l .before .before .args in (
-      omega (arith, c .before .before .before .before .before .before .loop-test .taken),
-      fit-joined (a .start) (a .n) (a .dips .now) (l .loop .dips) (l .loop .clock) (l .loop .i) (l .loop .inv .1) (c .before .before .before .before .before .before .loop-test .taken) (omega (arith, l .loop .inv .1 .size, l .before .before .pre .0))
-          (c .before .before .before .before .track .result) (c .before .before .before .before .track .ensures) (c .before .before .next .given .0 .0) (c .count-as-f64 .result) (c .before .before .next .given .1) (c .count-as-f64 .ensures),
+    let l = c .before .before .before .before .before .before .before .before in
+    let a = l .before .before .args in
+    let p = l .before .before .pre in (
+      omega (arith, c .before .before .before .before .before .before .before .loop-test .taken),
+      fit-joined (a .start) (a .n) (a .dips .now) (l .loop .dips) (l .loop .clock) (l .loop .i) (l .loop .inv .1) (c .before .before .before .before .before .before .before .loop-test .taken) (p .1) (omega (arith, l .loop .inv .1 .size, p .0))
+          (c .before .before .before .before .before .track .result) (c .before .before .before .before .before .track .ensures) (c .before .before .before .next .given .0 .0) (c .count-as-f64 .result) _ (c .before .before .before .next .given .1) (c .count-as-f64 .ensures) refl,
     )
 
 same-length-2 : tie.Need-same-length-2 Inv-loop μ-loop
@@ -112,9 +136,15 @@ fit-clock-spec =
     loop-less
     loop-again
     enum-known-next
+    add-depth
+    mul-depth
+    slice-read-depth
     count-as-f64-requires
     mul-dips
     slice-write-dips
+    add-dips
+    mul-dips-2
+    slice-write-dips-2
     add-i-2
     loop-less-2
     loop-again-2

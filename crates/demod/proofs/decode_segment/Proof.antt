@@ -36,12 +36,15 @@ array-share-prefix-bits c = search needs
 slice-aggregate-decode-bits : tie.Need-slice-aggregate-decode-bits
 slice-aggregate-decode-bits c =
     let a = c .before .before .before .before .before .before .before .before .before .before .before .before .before .args in
-    sent-length (a .seg .now) (a .rate) _ _ _ _ _ (sym (ap said (c .before .before .before .count .given .1)) ∙ c .before .before .before .before .before .before .before .before .bits-of .ensures .0) _ (c .before .before .before .before .before .before .before .before .bits-of .last .1 .1 .0) (c .before .before .before .before .before .before .before .before .bits-of .ensures .1) (c .before .least .result) (c .before .least .ensures)
+    sent-length (a .seg .now) (a .rate) _ _ _ _ _ _ (sym (ap said (c .before .before .before .count .given .1)) ∙ c .before .before .before .before .before .before .before .before .bits-of .ensures .0) _ (c .before .before .before .before .before .before .before .before .bits-of .last .1 .1 .0) (c .before .before .before .before .before .before .before .before .bits-of .ensures .1) (c .before .least .result) (c .before .least .ensures)
 
 decode-bits-requires : tie.Need-decode-bits-requires
 decode-bits-requires c κs =
     let a = c .before .before .before .before .before .before .before .before .before .before .before .before .before .args in
-    (sent-bits (a .seg .now) (a .rate) _ _ _ _ _ (sym (ap said (c .before .before .before .count .given .1)) ∙ c .before .before .before .before .before .before .before .before .bits-of .ensures .0) _ (c .before .before .before .before .before .before .before .before .bits-of .last .1 .1 .0) (c .before .before .before .before .before .before .before .before .bits-of .ensures .1) (c .before .least .result) (c .before .least .ensures), sent-short (a .seg .now) (a .rate) _ _ _ _ _ (sym (ap said (c .before .before .before .count .given .1)) ∙ c .before .before .before .before .before .before .before .before .bits-of .ensures .0) _ (c .before .before .before .before .before .before .before .before .bits-of .last .1 .1 .0) (c .before .before .before .before .before .before .before .before .bits-of .ensures .1) (c .before .least .result) (c .before .least .ensures))
+    (sent-bits (a .seg .now) (a .rate) _ _ _ _ _ _ (sym (ap said (c .before .before .before .count .given .1)) ∙ c .before .before .before .before .before .before .before .before .bits-of .ensures .0) _ (c .before .before .before .before .before .before .before .before .bits-of .last .1 .1 .0) (c .before .before .before .before .before .before .before .before .bits-of .ensures .1) (c .before .least .result) (c .before .least .ensures), sent-short (a .seg .now) (a .rate) _ _ _ _ _ _ (sym (ap said (c .before .before .before .count .given .1)) ∙ c .before .before .before .before .before .before .before .before .bits-of .ensures .0) _ (c .before .before .before .before .before .before .before .before .bits-of .last .1 .1 .0) (c .before .before .before .before .before .before .before .before .bits-of .ensures .1) (c .before .least .result) (c .before .least .ensures))
+
+depth-byte-requires : tie.Need-depth-byte-requires
+depth-byte-requires c κs = search needs
 
 heard-requires : tie.Need-heard-requires
 heard-requires c κs = search needs
@@ -67,8 +70,13 @@ same-length-3 c = search needs
 
 returns-3 : tie.Need-returns-3
 returns-3 c =
-    let a = c .before .before .before .before .before .before .before .before .before .before .before .before .before .before .before .args in
-    heard-frame (a .seg .now) (a .rate) _ _ _ _ _ (sym (ap said (c .before .before .before .before .before .count .given .1)) ∙ c .before .before .before .before .before .before .before .before .before .before .bits-of .ensures .0) _ (c .before .before .before .before .before .before .before .before .before .before .bits-of .last .1 .1 .0) (c .before .before .before .before .before .before .before .before .before .before .bits-of .ensures .1) (c .before .before .before .least .result) (c .before .before .before .least .ensures) (a .time) (a .end) (a .rssi) (c .before .decode-bits .result) (c .heard .result) (c .before .decode-bits .ensures) (c .heard .ensures)
+    let d = c .before .before in
+    let n = d .before .before in
+    let k = n .before .before in
+    let b = k .before .before .before .before .before in
+    let a = b .before .before .before .before .before .args in
+    heard-frame (a .seg .now) (a .rate) _ _ _ _ _ _ (sym (ap said (k .count .given .1)) ∙ b .bits-of .ensures .0) _ (b .bits-of .last .1 .1 .0) (b .bits-of .ensures .1) (n .least .result) (n .least .ensures)
+    (a .time) (a .end) (a .rssi) (c .before .depth-byte .result) (d .decode-bits .result) (c .heard .result) (c .before .depth-byte .ensures) (d .decode-bits .ensures) (c .heard .ensures)
 
 pub decode-segment-spec : {M : Type 1} → statement M
 decode-segment-spec =
@@ -85,6 +93,7 @@ decode-segment-spec =
     array-share-prefix-bits
     slice-aggregate-decode-bits
     decode-bits-requires
+    depth-byte-requires
     heard-requires
     same-length
     returns

@@ -1,5 +1,6 @@
 -- `dips::sides_high` meets its contract. Assumes nothing.
-use Rattle.dips.specs.Dips.{sides, leftOf, rightOf}
+use Rattle.dips.specs.Dips.{sides, depthOf, leftOf, rightOf}
+use Rattle.dips.proofs.DipLaws.{as-other, as-deep}
 use lib.Ieee.{ofBits, ofInt, round}
 use borrow.Author.Needs.{needs}
 use Rattle.dips.proofs.sides_high.Statement.{statement}
@@ -49,7 +50,18 @@ pick64-requires-2 c κs = search needs
 
 returns : tie.Need-returns
 unfolding sides leftOf rightOf ofBits ofInt round
-returns c = cc (c .pick642 .ensures, c .before .pick64 .ensures, c .before .before .f32-to-f64-with-nan3 .ensures, c .before .before .before .side-level2 .ensures, c .before .before .before .before .least .ensures, c .before .before .before .before .before .f32-to-f64-with-nan2 .ensures, c .before .before .before .before .before .before .side-level .ensures, c .before .before .before .before .before .before .before .back .ensures, c .before .before .before .before .before .before .before .before .f32-to-f64-with-nan .ensures)
+returns c =
+    let a = c .before .before .before .before .before .before .before .before .before .before .before .before .args in
+    as-other _ (sides (a .level) (a .win) (a .seg .now) (a .i)) (depthOf (a .win) (a .seg .now) (a .i)) (c .if1 .taken)
+    (cc (c .before .pick642 .ensures, c .before .before .pick64 .ensures, c .before .before .before .f32-to-f64-with-nan3 .ensures, c .before .before .before .before .side-level2 .ensures, c .before .before .before .before .before .least .ensures, c .before .before .before .before .before .before .f32-to-f64-with-nan2 .ensures, c .before .before .before .before .before .before .before .side-level .ensures, c .before .before .before .before .before .before .before .before .back .ensures, c .before .before .before .before .before .before .before .before .before .f32-to-f64-with-nan .ensures))
+
+returns-2 : tie.Need-returns-2
+unfolding sides depthOf leftOf rightOf ofBits ofInt round
+returns-2 c =
+    let a = c .before .before .before .before .before .before .before .before .before .before .before .before .args in
+    as-deep _ (sides (a .level) (a .win) (a .seg .now) (a .i)) (depthOf (a .win) (a .seg .now) (a .i)) _ (c .if1 .left)
+    (cc (c .before .pick642 .ensures, c .before .before .pick64 .ensures, c .before .before .before .f32-to-f64-with-nan3 .ensures, c .before .before .before .before .side-level2 .ensures, c .before .before .before .before .before .least .ensures, c .before .before .before .before .before .before .f32-to-f64-with-nan2 .ensures, c .before .before .before .before .before .before .before .side-level .ensures, c .before .before .before .before .before .before .before .before .back .ensures, c .before .before .before .before .before .before .before .before .before .f32-to-f64-with-nan .ensures))
+    (cc (c .before .pick642 .ensures, c .before .before .pick64 .ensures, c .before .before .before .f32-to-f64-with-nan3 .ensures, c .before .before .before .before .side-level2 .ensures, c .before .before .before .before .before .least .ensures, c .before .before .before .before .before .before .f32-to-f64-with-nan2 .ensures, c .before .before .before .before .before .before .before .side-level .ensures, c .before .before .before .before .before .before .before .before .back .ensures, c .before .before .before .before .before .before .before .before .before .f32-to-f64-with-nan .ensures))
 
 pub sides-high-spec : {M : Type 1} → statement M
 sides-high-spec =
@@ -69,4 +81,5 @@ sides-high-spec =
     f32-to-f64-with-nan-requires-3
     pick64-requires
     pick64-requires-2
-    returns)
+    returns
+    returns-2)

@@ -40,7 +40,7 @@ slice-aggregate-put-front-2 : tie.Need-slice-aggregate-put-front-2
 slice-aggregate-put-front-2 c = search needs
 
 put-front-requires : tie.Need-put-front-requires
-put-front-requires c κs = search needs
+put-front-requires c κs = let e = c .before .before .before .before .before .before .before .before in (omega (arith, e .pre), payload-is e, auth-is e)
 
 add-put-middle : tie.Need-add-put-middle
 add-put-middle c = search needs

@@ -88,7 +88,7 @@ put-u64-requires c κs =
     let g = s1 .before .before .before .before in
     let ppm = toZ w32 (ofZ w32 (m .«clock_error_ppm»)) in
     let h = g .message-head .result in
-    let front = headBytes h ++ (identityBytes (m .«device_id») (m .counter) (h .«payload_len») (m .payload) (h .«auth_len») (m .auth) (messageMarks (a .mark)) ++ levelBytes ppm (m .rssi)) in
+    let front = headBytes h ++ (identityBytes (m .«device_id») (m .counter) (h .«payload_len») (m .payload) (h .«auth_len») (m .auth) (messageMarks (a .mark) m) ++ levelBytes ppm (m .rssi)) in
     let middle = rankBytes (spanOf m 0 .rank) (spanOf m 1 .rank) (spanOf m 2 .rank) ++ timeBytes (m .time) (n .end-of .result) in
     let spans = spanBytes (spanOf m 0) ++ (spanBytes (spanOf m 1) ++ spanBytes (spanOf m 2)) in
     omega (

@@ -20,6 +20,7 @@ pub fn directed() -> Vec<Case> {
     merges(&mut cases);
     closings(&mut cases);
     sinking_floor(&mut cases);
+    super::depths::directed(&mut cases);
     refused(&mut cases);
     super::given::directed(&mut cases);
     cases

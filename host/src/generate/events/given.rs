@@ -57,6 +57,12 @@ impl Waiting {
         self
     }
 
+    /// The message with this depth in half decibels.
+    pub fn deep(mut self, depth: u8) -> Self {
+        self.put(33, &[depth]);
+        self
+    }
+
     pub fn joined(self, last: f64) -> Self {
         Self { last, ..self }
     }
@@ -110,8 +116,9 @@ impl Waiting {
             w.put_f64(72 + 16 * place, time + 1.45);
             place += 1;
         }
-        w.put(112, &rng.next().to_le_bytes()[..5]);
-        w
+        let drawn = rng.next().to_le_bytes();
+        w.put(112, &drawn[..5]);
+        w.deep(drawn[5])
     }
 }
 

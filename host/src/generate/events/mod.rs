@@ -1,5 +1,6 @@
 //! Inputs of `events`: a stream of air, cut into calls.
 
+mod depths;
 mod edges;
 pub(super) mod given;
 
@@ -49,12 +50,18 @@ pub fn two_bytes(device: u32) -> Uplink {
     Uplink::new(2, device, 0x123, 2, false, &[0xab, 0xcd, 1, 2, 3, 4])
 }
 
-/// The frame's envelope, with a whole number of samples to a bit where the clock's error allows it.
+/// The frame's envelope, with a whole number of samples to a bit where the clock's error allows it; each rank has its own depth.
 pub fn envelope(uplink: &Uplink, rank: usize, rate: u32, level: f64) -> Vec<f64> {
+    deep(uplink, rank, rate, level, 24.0 + 3.5 * rank as f64)
+}
+
+/// The same with dips of this depth.
+fn deep(uplink: &Uplink, rank: usize, rate: u32, level: f64, depth: f64) -> Vec<f64> {
     let clock = f64::from((rate + 50) / 100 * 100) / f64::from(rate);
     let clock = if (clock - 1.0).abs() <= 0.01 { clock } else { 1.0 };
     let shape = Shape {
         clock,
+        depth,
         ..Shape::clean(level)
     };
     shape.envelope(&uplink.bits(rank, 16), rate)

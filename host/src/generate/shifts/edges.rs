@@ -62,10 +62,9 @@ fn flush(label: impl Into<String>, times: &[f64], shifts: &Shifts) -> Case {
 
 /// The examples of the client's formats, one run.
 fn examples(cases: &mut Vec<Case>) {
-    // byte 33 is request 05's
     let heard = |times: &[f64]| {
         let messages = messages(times).into_iter();
-        state(0, messages.map(|message| message.spare(33, &[0x28])).collect())
+        state(0, messages.map(|message| message.deep(0x28)).collect())
     };
     let calls = Calls::new(RATE);
     let calls = calls.given(&heard(&[0.0, 59.9, 60.0]));

@@ -36,10 +36,10 @@ returns c =
     let e = s0 .before .before .before in
     let l = e .args .out .now in
     let at = e .args .at in
-    let f0 : s0 .put-byte .last .0 ≡ sets l at (0 ∷ []) = s0 .put-byte .ensures in
-    let f1 : s1 .put-byte2 .last .0 ≡ sets l at (0 ∷ e .args .k .shift ∷ []) =
-    follow l at (0 ∷ []) (s0 .put-byte .last .0) (e .args .k .shift ∷ []) (s1 .put-byte2 .last .0) (at + 1) f0 (s1 .put-byte2 .ensures) refl in
-    follow l at (0 ∷ e .args .k .shift ∷ []) (s1 .put-byte2 .last .0) (0 ∷ []) (s2 .put-byte3 .last .0) (at + 2) f1 (s2 .put-byte3 .ensures) refl
+    let f0 : s0 .put-byte .last .0 ≡ sets l at (e .args .k .depth ∷ []) = s0 .put-byte .ensures in
+    let f1 : s1 .put-byte2 .last .0 ≡ sets l at (e .args .k .depth ∷ e .args .k .shift ∷ []) =
+    follow l at (e .args .k .depth ∷ []) (s0 .put-byte .last .0) (e .args .k .shift ∷ []) (s1 .put-byte2 .last .0) (at + 1) f0 (s1 .put-byte2 .ensures) refl in
+    follow l at (e .args .k .depth ∷ e .args .k .shift ∷ []) (s1 .put-byte2 .last .0) (0 ∷ []) (s2 .put-byte3 .last .0) (at + 2) f1 (s2 .put-byte3 .ensures) refl
 
 pub put-marks-spec : {M : Type 1} → statement M
 put-marks-spec =

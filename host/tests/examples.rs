@@ -1,0 +1,36 @@
+//! The client's examples, where they stand beside the repository: the oracle prints their lines. Those of `listen` have request 04's
+//! records without a frequency, and are left out.
+#![cfg(has_rust)]
+
+use std::fs;
+use std::path::Path;
+
+use host::oracle::lines;
+
+/// Examples by their files' name, and the format of each.
+const EXAMPLES: [(&str, &str); 10] = [
+    ("bytes", "bytes"),
+    ("charges", "charges"),
+    ("depth", "burst"),
+    ("depths", "depths"),
+    ("fleet", "fleet"),
+    ("grip", "grip"),
+    ("shifts", "shifts"),
+    ("shortest", "capture"),
+    ("waiting", "events"),
+    ("writer", "writer"),
+];
+
+#[test]
+fn lines_of_the_examples() {
+    let folder = Path::new(env!("CARGO_MANIFEST_DIR")).join("../../shared/examples");
+    if !folder.is_dir() {
+        println!("SKIPPED: there is no folder {}", folder.display());
+        return;
+    }
+    for (name, format) in EXAMPLES {
+        let read = |end: &str| fs::read(folder.join(format!("{name}.{end}"))).expect("the example is there");
+        let expected = String::from_utf8(read("out")).expect("lines are text");
+        assert_eq!(lines(format, &read("in")).as_deref(), Some(&*expected), "{name}");
+    }
+}
