@@ -52,6 +52,7 @@ impl BurstOptions {
 
     pub const GAP_MS: f64 = 40.0;
 
+    // The defaults, which captures are read with.
     pub fn new() -> Self
         ensures { λ r. ⌜ r ≡ defaultOptions ⌝ }
     {

@@ -55,6 +55,7 @@ pub fn back(i: usize, n: usize) -> usize
     if n < i { i - n } else { 0 }
 }
 
+// The lesser of two, where a window ends at the last sample.
 pub fn least(a: usize, b: usize) -> usize
     ensures { λ r. ⌜ r ≡ min a b ⌝ }
 {

@@ -9,6 +9,7 @@ use record::read;
 // The ranks of a message are a sum of 1, 2, 4.
 const MOST_RANKS: u8 = 7;
 
+// Whether a record is a message: frames are skipped.
 pub fn is_message(r: &[u8]) -> bool
     requires { ⌜ recordSize ≤ length (now r) ⌝ }
     ensures { λ t. ⌜ t ≡ isMessage (now (r .entry)) ⌝ }

@@ -116,6 +116,7 @@ pub fn row_at(table: &[i64], at: usize) -> Row
     }
 }
 
+// A row into its seven places of the table.
 pub fn put_row(table: &mut [i64], at: usize, row: Row)
     requires { ⌜ at + 7 ≤ length (now table) ⌝ }
     ensures { λ _. ⌜ now (table .exit) ≡ sets (now (table .entry)) at (numbers row) ⌝ }

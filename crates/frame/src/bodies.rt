@@ -166,6 +166,7 @@ fn payload_size(class: u8, li: u8) -> u8
     4 * (class - 1) - li
 }
 
+// Bytes of authentication: two, and those that the payload lacks to its class's most.
 pub fn auth_size(class: u8, li: u8) -> u8
     requires { ⌜ (class ≤ 4) × (li ≤ 3) ⌝ }
     ensures { λ r. ⌜ r ≡ authSize class li ⌝ }

@@ -64,6 +64,7 @@ fn rssi_of(b: u8) -> i32
     difference(b as u32, 356)
 }
 
+// What a control frame's payload says, by its length and first byte (frame.rs decode_control).
 pub fn decode_control(payload: &[u8]) -> ControlMessage
     ensures { λ r. ⌜ said r ≡ accepted (controlOf (now (payload .entry))) ⌝ }
 {

@@ -41,6 +41,7 @@ pub struct Layout {
     pub li: u8,
 }
 
+// By the single bit, or the payload's length (frame.rs uplink_header).
 pub fn layout_of(bit: SingleBit, n: usize) -> Layout
     requires { ⌜ n ≤ mostPayload ⌝ }
     ensures { λ r. ⌜ (r .class ≡ classOf bit n) × (r .li ≡ liOf bit n) × (r .class ≤ 4) × (r .li ≤ 3) ⌝ }

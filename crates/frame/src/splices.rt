@@ -50,6 +50,7 @@ pub fn unchanged() -> Splice
     }
 }
 
+// A bit put in before bit i.
 pub fn insert(i: usize, bit: u8) -> Splice
     ensures { λ r. ⌜ r ≡ inserting i bit ⌝ }
 {
@@ -61,6 +62,7 @@ pub fn insert(i: usize, bit: u8) -> Splice
     }
 }
 
+// Bit i left out.
 pub fn delete(i: usize) -> Splice
     ensures { λ r. ⌜ r ≡ deleting i ⌝ }
 {
@@ -72,6 +74,7 @@ pub fn delete(i: usize) -> Splice
     }
 }
 
+// Bit i, which has this value, turned over.
 pub fn flip(i: usize, bit: u8) -> Splice
     requires { ⌜ bit < 2 ⌝ }
     ensures { λ r. ⌜ r ≡ flipping i bit ⌝ }

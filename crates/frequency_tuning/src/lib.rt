@@ -22,6 +22,7 @@ pub enum Step {
     Settled(u32),
 }
 
+// Whether a register step lies in 01's range; a NaN does not.
 pub fn step_ok(x: f64) -> bool
     ensures { λ r. ⌜ r ≡ stepOk x ⌝ }
 {
@@ -151,6 +152,7 @@ pub fn of_rank(
     frequency_measure::Measured::Unmeasured
 }
 
+// One of two numbers by a test, so that the caller has no branch.
 pub fn pick_u8(t: bool, a: u8, b: u8) -> u8
     ensures { λ r. ⌜ r ≡ cond t a b ⌝ }
 {

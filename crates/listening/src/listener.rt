@@ -19,6 +19,7 @@ pub struct Listener {
     pub tracker: FrequencyTracker,
 }
 
+// Nothing was read.
 pub fn fresh() -> Listener {
     let t = FrequencyTracker::new(RATE, 0, STEP_HZ);
     let tracker = t.tracker;
@@ -32,6 +33,7 @@ pub fn fresh() -> Listener {
     }
 }
 
+// A call was refused: nothing follows but its line.
 pub fn refuse(l: Listener, number: u8) -> Listener {
     let mut m = l;
     m.going = false;

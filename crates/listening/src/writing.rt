@@ -11,6 +11,7 @@ pub struct Line {
     pub count: usize,
 }
 
+// A line without a character.
 pub fn empty() -> Line
     ensures { λ r. ⌜ r .count ≤ 96 ⌝ }
 {
@@ -39,6 +40,7 @@ pub fn add(l: Line, text: &[u8]) -> Line
     m
 }
 
+// A number in decimal.
 pub fn add_number(l: Line, n: u64) -> Line
     requires { ⌜ l .count ≤ 96 ⌝ }
     ensures { λ r. ⌜ r .count ≤ 96 ⌝ }
@@ -48,6 +50,7 @@ pub fn add_number(l: Line, n: u64) -> Line
     add(l, &digits[..k])
 }
 
+// A number in so many hexadecimal digits.
 pub fn add_hex(l: Line, n: u64, width: usize) -> Line
     requires { ⌜ l .count ≤ 96 ⌝ }
     ensures { λ r. ⌜ r .count ≤ 96 ⌝ }

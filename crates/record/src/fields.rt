@@ -31,12 +31,14 @@ fn known_flag(e: FirstFrameEnd) -> u8
     }
 }
 
+// Byte 2 of a frame.
 pub fn frame_flags(downlink: bool, control: bool, ok: bool, bit: SingleBit) -> u8
     ensures { λ r. ⌜ r ≡ flag 1 downlink + flag 2 control + flag 4 ok + bitFlags bit ⌝ }
 {
     flag_if(1, downlink) + flag_if(2, control) + flag_if(4, ok) + bit_flags(bit)
 }
 
+// Byte 2 of a message, whose CRC is right.
 pub fn message_flags(downlink: bool, control: bool, bit: SingleBit, e: FirstFrameEnd) -> u8
     ensures { λ r. ⌜ r ≡ flag 1 downlink + flag 2 control + 4 + bitFlags bit + knownFlag e ⌝ }
 {
@@ -55,12 +57,14 @@ fn rank_bit(rank: u8) -> u8
     if rank == 2 { 4 } else { 0 }
 }
 
+// Byte 1 of a message: 1, 2 and 4 for the ranks of its spans.
 pub fn mask_of(a: u8, b: u8, c: u8) -> u8
     ensures { λ r. ⌜ r ≡ rankBit a + rankBit b + rankBit c ⌝ }
 {
     rank_bit(a) + rank_bit(b) + rank_bit(c)
 }
 
+// Byte 5: how a frame was repaired.
 pub fn repair_number(how: Repair) -> u8
     ensures { λ r. ⌜ r ≡ repairNumber how ⌝ }
 {
@@ -72,6 +76,7 @@ pub fn repair_number(how: Repair) -> u8
     }
 }
 
+// Bytes 6 and 7: at which bit.
 pub fn repair_place(how: Repair) -> usize
     ensures { λ r. ⌜ r ≡ repairPlace how ⌝ }
 {
@@ -83,6 +88,7 @@ pub fn repair_place(how: Repair) -> usize
     }
 }
 
+// Bytes 56 to 63 of a message: the end of its first frame, 0 where it is not known.
 pub fn end_of(e: FirstFrameEnd) -> f64
     ensures { λ r. ⌜ r ≡ endOf e ⌝ }
 {

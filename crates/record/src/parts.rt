@@ -26,6 +26,7 @@ pub struct Marks {
     pub shift: u8,
 }
 
+// Bytes that mean nothing are 0.
 pub fn put_spare(out: &mut [u8], at: usize, n: usize)
     requires { ⌜ at + n ≤ length (now out) ⌝ }
     ensures { λ _. ⌜ now (out .exit) ≡ sets (now (out .entry)) at (spare n) ⌝ }
@@ -50,6 +51,7 @@ pub fn put_up_to(out: &mut [u8], at: usize, len: usize, bytes: &[u8])
     put_spare(out, at + len, bytes.len() - len);
 }
 
+// Bytes 0 to 7.
 pub fn put_head(out: &mut [u8], at: usize, h: Head)
     requires { ⌜ at + 8 ≤ length (now out) ⌝ }
     ensures { λ _. ⌜ now (out .exit) ≡ sets (now (out .entry)) at (headBytes h) ⌝ }
@@ -72,6 +74,7 @@ pub fn put_marks(out: &mut [u8], at: usize, k: Marks)
     put_byte(out, at + 2, 0);
 }
 
+// Bytes 8 to 35.
 pub fn put_identity(
     out: &mut [u8],
     at: usize,
@@ -94,6 +97,7 @@ pub fn put_identity(
     put_marks(out, at + 25, k);
 }
 
+// Bytes 36 to 43.
 pub fn put_levels(out: &mut [u8], at: usize, ppm: i32, rssi: f32)
     requires { ⌜ at + 8 ≤ length (now out) ⌝ }
     ensures { λ _. ⌜ now (out .exit) ≡ sets (now (out .entry)) at (levelBytes ppm rssi) ⌝ }
@@ -102,6 +106,7 @@ pub fn put_levels(out: &mut [u8], at: usize, ppm: i32, rssi: f32)
     endian::put_f32(out, at + 4, rssi);
 }
 
+// Bytes 44 to 47: the ranks of the spans.
 pub fn put_ranks(out: &mut [u8], at: usize, a: u8, b: u8, c: u8)
     requires { ⌜ at + 4 ≤ length (now out) ⌝ }
     ensures { λ _. ⌜ now (out .exit) ≡ sets (now (out .entry)) at (rankBytes a b c) ⌝ }
@@ -112,6 +117,7 @@ pub fn put_ranks(out: &mut [u8], at: usize, a: u8, b: u8, c: u8)
     put_byte(out, at + 3, 0);
 }
 
+// A start and an end in seconds, 16 bytes.
 pub fn put_times(out: &mut [u8], at: usize, time: f64, end: f64)
     requires { ⌜ at + 16 ≤ length (now out) ⌝ }
     ensures { λ _. ⌜ now (out .exit) ≡ sets (now (out .entry)) at (timeBytes time end) ⌝ }
@@ -120,6 +126,7 @@ pub fn put_times(out: &mut [u8], at: usize, time: f64, end: f64)
     endian::put_f64(out, at + 8, end);
 }
 
+// A span in its 16 bytes, 0 where there is none.
 pub fn put_span(out: &mut [u8], at: usize, s: FrameSpan)
     requires { ⌜ at + 16 ≤ length (now out) ⌝ }
     ensures { λ _. ⌜ now (out .exit) ≡ sets (now (out .entry)) at (spanBytes s) ⌝ }
@@ -131,6 +138,7 @@ pub fn put_span(out: &mut [u8], at: usize, s: FrameSpan)
     put_times(out, at, s.time, s.end);
 }
 
+// Bytes 64 to 111.
 pub fn put_spans(out: &mut [u8], at: usize, a: FrameSpan, b: FrameSpan, c: FrameSpan)
     requires { ⌜ at + 48 ≤ length (now out) ⌝ }
     ensures { λ _. ⌜ now (out .exit) ≡ sets (now (out .entry)) at (spanBytes a ++ (spanBytes b ++ spanBytes c)) ⌝ }

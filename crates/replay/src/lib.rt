@@ -260,6 +260,7 @@ pub fn plain32(x: f32) -> u32
     endian::bits_of_f32(x)
 }
 
+// The same of binary64.
 pub fn plain64(x: f64) -> u64
     ensures { λ r. ⌜ r ≡ plainBits binary64 x ⌝ }
 {
@@ -290,22 +291,27 @@ pub fn hex_text(bytes: &[u8], out: &mut [u8])
     }
 }
 
+// Text as it is.
 pub fn print(text: &[u8]) {
     io::write_all(STDOUT_FILENO, text);
 }
 
+// A number in decimal.
 pub fn print_number(n: u64) {
     io::print_decimal(STDOUT_FILENO, n);
 }
 
+// A number in so many hexadecimal digits.
 pub fn print_hex(n: u64, width: usize) {
     io::print_hex(STDOUT_FILENO, n, width);
 }
 
+// A float as the digits of its pattern.
 pub fn print_f32(x: f32) {
     print_hex(plain32(x) as u64, 8);
 }
 
+// The same of binary64.
 pub fn print_f64(x: f64) {
     print_hex(plain64(x), 16);
 }

@@ -47,6 +47,7 @@ fn hz_of(answer: Freq) -> u64 {
     }
 }
 
+// The line of `tuned`: the frequency, and how many tunings are held.
 pub fn print_tuned(answer: Freq, tunings: usize) -> bool {
     replay::print(b"tuned ");
     replay::print_number(hz_of(answer));
@@ -55,6 +56,7 @@ pub fn print_tuned(answer: Freq, tunings: usize) -> bool {
     replay::print_end()
 }
 
+// The line of `freq`.
 pub fn print_freq(answer: Freq) -> bool {
     match answer {
         Freq::Refused(n) => replay::print_refusal(n),
@@ -66,6 +68,7 @@ pub fn print_freq(answer: Freq) -> bool {
     }
 }
 
+// The line of `samples`: what the tracker holds.
 pub fn print_samples(t: FrequencyTracker) -> bool {
     let signal = t.signal;
     let floor = signal.floor;
@@ -175,6 +178,7 @@ pub fn print_lists(
     replay::print_end()
 }
 
+// The line of `next_tuning`.
 pub fn print_next(tune: Frequency, retuned: bool) -> bool {
     replay::print(b"next ");
     print_frequency(tune);
@@ -186,6 +190,7 @@ pub fn print_next(tune: Frequency, retuned: bool) -> bool {
     replay::print_end()
 }
 
+// The line of `frame_frequency`.
 pub fn print_frame_frequency(answer: FrameFrequency) -> bool {
     match answer {
         FrameFrequency::Refused(n) => replay::print_refusal(n),
@@ -203,6 +208,7 @@ pub fn print_frame_frequency(answer: FrameFrequency) -> bool {
     }
 }
 
+// The line of `frame1`.
 pub fn print_frame1(answer: Frame1) -> bool {
     match answer {
         Frame1::Refused(n) => replay::print_refusal(n),
