@@ -106,7 +106,7 @@ module _ (rate : ℕ) (first : List Float) (p : Port) (l : Ledger byFrames) (st 
   answered : Answered s c plan before (x .reply .after) (x .reply .received)
   answered = did .1
 
-  cause-is : causeWith rate (lengthsOf before) (causes.countsOf l) l c plan ≡ n
+  cause-is : causeWith rate (lengthsOf before) (causes.countsOf rate l) l c plan ≡ n
   cause-is = rw (st .size) refl
 
   ranked : AllRanked (l .waiting)
@@ -116,7 +116,7 @@ module _ (rate : ℕ) (first : List Float) (p : Port) (l : Ledger byFrames) (st 
   refusal-is = ap (λ (k : ℕ). firstOf k (scheduleCause plan)) (number-is rate s l (st .state) c before (st .holds)) ∙ cause-is
 
   -- an accepted call has no cause
-  no-cause : n ≡ 0 → cause rate (lengthsOf before) (causes.countsOf l) l c ≡ 0
+  no-cause : n ≡ 0 → cause rate (lengthsOf before) (causes.countsOf rate l) l c ≡ 0
   no-cause e = first-none _ _ (cause-is ∙ e) .0
 
   after-sound : Sound (afterCall rate (demodOf rate) l c n) × Every Clear (callEvents rate (demodOf rate) l c n)

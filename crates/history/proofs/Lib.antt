@@ -5,4 +5,6 @@ pub mod Calls
 pub mod Theorem
 pub mod Example
 pub mod Grown
+pub mod Distances
+pub mod DistancesExample
 pub mod TwoArms

@@ -11,7 +11,7 @@ use lib.Seq.{take-append-seam}
 use borrow.Author.Tests.{ltb-false}
 use Rattle.limits.specs.Limits.{badRate, short}
 use Rattle.limits.specs.Samples.{rateOk}
-use Rattle.ledger.specs.Ledger.{byFrames, byEntry, capacity, Ledger, Call, push, flush, fresh, startCall, scans, closed, events}
+use Rattle.ledger.specs.Ledger.{byFrames, byEntry, capacity, spaced, Ledger, Call, push, flush, fresh, startCall, scans, closed, events}
 use Rattle.ledger.specs.Causes.{orderly, Lent, tooShort, callCause, cause, afterCall, callEvents}
 use Rattle.shifts.specs.Shifts.{Schedule, markBy}
 use Rattle.ledger.specs.Causes as causes
@@ -24,6 +24,8 @@ use Rattle.ledger.proofs.Carry.{carry, cause-carry, call-carry, call-events-car
 use Rattle.receiver_samples.specs.Buffer.{allFilled}
 use Rattle.receiver_samples.proofs.Fillings.{held-length}
 use Rattle.receiver_starts.specs.Starts as starts
+use Rattle.receiver_starts.proofs.SampleLaws.{samples-back}
+use Rattle.receiver.proofs.StateLaws.{order-over}
 use Rattle.receiver_waiting.specs.Waiting as waiting
 use Rattle.receiver.specs.State.{ledgerOf, countsOf, newState, stateOver}
 use Rattle.receiver.specs.Calls.{Memory, lengthsOf, recordsOf, stateAfter, samplesAfter}
@@ -32,7 +34,7 @@ use Rattle.history.proofs.Buffers.{fills-keeps}
 
 -- a call looks at no frame that was heard before it
 module _ (rate : ℕ) (l : Ledger byEntry) where
-  cause-start : (b : Lent) (c : Call) → cause rate b (causes.countsOf l) (startCall l) c ≡ cause rate b (causes.countsOf l) l c
+  cause-start : (b : Lent) (c : Call) → cause rate b (causes.countsOf rate l) (startCall l) c ≡ cause rate b (causes.countsOf rate l) l c
   unfolding cause callCause orderly startCall
   cause-start b (push xs) = refl
   cause-start b flush = refl
@@ -50,26 +52,34 @@ module _ (rate : ℕ) (l : Ledger byEntry) where
 -- the state s of a receiver stands for the ledger l, whatever its places past the counts hold
 pub record For (rate : ℕ) (s : SigfoxReceiver) (l : Ledger byEntry) : Type 0 where
   pub rated : s .rate ≡ rate
-  pub counts : countsOf s ≡ causes.countsOf l
+  pub counts : countsOf s ≡ causes.countsOf rate l
+  pub based : s .base ≡ l .base
+  pub starts : starts.distances (s .starts) ≡ starts.distancesOf (l .base) (l .starts)
   pub ledger : (buf : List Float) → take (length (l .held)) buf ≡ l .held → ledgerOf s buf ≡ startCall l
 
 pub new-for : (rate : ℕ) → For rate (newState rate) fresh
-unfolding newState waiting.none fresh startCall
-new-for rate = record { rated = refl; counts = refl; ledger = λ buf h. refl }
+unfolding newState waiting.none fresh startCall starts.allBelow starts.allFrom starts.allApart causes.below causes.since spaced
+new-for rate = record { rated = refl; counts = refl; based = refl; starts = refl; ledger = λ buf h. refl }
 
 over-for : (s : SigfoxReceiver) (l : Ledger byEntry) → For (s .rate) (stateOver s l) l
 unfolding stateOver starts.over waiting.over startCall
 over-for s l =
+    let ds = starts.distancesOf (l .base) (l .starts) in
+    let seam = take-append-seam ds (drop (length ds) (s .starts .at)) in
     record {
       rated = refl;
-      counts = refl;
+      counts =
+          ap (λ (b : Bool). record { held = length (l .held); starts = b; waiting = length (l .waiting) })
+          (order-over (s .rate) (l .base) (length (l .held)) (s .starts) (l .starts));
+      based = refl;
+      starts = seam;
       ledger =
           λ buf h.
-          rw (h, take-append-seam (l .starts) (drop (length (l .starts)) (s .starts .at)), take-append-seam (l .waiting) (drop (length (l .waiting)) (s .waiting .messages))) refl;
+          rw (h, seam, samples-back (l .base) (l .starts), take-append-seam (l .waiting) (drop (length (l .waiting)) (s .waiting .messages))) refl;
     }
 
 -- an accepted call has a sample buffer that is long enough
-wide : (rate : ℕ) (b : Lent) (l : Ledger byFrames) (c : Call) → cause rate b (causes.countsOf l) l c ≡ 0 → capacity rate ≤ b .samples
+wide : (rate : ℕ) (b : Lent) (l : Ledger byFrames) (c : Call) → cause rate b (causes.countsOf rate l) l c ≡ 0 → capacity rate ≤ b .samples
 unfolding cause
 wide rate b l c e = ltb-false (b .samples) (capacity rate) (first (ltb (b .samples) (capacity rate)) _ (second (rateOk rate) (tooShort rate b) _ e))
   where
@@ -83,11 +93,11 @@ wide rate b l c e = ltb-false (b .samples) (capacity rate) (first (ltb (b .sampl
     second false y k q = absurd (omega arith)
 
 module _ (rate : ℕ) (s : SigfoxReceiver) (l : Ledger byFrames) (f : For rate s (carry l)) (c : Call) (b : Memory) (holds : take (length (l .held)) (b .samples) ≡ l .held) where
-  pub number-is : cause (s .rate) (lengthsOf b) (countsOf s) (ledgerOf s (b .samples)) c ≡ cause rate (lengthsOf b) (causes.countsOf l) l c
+  pub number-is : cause (s .rate) (lengthsOf b) (countsOf s) (ledgerOf s (b .samples)) c ≡ cause rate (lengthsOf b) (causes.countsOf rate l) l c
   number-is =
       ap (λ (k : Ledger byEntry). cause (s .rate) (lengthsOf b) (countsOf s) k c) (f .ledger (b .samples) holds)
       ∙ ap (λ (k : causes.Counts). cause (s .rate) (lengthsOf b) k (startCall (carry l)) c) (f .counts)
-      ∙ ap (λ (r : ℕ). cause r (lengthsOf b) (causes.countsOf (carry l)) (startCall (carry l)) c) (f .rated)
+      ∙ ap (λ (r : ℕ). cause r (lengthsOf b) (causes.countsOf rate (carry l)) (startCall (carry l)) c) (f .rated)
       ∙ cause-start rate (carry l) (lengthsOf b) c
       ∙ cause-carry rate (lengthsOf b) l c
 
@@ -120,7 +130,7 @@ module _ (rate : ℕ) (l : Ledger byFrames) (b : Memory) (holds : take (length (
     pub size : length now ≡ length (b .samples)
     pub held : take (length (k .held)) now ≡ k .held
 
-  push-kept : (xs : List Float) → cause rate (lengthsOf b) (causes.countsOf l) l (push xs) ≡ 0
+  push-kept : (xs : List Float) → cause rate (lengthsOf b) (causes.countsOf rate l) l (push xs) ≡ 0
       → Kept (scans rate (demodOf rate) l (push xs)) (allFilled rate (length xs) (record { held = length (l .held); places = b .samples }) xs .places)
   unfolding scans startCall
   push-kept xs e =
@@ -145,7 +155,7 @@ module _ (rate : ℕ) (l : Ledger byFrames) (b : Memory) (holds : take (length (
         ap (λ (r : ℕ). allFilled r (length xs) (record { held = s .held; places = b .samples }) xs .places) (f .rated)
         ∙ ap (λ (k : causes.Counts). allFilled rate (length xs) (record { held = k .held; places = b .samples }) xs .places) (f .counts)
 
-    pub samples-kept : (c : Call) (n : ℕ) → (n ≡ 0 → cause rate (lengthsOf b) (causes.countsOf l) l c ≡ 0)
+    pub samples-kept : (c : Call) (n : ℕ) → (n ≡ 0 → cause rate (lengthsOf b) (causes.countsOf rate l) l c ≡ 0)
         → Kept (afterCall rate (demodOf rate) l c n) (samplesAfter s c (b .samples) n)
     unfolding samplesAfter afterCall closed
     samples-kept (push xs) zero e = let k = push-kept xs (e refl) in rw (filled-is xs) (record { size = k .size; held = k .held })

@@ -2,4 +2,5 @@
 pub mod Runs
 pub mod Theorem
 pub mod Grown
+pub mod Distances
 pub mod TwoArms

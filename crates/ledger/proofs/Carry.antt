@@ -163,11 +163,11 @@ unfolding anyNan
 nan-carry [] = refl
 nan-carry (m ∷ l) = rw (nan-carry l) refl
 
-order-carry : (rate : ℕ) (l : Ledger byFrames) → orderly rate (countsOf (carry l)) (carry l) ≡ orderly rate (countsOf l) l
+order-carry : (rate : ℕ) (l : Ledger byFrames) → orderly rate (countsOf rate (carry l)) (carry l) ≡ orderly rate (countsOf rate l) l
 unfolding orderly
 order-carry rate l = rw (length-map (l .waiting) summary, unlike-carry (l .waiting), fit-carry (l .waiting)) refl
 
-pub cause-carry : (rate : ℕ) (b : Lent) (l : Ledger byFrames) (c : Call) → cause rate b (countsOf (carry l)) (carry l) c ≡ cause rate b (countsOf l) l c
+pub cause-carry : (rate : ℕ) (b : Lent) (l : Ledger byFrames) (c : Call) → cause rate b (countsOf rate (carry l)) (carry l) c ≡ cause rate b (countsOf rate l) l c
 unfolding cause callCause
 cause-carry rate b l (push xs) = rw (order-carry rate l, nan-carry (l .waiting)) refl
 cause-carry rate b l flush = rw (order-carry rate l, nan-carry (l .waiting)) refl

@@ -163,7 +163,7 @@ never-five rate cs a e =
     let r = and-true (leb lowestRate rate) (leb rate highestRate) (f .0) in
     let fair = demod-fair rate (leb-true lowestRate rate (r .0)) (leb-true rate highestRate (r .1)) in
     let o = in-order rate (demodOf rate) fair frames-lawful (rate-pos rate (f .0)) (λ ds. omega (arith, few-wait rate ds)) cs in
-    clash (orderly rate (countsOf l) l) (order-holds rate l o) (f .1)
+    clash (orderly rate (countsOf rate l) l) (order-holds rate l o) (f .1)
 
 pub every-grown : (rate : ℕ) (cs : List Attempt) → Grown rate cs
 every-grown rate cs = record { waiting = few-wait rate cs; in-order = never-five rate cs }

@@ -10,7 +10,7 @@ use borrow.Author.Tests.{ltb-true, ltb-false, leb-true, lt-ltb, le-leb, not-fals
 use Rattle.limits.specs.Limits.{badRate, short, long, badSample, badState, stream, badNumber, lowestRate, highestRate, longestStream}
 use Rattle.limits.specs.Samples.{rateOk, allDbm}
 use Rattle.ledger.specs.Ledger.{Kind, capacity, spaced, Ledger, Call, push, flush}
-use Rattle.ledger.specs.Causes.{mostStarts, oldestS, mostWaiting, below, since, unlike, allFit, countsOf, orderly, anyNan, Lent, tooShort, callCause, cause}
+use Rattle.ledger.specs.Causes.{mostStarts, oldestS, mostWaiting, below, since, unlike, allFit, startsOrdered, countsOf, orderly, anyNan, Lent, tooShort, callCause, cause}
 use Rattle.ledger.specs.Room.{Below, Since, InOrder, Accepted}
 use Rattle.ledger.proofs.Basics.{and-true}
 use Rattle.ledger.proofs.Pigeon.{fits}
@@ -59,7 +59,7 @@ at-last n false x h e = refl
 module _ {K : Kind} where
   -- ---- the test says the same as the order
 
-  pub order-holds : (rate : ℕ) (l : Ledger K) → InOrder rate l → orderly rate (countsOf l) l ≡ true
+  pub order-holds : (rate : ℕ) (l : Ledger K) → InOrder rate l → orderly rate (countsOf rate l) l ≡ true
   unfolding orderly
   order-holds rate l o =
       rw (
@@ -76,18 +76,18 @@ module _ {K : Kind} where
       )
       (o .fits)
 
-  pub order-says : (rate : ℕ) (l : Ledger K) → orderly rate (countsOf l) l ≡ true → InOrder rate l
+  pub order-says : (rate : ℕ) (l : Ledger K) → orderly rate (countsOf rate l) l ≡ true → InOrder rate l
   unfolding orderly
   order-says rate l e =
       let a = and-true (leb (length (l .held)) (capacity rate)) _ e in
       let b = and-true (allDbm (l .held)) _ (a .1) in
       let c = and-true (leb (l .base + length (l .held)) longestStream) _ (b .1) in
       let f = and-true (ltb (2 * l .unscanned) rate) _ (c .1) in
-      let g = and-true (leb (length (l .starts)) mostStarts) _ (f .1) in
+      let t = and-true (startsOrdered rate (l .base) (length (l .held)) (l .starts)) _ (f .1) in
+      let g = and-true (leb (length (l .starts)) mostStarts) _ (t .0) in
       let h = and-true (below (l .base + length (l .held)) (l .starts)) _ (g .1) in
       let i = and-true (since (l .base) (oldestS * rate) (l .starts)) _ (h .1) in
-      let j = and-true (spaced rate [] (l .starts)) _ (i .1) in
-      let k = and-true (leb (length (l .waiting)) mostWaiting) _ (j .1) in
+      let k = and-true (leb (length (l .waiting)) mostWaiting) _ (t .1) in
       let m = and-true (unlike K (l .waiting)) (allFit K (l .waiting)) (k .1) in
       record {
         room = leb-true (length (l .held)) (capacity rate) (a .0);
@@ -97,7 +97,7 @@ module _ {K : Kind} where
         few = leb-true (length (l .starts)) mostStarts (g .0);
         below = below-says (l .base + length (l .held)) (l .starts) (h .0);
         recent = since-says (l .base) (oldestS * rate) (l .starts) (i .0);
-        apart = j .0;
+        apart = i .1;
         waiting = leb-true (length (l .waiting)) mostWaiting (k .0);
         unlike = m .0;
         fits = m .1;
@@ -105,29 +105,29 @@ module _ {K : Kind} where
 
   -- ---- an accepted call
 
-  call-accepted : (rate : ℕ) (l : Ledger K) (c : Call) → callCause rate (countsOf l) l c ≡ 0 → Accepted rate l c × InOrder rate l
+  call-accepted : (rate : ℕ) (l : Ledger K) (c : Call) → callCause rate (countsOf rate l) l c ≡ 0 → Accepted rate l c × InOrder rate l
   unfolding callCause
   call-accepted rate l (push xs) e =
       let a = zero-then (ltb (capacity rate) (length xs)) long _ (omega arith) e in
       let b = zero-then (not (allDbm xs)) badSample _ (omega arith) (a .1) in
-      let c = zero-then (not (orderly rate (countsOf l) l)) badState _ (omega arith) (b .1) in
+      let c = zero-then (not (orderly rate (countsOf rate l) l)) badState _ (omega arith) (b .1) in
       let g = zero-then (ltb longestStream (l .base + length (l .held) + length xs)) stream _ (omega arith) (c .1) in (
         record {
           size = ltb-false (capacity rate) (length xs) (a .0);
           samples = not-false (allDbm xs) (b .0);
           stream = ltb-false longestStream (l .base + length (l .held) + length xs) (g .0);
         },
-        order-says rate l (not-false (orderly rate (countsOf l) l) (c .0)),
+        order-says rate l (not-false (orderly rate (countsOf rate l) l) (c .0)),
       )
   call-accepted rate l flush e =
-      (tt, order-says rate l (not-false (orderly rate (countsOf l) l) (zero-then (not (orderly rate (countsOf l) l)) badState _ (omega arith) e .0)))
+      (tt, order-says rate l (not-false (orderly rate (countsOf rate l) l) (zero-then (not (orderly rate (countsOf rate l) l)) badState _ (omega arith) e .0)))
 
   pub record Passed (rate : ℕ) (l : Ledger K) (c : Call) : Type 0 where
     pub rated : rateOk rate ≡ true
     pub accepted : Accepted rate l c
     pub order : InOrder rate l
 
-  pub passed : (rate : ℕ) (b : Lent) (l : Ledger K) (c : Call) → cause rate b (countsOf l) l c ≡ 0 → Passed rate l c
+  pub passed : (rate : ℕ) (b : Lent) (l : Ledger K) (c : Call) → cause rate b (countsOf rate l) l c ≡ 0 → Passed rate l c
   unfolding cause
   passed rate b l c e =
       let p = zero-then (not (rateOk rate)) badRate _ (omega arith) e in
@@ -137,25 +137,25 @@ module _ {K : Kind} where
 
   -- ---- a call that is refused with 5
 
-  five-call : (rate : ℕ) (l : Ledger K) (c : Call) → callCause rate (countsOf l) l c ≡ badState → orderly rate (countsOf l) l ≡ false
+  five-call : (rate : ℕ) (l : Ledger K) (c : Call) → callCause rate (countsOf rate l) l c ≡ badState → orderly rate (countsOf rate l) l ≡ false
   unfolding callCause
   five-call rate l (push xs) e =
       let a = other-then badState (ltb (capacity rate) (length xs)) long _ (λ h. omega arith) e in
       let b = other-then badState (not (allDbm xs)) badSample _ (λ h. omega arith) (a .1) in
-      at-last badState (orderly rate (countsOf l) l) _
+      at-last badState (orderly rate (countsOf rate l) l) _
       (late (ltb longestStream (l .base + length (l .held) + length xs)) (anyNan K (l .waiting))) (b .1)
     where
       late : (q r : Bool) → _≡_ {A = ℕ} (cond q stream (cond r badNumber 0)) badState → ⊥
       late true r e = omega arith
       late false true e = omega arith
       late false false e = omega arith
-  five-call rate l flush e = at-last badState (orderly rate (countsOf l) l) _ (late (anyNan K (l .waiting))) e
+  five-call rate l flush e = at-last badState (orderly rate (countsOf rate l) l) _ (late (anyNan K (l .waiting))) e
     where
       late : (r : Bool) → _≡_ {A = ℕ} (cond r badNumber 0) badState → ⊥
       late true e = omega arith
       late false e = omega arith
 
-  pub five : (rate : ℕ) (b : Lent) (l : Ledger K) (c : Call) → cause rate b (countsOf l) l c ≡ badState → (rateOk rate ≡ true) × (orderly rate (countsOf l) l ≡ false)
+  pub five : (rate : ℕ) (b : Lent) (l : Ledger K) (c : Call) → cause rate b (countsOf rate l) l c ≡ badState → (rateOk rate ≡ true) × (orderly rate (countsOf rate l) l ≡ false)
   unfolding cause
   five rate b l c e =
       let p = other-then badState (not (rateOk rate)) badRate _ (λ h. omega arith) e in

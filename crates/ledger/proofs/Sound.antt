@@ -37,7 +37,7 @@ module _ (rate : ℕ) (l : Ledger byFrames) (s : Sound l) where
   call-fed flush w a o = record { singles = s .singles; coming = tt; room = o .room; stream = omega (arith, o .stream) }
 
   -- after a call, refused or not
-  pub call-sound : (b : Lent) (c : Call) (n : ℕ) → (n ≡ 0 → cause rate b (countsOf l) l c ≡ 0) → Singles (given c)
+  pub call-sound : (b : Lent) (c : Call) (n : ℕ) → (n ≡ 0 → cause rate b (countsOf rate l) l c ≡ 0) → Singles (given c)
       → Sound (afterCall rate (demodOf rate) l c n) × Every Clear (callEvents rate (demodOf rate) l c n)
   unfolding afterCall callEvents closed
   call-sound b c zero e w =

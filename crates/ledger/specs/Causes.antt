@@ -79,29 +79,33 @@ module _ (K : Kind) where
   allFit [] = true
   allFit (m ∷ l) = entryFits (K .entry m) && allFit l
 
--- how many samples, starts and messages a state says that it has; a ledger has as many as its lists are long
+-- "at most 96 remembered starts, below base + held, not before base − 7×rate, pairwise at least 0.3 s apart"
+abbrev pub startsOrdered : ℕ → ℕ → ℕ → List ℕ → Bool
+startsOrdered rate base held l =
+    leb (length l) mostStarts && (below (base + held) l && (since base (oldestS * rate) l && spaced rate [] l))
+
+-- how many samples and messages a state says that it has, and whether its starts are in order: a state says that over distances (02, request 10), a ledger over
+-- absolute samples, and it has as many samples and messages as its lists are long
 pub record Counts : Type 0 where
   pub held : ℕ
-  pub starts : ℕ
+  pub starts : Bool
   pub waiting : ℕ
 
-abbrev pub countsOf : {K : Kind} → Ledger K → Counts
-countsOf l = record { held = length (l .held); starts = length (l .starts); waiting = length (l .waiting) }
+abbrev pub countsOf : {K : Kind} → ℕ → Ledger K → Counts
+countsOf rate l =
+    record { held = length (l .held); starts = startsOrdered rate (l .base) (length (l .held)) (l .starts); waiting = length (l .waiting) }
 
--- "held at most 12×rate, those samples valid, base + held at most 2^40, twice the unscanned count under the rate, at most 96 remembered starts, below
--- base + held, not before base − 7×rate, pairwise at least 0.3 s apart; at most 128 [02: 40] waiting, no two alike in device and counter, each with .."
+-- "held at most 12×rate, those samples valid, base + held at most 2^40, twice the unscanned count under the rate, [the starts]; at most 128 [02: 40] waiting, no two
+-- alike in device and counter, each with .."
 unfoldable pub orderly : {K : Kind} → ℕ → Counts → Ledger K → Bool
 orderly {K} rate n l =
     leb (n .held) (capacity rate)
     && (allDbm (l .held)
     && (leb (l .base + n .held) longestStream
     && (ltb (2 * l .unscanned) rate
-    && (leb (n .starts) mostStarts
-    && (below (l .base + n .held) (l .starts)
-    && (since (l .base) (oldestS * rate) (l .starts)
-    && (spaced rate [] (l .starts)
+    && (n .starts
     && (leb (n .waiting) mostWaiting
-    && (unlike K (l .waiting) && allFit K (l .waiting))))))))))
+    && (unlike K (l .waiting) && allFit K (l .waiting)))))))
 
 -- ---- "any NaN": in the numbers that a state's messages use
 
@@ -169,7 +173,7 @@ pub record Attempt : Type 0 where
 
 -- the ledger's own: "a cause that looks at state or held samples looks at the ledger's here"
 abbrev pub number : {K : Kind} → ℕ → Ledger K → Attempt → ℕ
-number rate l a = causeWith rate (a .lent) (countsOf l) l (a .call) (a .schedule)
+number rate l a = causeWith rate (a .lent) (countsOf rate l) l (a .call) (a .schedule)
 
 -- "A refused call changes nothing and has no records"
 unfoldable pub afterCall : {K : Kind} → ℕ → Demod → Ledger K → Call → ℕ → Ledger K

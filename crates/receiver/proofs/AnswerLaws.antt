@@ -15,7 +15,7 @@ use Rattle.limits.specs.Samples.{rateOk, allDbm}
 use Rattle.demod.specs.Capture.{joined}
 use Rattle.ledger.specs.Ledger.{Ledger, Call, push, pushRaw, flush, byEntry, capacity, dbmOf}
 use Rattle.ledger.specs.Causes as causes
-use Rattle.ledger.specs.Causes.{Counts, mostStarts, mostWaiting, orderly, tooShort, firstOf, callCause, cause, callEvents}
+use Rattle.ledger.specs.Causes.{Counts, startsOrdered, mostStarts, mostWaiting, orderly, tooShort, firstOf, callCause, cause, callEvents}
 use Rattle.shifts.specs.Shifts.{Schedule, scheduleCause, markBy}
 use Rattle.ledger.specs.Records.{withRecords}
 use Rattle.ledger.specs.Room.{openPlaces}
@@ -29,7 +29,7 @@ use Rattle.receiver.specs.Calls.{Memory, lengthsOf, refusalOf, recordsOf
 use Rattle.receiver.specs.Running.{Passes, Answers}
 use Rattle.receiver.specs.declared.SigfoxReceiver.{SigfoxReceiver}
 use Rattle.receiver.specs.declared.Received.{Received}
-use Rattle.receiver.proofs.StateLaws.{orderly-is, samples-fit}
+use Rattle.receiver.proofs.StateLaws.{order-given, orderly-is, samples-fit}
 
 -- ---- a call that no cause applies to
 
@@ -67,21 +67,23 @@ module _ (s : SigfoxReceiver) (c : Call) (m : Memory) (starts-places : length (s
       )
 
   -- what the state says that it has is what stands there
-  counts-are : countsOf s ≡ causes.countsOf (ledgerOf s (m .samples))
+  counts-are : (countsOf s ≡ causes.countsOf (s .rate) (ledgerOf s (m .samples)))
+      × (starts.startsOk (s .rate) (s .base) (s .held) (s .starts) ≡ true) × (s .starts .count ≡ length (starts.distances (s .starts)))
   counts-are =
       let o = sym (orderly-is s (m .samples)) ∙ in-order (s .rate) (countsOf s) (ledgerOf s (m .samples)) c (long-enough .2) in
       let a = and-true (samplesOk (s .rate) (s .held) (s .base) (s .unscanned) (s .starts) (m .samples)) (waiting.waitingOk (s .waiting)) o in
       let x = samples-fit (s .rate) (s .held) (s .base) (s .unscanned) (s .starts) (m .samples) (a .0) in
       let z = leb-true (s .waiting .count) mostWaiting (and-true (leb (s .waiting .count) mostWaiting) _ (a .1) .0) in
       let p : length (take (s .held) (m .samples)) ≡ s .held = length-take-le (s .held) (m .samples) (omega (arith, lengths .0)) in
-      let q : length (starts.remembered (s .starts)) ≡ s .starts .count = length-take-le (s .starts .count) (s .starts .at) (omega arith) in
+      let q : length (starts.distances (s .starts)) ≡ s .starts .count = length-take-le (s .starts .count) (s .starts .at) (omega arith) in
+      let o : startsOrdered (s .rate) (s .base) (s .held) (starts.remembered (s .base) (s .starts)) ≡ true = order-given (s .rate) (s .base) (s .held) (s .starts) (x .3) q in
       let r : length (waiting.waitingOf (s .waiting)) ≡ s .waiting .count = length-take-le (s .waiting .count) (s .waiting .messages) (omega arith) in
-      rw (p, q, r) refl
+      (rw (p, r, x .3, o) refl, x .3, sym q)
 
   pub passes : Passes s c (m .samples) (m .events) (m .scratch64)
   passes =
       let k = counts-are in
-      let f : cause (s .rate) (lengthsOf m) (causes.countsOf (ledgerOf s (m .samples))) (ledgerOf s (m .samples)) c ≡ 0 = rw (← k) e in
+      let f : cause (s .rate) (lengthsOf m) (causes.countsOf (s .rate) (ledgerOf s (m .samples))) (ledgerOf s (m .samples)) c ≡ 0 = rw (← k .0) e in
       let p = passed (s .rate) (lengthsOf m) (ledgerOf s (m .samples)) c f in
       let r = and-true (leb lowestRate (s .rate)) (leb (s .rate) highestRate) (p .rated) in
       record {
@@ -90,7 +92,9 @@ module _ (s : SigfoxReceiver) (c : Call) (m : Memory) (starts-places : length (s
         places = lengths .0;
         bytes = lengths .1;
         numbers = lengths .3;
-        counts = k;
+        counts = k .0;
+        starts = k .1;
+        remembers = k .2;
         order = p .order;
         accepted = p .accepted;
       }

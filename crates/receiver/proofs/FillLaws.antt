@@ -2,31 +2,60 @@
 use mathlib.Core.Bool.{true, false}
 use mathlib.Core.List.{List, [], _∷_, _++_}
 use mathlib.Core.Logic.{⊎-elim}
+use mathlib.Core.Option.{Option, none, some}
 use mathlib.Core.Path.{_≡_, _∙_, refl, sym, ap}
-use Prim.Native.Nat.{ℕ, zero, suc, _+_, _-_, _*_, _≤_, _<_}
+use Prim.Native.Nat.{ℕ, zero, suc, _+_, _-_, _*_, _^_, _≤_, _<_}
 use native.Mathlib.Nat.{min-le-left}
 use native.Mathlib.Omega.{arith}
 use lib.Dec.{leb, eqb}
-use lib.ListN.{length, take, drop, length-drop}
+use lib.ListN.{length, take, drop, length-drop, length-map}
 use lib.Seq.{length-take-le, paste, length-paste}
 use lib.Ieee.{Float}
 use borrow.Author.Tests.{le-leb, lt-leb, eqb-true}
 use Rattle.limits.specs.Limits.{lowestRate, highestRate, longestStream, eventsSize, scratch64}
 use Rattle.limits.specs.Samples.{isDbm, allDbm}
 use Rattle.limits.proofs.Samples.{all-drop, all-take}
-use Rattle.ledger.specs.Ledger.{Kind, Demod, Ledger, byEntry, capacity, half, tail, halve, amount, add, scanned, forget}
-use Rattle.ledger.specs.Room.{room, takeOneIf, takeEachIf, scanIf, dueIf, fillIf, fillsIf}
+use Rattle.ledger.specs.Causes.{mostStarts, oldestS}
+use Rattle.ledger.specs.Ledger.{Kind, Demod, Ledger, byEntry, capacity, half, tail, seconds, startsFrom, hear, remember, takes, takeOne, halve, amount, add, scanned, forget}
+use Rattle.ledger.specs.Room.{Since, room, takeOneIf, takeEachIf, scanIf, dueIf, fillIf, fillsIf}
 use Rattle.ledger.specs.Demodulation.{demodOf}
 use Rattle.ledger.proofs.Basics.{either, and-true}
 use Rattle.ledger.proofs.Sizes.{Still, one-still, halve-less, add-length, amount-room, amount-pos}
 use Rattle.receiver_samples.specs.Buffer.{Buffer, leftHeld, leftPlaces, share, filled, allFilled}
 use Rattle.receiver_samples.specs.Buffer as buffer
 use Rattle.receiver_samples.proofs.Fillings.{runs, runs-turn, runs-none, runs-buffer, left-less, left-length, halve-holds, fill-holds, room-is, held-length}
+use Rattle.demod.specs.declared.DecodedFrame.{DecodedFrame}
+use Rattle.receiver_starts.specs.Starts as starts
+use Rattle.receiver_starts.specs.Starts.{distances, distancesOf}
 use Rattle.receiver_starts.specs.declared.Starts.{Starts}
+use Rattle.receiver_starts.proofs.Places.{take-few}
+use Rattle.receiver_starts.proofs.SampleLaws.{from-holds, moved-is}
+use Rattle.receiver_starts.proofs.StartLaws.{stands}
 use Rattle.receiver_waiting.specs.declared.Waiting.{Waiting}
 use Rattle.bursts.specs.declared.Burst.{Burst}
 use Rattle.receiver_scan.specs.Midway.{Midway, Lent, Within, Does}
 use Rattle.receiver_scan.specs.declared.Scanned.{Scanned}
+
+-- ---- starts that are not too old
+
+since-wide : (a b c d : ℕ) (l : List ℕ) → c + b ≤ a + d → Since a b l → Since c d l
+since-wide a b c d [] h w = tt
+since-wide a b c d (s ∷ l) h w = (omega (arith, w .0), since-wide a b c d l h (w .1))
+
+since-snoc : (base back : ℕ) (l : List ℕ) (x : ℕ) → Since base back l → base ≤ x → Since base back (l ++ (x ∷ []))
+since-snoc base back [] x w h = (omega arith, tt)
+since-snoc base back (s ∷ l) x w h = (w .0, since-snoc base back l x (w .1) h)
+
+since-some : (base back lo : ℕ) (l : List ℕ) → Since base back l → Since base back (startsFrom lo l)
+unfolding startsFrom
+since-some base back lo [] w = tt
+since-some base back lo (s ∷ l) w =
+    ⊎-elim (λ e. rw e (w .0, since-some base back lo l (w .1))) (λ e. rw e (since-some base back lo l (w .1))) (either (leb lo s))
+
+taken-since : {K : Kind} (base back : ℕ) (l : Ledger K) (x : ℕ) (o : Option DecodedFrame) → base ≤ x → Since base back (l .starts) → Since base back (hear (remember l x) x o .starts)
+unfolding hear remember
+taken-since base back l x none h w = since-snoc base back (l .starts) x w h
+taken-since base back l x (some f) h w = since-snoc base back (l .starts) x w h
 
 -- ---- a scan that tests for room leaves the samples
 
@@ -49,6 +78,34 @@ module _ {K : Kind} (rate : ℕ) (d : Demod) where
   pub scan-if-still : (wait : ℕ) (l : Ledger K) → Still l (scanIf rate d wait l)
   unfolding scanIf forget
   scan-if-still wait l = let z = each-if-still wait l (d .bursts (l .held)) in record { held = z .held; base = z .base; unscanned = z .unscanned }
+
+  -- what it adds to the starts lies behind the base
+  module _ (lo back : ℕ) where
+    one-if-since : (wait : ℕ) (l : Ledger K) (b : Burst) → lo ≤ l .base → Since lo back (l .starts) → Since lo back (takeOneIf rate d wait l b .starts)
+    unfolding takeOneIf takeOne
+    one-if-since wait l b h w =
+        ⊎-elim
+        (λ e. rw e
+        (⊎-elim
+        (λ t. rw t (hear-since (d .decode (l .held) (seconds rate (l .base)) b)))
+        (λ t. rw t w)
+        (either (takes rate wait l b))))
+        (λ e. rw e w)
+        (either (room l))
+      where
+        hear-since : (o : Option DecodedFrame) → Since lo back (hear (remember l (l .base + b .start)) (l .base + b .start) o .starts)
+        hear-since o = taken-since lo back l (l .base + b .start) o (omega arith) w
+
+    each-if-since : (wait : ℕ) (l : Ledger K) (bs : List Burst) → lo ≤ l .base → Since lo back (l .starts) → Since lo back (takeEachIf rate d wait l bs .starts)
+    unfolding takeEachIf
+    each-if-since wait l [] h w = w
+    each-if-since wait l (b ∷ bs) h w =
+        let s = one-if-still wait l b .base in
+        each-if-since wait (takeOneIf rate d wait l b) bs (omega arith) (one-if-since wait l b h w)
+
+    pub scan-if-since : (wait : ℕ) (l : Ledger K) → lo ≤ l .base → Since lo back (l .starts) → Since lo back (scanIf rate d wait l .starts)
+    unfolding scanIf forget
+    scan-if-since wait l h w = since-some lo back _ _ (each-if-since wait l (d .bursts (l .held)) h w)
 
   due-if-held : (l : Ledger K) → dueIf rate d l .held ≡ l .held
   unfolding dueIf scanned
@@ -139,11 +196,19 @@ unfolding allDbm
 valid-join [] b p q = q
 valid-join (x ∷ a) b p q = let h = and-true (isDbm x) (allDbm a) p in rw (h .0) (valid-join a b (h .1) q)
 
--- the ledger's samples, base and unscanned count are of no concern to what stands for the rest
-pub midway-as : (l k : Ledger byEntry) (old : List ℕ) (s : Starts) (w : Waiting) (n : ℕ) (e : List ℕ) → k .starts ≡ l .starts → k .waiting ≡ l .waiting → k .heard ≡ l .heard
-    → Midway l old s w n e → Midway k old s w n e
-midway-as l k old s w n e a b c m =
-    record { starts = m .starts ∙ sym a; waiting = m .waiting ∙ sym b; count = m .count ∙ ap length (sym c); events = rw c (m .events); sized = rw c (m .sized) }
+-- what stands for the rest of a ledger does where only its samples, base, starts and unscanned count are others
+pub midway-as : (l k : Ledger byEntry) (old : List ℕ) (s v : Starts) (w : Waiting) (n : ℕ) (e : List ℕ) → distances v ≡ distancesOf (k .base) (k .starts)
+    → k .waiting ≡ l .waiting → k .heard ≡ l .heard → Midway l old s w n e → Midway k old v w n e
+midway-as l k old s v w n e a b c m =
+    record { starts = a; waiting = m .waiting ∙ sym b; count = m .count ∙ ap length (sym c); events = rw c (m .events); sized = rw c (m .sized) }
+
+-- what `shift` leaves
+pub shifted-is : (s v : Starts) (by : ℕ) → s .count ≤ mostStarts → v ≡ starts.over s (starts.moved by (distances s))
+    → (distances v ≡ starts.moved by (distances s)) × (v .count ≤ mostStarts)
+shifted-is s v by h e =
+    let a = stands s v (starts.moved by (distances s)) e in
+    let n : length (starts.moved by (distances s)) ≡ length (distances s) = length-map (distances s) _ in
+    (a .0, omega (arith, a .1, take-few (s .count) (s .at)))
 
 -- ---- the loop: w is the ledger after all fillings, b the buffer
 
@@ -163,6 +228,11 @@ module _ (rate : ℕ) (xs : List Float) (w : Ledger byEntry) (b : Buffer) (old :
     pub stream : base + held + length xs ≤ longestStream + from
     pub midway : Midway ledger old (t .starts) (t .waiting) (t .count) events
     pub within : Within t
+    -- the base at the call's begin: since then it grew by less than 24 s, and no start is over 7 s before it
+    pub first : ℕ
+    pub grows : first ≤ base
+    pub grown : base + held ≤ first + capacity rate + from
+    pub since : Since first (oldestS * rate) (ledger .starts)
     pub rest : fillsIf rate (demodOf rate) (length xs) (f ledger) (drop from xs) ≡ w
     pub buffer : allFilled rate (length xs) (record { held = held; places = samples }) (drop from xs) ≡ b
 
@@ -198,9 +268,16 @@ module _ (rate : ℕ) (xs : List Float) (w : Ledger byEntry) (b : Buffer) (old :
           let k : length coming ≡ length xs - from = length-drop from xs in
           (omega arith, omega arith, omega arith, left-le rate held)
 
-      filled-at : FilledAt (paste moved left coming n) events (left + n) (base + (held - left)) (unscanned + n) t (from + n)
+      -- the starts after a drop
+      abbrev Shifted : ℕ → Starts → Type 0
+      Shifted rest v = (distances v ≡ starts.moved (held - rest) (distances (t .starts))) × (v .count ≤ mostStarts)
+
+      abbrev shifted : Starts → Scanned
+      shifted v = record { starts = v; waiting = t .waiting; count = t .count }
+
+      filled-at : (v : Starts) → Shifted left v → FilledAt (paste moved left coming n) events (left + n) (base + (held - left)) (unscanned + n) (shifted v) (from + n)
       unfolding add fillIf filled
-      filled-at =
+      filled-at v sh =
           let l = m .ledger in
           let k = halve rate l in
           let pos : 1 ≤ rate = omega arith in
@@ -212,6 +289,10 @@ module _ (rate : ℕ) (xs : List Float) (w : Ledger byEntry) (b : Buffer) (old :
           let f : take (left + n) (paste moved left coming n) ≡ add rate k coming .held = fill-holds rate left moved k (g .1) (g .0) hh coming in
           let p : length (paste moved left coming n) ≡ length moved = length-paste moved left coming n (omega (arith, z, g)) (min-le-left (length coming) (capacity rate - left)) in
           let r = halve-left rate l in
+          let hb = halve-base rate l held base e (m .based) in
+          let ds : distances v ≡ distancesOf (k .base) (k .starts)
+          = sh .0 ∙ ap (starts.moved (held - left)) (m .midway .starts) ∙ moved-is (held - left) (l .base) (l .starts)
+          ∙ rw (r .starts, ← hb, m .based) refl in
           record {
             ledger = add rate k coming;
             inside = z .2;
@@ -219,13 +300,17 @@ module _ (rate : ℕ) (xs : List Float) (w : Ledger byEntry) (b : Buffer) (old :
             bytes = m .bytes;
             fits = z .1;
             holds = f;
-            based = halve-base rate l held base e (m .based);
+            based = hb;
             unseen = rw (a, m .unseen, r .unscanned) refl;
             quiet = omega (arith, m .quiet, z);
             valid = valid-join (k .held) (take (amount rate k coming) coming) (r .valid (m .valid)) (all-take (amount rate k coming) coming (all-drop from xs ok));
             stream = omega (arith, m .stream, z);
-            midway = midway-as l (add rate k coming) old (t .starts) (t .waiting) (t .count) events (r .starts) (r .waiting) (r .heard) (m .midway);
-            within = m .within;
+            midway = midway-as l (add rate k coming) old (t .starts) v (t .waiting) (t .count) events ds (r .waiting) (r .heard) (m .midway);
+            within = record { starts = sh .1; waiting = m .within .waiting; count = m .within .count };
+            first = m .first;
+            grows = omega (arith, m .grows);
+            grown = omega (arith, m .grown, z);
+            since = rw (r .starts) (m .since);
             rest = ledger-turn rate (demodOf rate) pos l w xs from n (rw e (m .fits)) h a (m .rest);
             buffer = buffer-turn rate pos (record { held = held; places = samples }) (record { held = left + n; places = paste moved left coming n }) b xs from n (m .fits) h refl refl (m .buffer);
           }
@@ -238,12 +323,20 @@ module _ (rate : ℕ) (xs : List Float) (w : Ledger byEntry) (b : Buffer) (old :
           let z = fill-moves in
           (omega arith, omega arith, omega arith, omega arith, omega (arith, m .quiet))
 
-      pub fill-turn : (rest k : ℕ) (one two : List Float) → rest ≡ leftHeld rate held → one ≡ leftPlaces rate held samples → k ≡ buffer.room rate rest coming
-          → two ≡ paste one rest coming k → FilledAt two events (rest + k) (base + (held - rest)) (unscanned + k) t (from + k)
-      fill-turn rest k one two e f g i =
+      pub fill-turn : (rest k : ℕ) (one two : List Float) (v : Starts) → rest ≡ leftHeld rate held → one ≡ leftPlaces rate held samples → k ≡ buffer.room rate rest coming
+          → two ≡ paste one rest coming k → Shifted rest v → FilledAt two events (rest + k) (base + (held - rest)) (unscanned + k) (shifted v) (from + k)
+      fill-turn rest k one two v e f g i sh =
           let gg : k ≡ n = g ∙ ap (λ (x : ℕ). buffer.room rate x coming) e in
           let ii : two ≡ paste moved left coming n = i ∙ rw (f, e, gg) refl in
-          rw (ii, gg, e) filled-at
+          let ss : Shifted left v = rw (← e) sh in
+          rw (ii, gg, e) (filled-at v ss)
+
+      -- the starts are not too old for a drop to move them
+      pub shift-asks : rate ≤ highestRate → length xs ≤ capacity rate → (rest : ℕ) → rest ≡ leftHeld rate held
+          → (t .starts .count ≤ mostStarts) × (held - rest ≤ 2 ^ 30) × (starts.allFrom (2 ^ 30) (distances (t .starts)) ≡ true)
+      shift-asks hi size rest e =
+          let w = since-wide (m .first) (oldestS * rate) (m .ledger .base) (2 ^ 30) (m .ledger .starts) (omega (arith, m .grown, m .based, m .inside)) (m .since) in
+          (m .within .starts, omega (arith, m .fits), ap (starts.allFrom (2 ^ 30)) (m .midway .starts) ∙ from-holds (m .ledger .base) (2 ^ 30) (m .ledger .starts) w)
 
     module _ (m : FilledAt samples events held base unscanned t from) where
       -- no scan is due
@@ -264,6 +357,10 @@ module _ (rate : ℕ) (xs : List Float) (w : Ledger byEntry) (b : Buffer) (old :
             stream = m .stream;
             midway = m .midway;
             within = m .within;
+            first = m .first;
+            grows = m .grows;
+            grown = m .grown;
+            since = m .since;
             rest =
                 let q : leb rate (2 * m .ledger .unscanned) ≡ false = lt-leb rate (2 * m .ledger .unscanned) (rw (← m .unseen) h) in
                 (rw q at (m .rest));
@@ -310,8 +407,12 @@ module _ (rate : ℕ) (xs : List Float) (w : Ledger byEntry) (b : Buffer) (old :
             valid = rw (z .held) (m .valid);
             stream = m .stream;
             midway =
-                s .midway l old (sym (m .holds)) (sym (m .based)) (midway-as (m .ledger) l old (t .starts) (t .waiting) (t .count) events refl refl refl (m .midway));
+                s .midway l old (sym (m .holds)) (sym (m .based)) (midway-as (m .ledger) l old (t .starts) (t .starts) (t .waiting) (t .count) events (m .midway .starts) refl refl (m .midway));
             within = s .within;
+            first = m .first;
+            grows = m .grows;
+            grown = m .grown;
+            since = scan-if-since rate (demodOf rate) (m .first) (oldestS * rate) (tail rate) l (omega (arith, m .grows, m .based)) (m .since);
             rest =
                 let q : leb rate (2 * m .ledger .unscanned) ≡ true = le-leb rate (2 * m .ledger .unscanned) (rw (← m .unseen) h) in
                 (rw q at (m .rest));

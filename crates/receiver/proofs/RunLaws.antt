@@ -26,6 +26,8 @@ use Rattle.ledger.proofs.Fairness.{demod-fair}
 use Rattle.receiver_samples.specs.Buffer.{Buffer, allFilled}
 use Rattle.receiver_samples.proofs.Fillings.{held-length}
 use Rattle.receiver_starts.specs.Starts as starts
+use Rattle.receiver_starts.specs.Starts.{distances, startsOk}
+use Rattle.receiver_starts.proofs.SampleLaws.{distances-back}
 use Rattle.receiver_starts.specs.declared.Starts.{Starts}
 use Rattle.receiver_waiting.specs.Waiting.{waitingOf, leaves}
 use Rattle.receiver_waiting.specs.Waiting as waiting
@@ -37,6 +39,7 @@ use Rattle.receiver.specs.State.{ledgerOf, stateOver}
 use Rattle.receiver.specs.Calls.{samplesAfter}
 use Rattle.receiver.specs.Running.{Passes, Under, Closable, EndsBy, Ended}
 use Rattle.receiver.specs.declared.SigfoxReceiver.{SigfoxReceiver}
+use Rattle.receiver.proofs.StateLaws.{order-parts}
 use Rattle.receiver.proofs.FillLaws.{FillAt, ledger-end, buffer-end, scan-if-still}
 
 -- ---- a call's scans
@@ -53,9 +56,9 @@ module _ (s : SigfoxReceiver) (samples : List Float) (old : List ℕ) (scratch :
   rate = s .rate
 
   -- no record is there yet
-  start : Midway (ledgerOf s samples) old (s .starts) (s .waiting) 0 old
+  start : startsOk rate (s .base) (s .held) (s .starts) ≡ true → Midway (ledgerOf s samples) old (s .starts) (s .waiting) 0 old
   unfolding withRecords joined
-  start = record { starts = refl; waiting = refl; count = refl; events = refl; sized = tt }
+  start h = record { starts = sym (distances-back (s .base) (distances (s .starts)) (order-parts rate (s .base) (s .held) (s .starts) h .1)); waiting = refl; count = refl; events = refl; sized = tt }
 
   module _ (c : Call) (p : Passes s c samples old scratch) where
     -- the state's counts are the ledger's
@@ -63,7 +66,7 @@ module _ (s : SigfoxReceiver) (samples : List Float) (old : List ℕ) (scratch :
     held-is = ap (λ (k : causes.Counts). k .held) (p .counts)
 
     starts-few : s .starts .count ≤ 96
-    starts-few = let e : s .starts .count ≡ length (starts.remembered (s .starts)) = ap (λ (k : causes.Counts). k .starts) (p .counts) in omega (arith, p .order .few)
+    starts-few = order-parts rate (s .base) (s .held) (s .starts) (p .starts) .0
 
     pub waiting-few : s .waiting .count ≤ mostWaiting
     waiting-few = let e : s .waiting .count ≡ length (waitingOf (s .waiting)) = ap (λ (k : causes.Counts). k .waiting) (p .counts) in omega (arith, p .order .waiting)
@@ -99,8 +102,12 @@ module _ (s : SigfoxReceiver) (samples : List Float) (old : List ℕ) (scratch :
           quiet = p .order .unscanned;
           valid = p .order .samples;
           stream = omega (arith, p .accepted .stream);
-          midway = start;
+          midway = start (p .starts);
           within = begins (push xs) p;
+          first = s .base;
+          grows = omega arith;
+          grown = omega (arith, p .order .room);
+          since = p .order .recent;
           rest = uncapped (push xs) p;
           buffer = refl;
         }
@@ -161,7 +168,7 @@ module _ (s : SigfoxReceiver) (samples : List Float) (old : List ℕ) (scratch :
                 holds = held-is flush p ∙ ap length (sym (z .held));
                 based = sym (z .base);
                 unseen = sym (z .unscanned);
-                midway = d .midway l old refl refl start;
+                midway = d .midway l old refl refl (start (p .starts));
               });
           samples = refl;
         }
@@ -222,13 +229,13 @@ module _ (s : SigfoxReceiver) (l : Ledger byEntry) (old : List ℕ) (held base u
           (w (map frameBytes (l .heard)) old (u .midway .sized)
           (u .midway .count ∙ sym (length-map (l .heard) frameBytes)) (u .midway .events))
 
-      pub ended : (a : Starts) (b : Waiting) → a ≡ starts.over (s .starts) (starts.remembered (t .starts))
+      pub ended : (a : Starts) (b : Waiting) → a ≡ starts.over (s .starts) (distances (t .starts))
           → b ≡ waiting.over (s .waiting) (others (leaves all (seconds (s .rate) (base + held))) (waitingOf (t .waiting)))
           → Ended s c mark l old
           (record { refused = 0; count = n; receiver = record { rate = s .rate; held = held; base = base; unscanned = unscanned; starts = a; waiting = b } }) now
       unfolding stateOver closed
       ended a b ea eb =
-          let x : a ≡ starts.over (s .starts) (l .starts) = ea ∙ ap (starts.over (s .starts)) (u .midway .starts) in
+          let x : a ≡ starts.over (s .starts) (starts.distancesOf (l .base) (l .starts)) = ea ∙ ap (starts.over (s .starts)) (u .midway .starts) in
           let y : b ≡ waiting.over (s .waiting) (others (ready byEntry c (ledger.now (s .rate) l)) (l .waiting)) =
           eb ∙ rw (u .midway .waiting, others-are (s .rate) c all l time k time-is) refl in
           record { answer = rw (wrote .0, u .holds, u .based, u .unseen, x, y) refl; records = wrote .1 }

@@ -1,6 +1,6 @@
 -- An accepted call under way: what the code has of it stands for a ledger. Assumes nothing.
 use mathlib.Core.Path.{_≡_}
-use mathlib.Core.Bool.{Bool, false}
+use mathlib.Core.Bool.{Bool, true, false}
 use mathlib.Core.List.{List, map}
 use Prim.Native.Nat.{ℕ, _+_, _*_, _≤_, _<_}
 use lib.ListN.{length}
@@ -13,6 +13,7 @@ use Rattle.ledger.specs.Causes.{mostStarts}
 use Rattle.ledger.specs.Room.{InOrder, Accepted, openPlaces}
 use Rattle.ledger.specs.Demodulation.{demodOf}
 use Rattle.ledger.specs.Records.{recordOf, withRecords}
+use Rattle.receiver_starts.specs.Starts.{distances, startsOk}
 use Rattle.receiver_waiting.specs.Waiting.{waitingOf, leaves, anyExpires}
 use Rattle.receiver_scan.specs.Midway.{Midway}
 use Rattle.receiver_scan.specs.declared.Scanned.{Scanned}
@@ -29,7 +30,9 @@ pub record Passes (s : SigfoxReceiver) (c : Call) (samples : List Float) (events
   pub places : capacity (s .rate) ≤ length samples
   pub bytes : eventsSize ≤ length events
   pub numbers : scratch64 ≤ length scratch
-  pub counts : countsOf s ≡ causes.countsOf (ledgerOf s samples)
+  pub counts : countsOf s ≡ causes.countsOf (s .rate) (ledgerOf s samples)
+  pub starts : startsOk (s .rate) (s .base) (s .held) (s .starts) ≡ true
+  pub remembers : s .starts .count ≡ length (distances (s .starts))
   pub order : InOrder (s .rate) (ledgerOf s samples)
   pub accepted : Accepted (s .rate) (ledgerOf s samples) c
 

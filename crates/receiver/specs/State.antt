@@ -23,14 +23,15 @@ ledgerOf s buf =
       held = take (s .held) buf;
       base = s .base;
       unscanned = s .unscanned;
-      starts = starts.remembered (s .starts);
+      starts = starts.remembered (s .base) (s .starts);
       waiting = waiting.waitingOf (s .waiting);
       heard = [];
     }
 
--- the counts that a state states
+-- the counts that a state states, and whether its starts are in order: "The order rules of the state are said over these distances"
 abbrev pub countsOf : SigfoxReceiver → Counts
-countsOf s = record { held = s .held; starts = s .starts .count; waiting = s .waiting .count }
+countsOf s =
+    record { held = s .held; starts = starts.startsOk (s .rate) (s .base) (s .held) (s .starts); waiting = s .waiting .count }
 
 -- the state of a fresh receiver
 unfoldable pub newState : ℕ → SigfoxReceiver
@@ -44,7 +45,7 @@ stateOver s l =
       held = length (l .held);
       base = l .base;
       unscanned = l .unscanned;
-      starts = starts.over (s .starts) (l .starts);
+      starts = starts.over (s .starts) (starts.distancesOf (l .base) (l .starts));
       waiting = waiting.over (s .waiting) (l .waiting);
     }
 
@@ -58,7 +59,7 @@ numbersOk rate held base unscanned = leb held (capacity rate) && (leb (base + he
 
 unfoldable pub samplesOk : ℕ → ℕ → ℕ → ℕ → Starts → List Float → Bool
 samplesOk rate held base unscanned s buf =
-    numbersOk rate held base unscanned && (allDbm (take held buf) && starts.startsOk rate base (base + held) s)
+    numbersOk rate held base unscanned && (allDbm (take held buf) && starts.startsOk rate base held s)
 
 -- ---- the causes, by their subjects: together they are the ledger's `cause`
 

@@ -209,7 +209,7 @@ fn samples_in_order(
         return false;
     }
     let valid = limits::all_dbm(&samples[..held]);
-    let apart = receiver_starts::in_order(starts, rate, base, base + (held as u64));
+    let apart = receiver_starts::in_order(starts, rate, base, held);
     valid & apart
 }
 

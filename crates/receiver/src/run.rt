@@ -163,7 +163,10 @@ fn by_fillings(
     let mut from: usize = 0;
     while from < dbm.len() {
         let left = receiver_samples::halve(samples, rate, held);
-        base = base + ((held - left) as u64);
+        let dropped = (held - left) as u64;
+        base = base + dropped;
+        let starts = t.starts;
+        t.starts = receiver_starts::shift(starts, dropped);
         let n = receiver_samples::fill(samples, rate, left, dbm, from);
         held = left + n;
         unscanned = unscanned + n;

@@ -23,7 +23,8 @@ use Rattle.ledger.specs.Ledger.{Ledger, byEntry, Demod, hear, remember, takes, 
 use Rattle.ledger.specs.Room.{room, takeOneIf, takeEachIf, scanIf}
 use Rattle.ledger.specs.Causes.{mostStarts}
 use Rattle.ledger.specs.Demodulation.{demodOf}
-use Rattle.receiver_starts.specs.Starts.{remembered}
+use Rattle.receiver_starts.specs.Starts.{distances, lately}
+use Rattle.receiver_starts.proofs.SampleLaws.{lately-is}
 use Rattle.receiver_starts.specs.declared.Starts.{Starts}
 use Rattle.receiver_scan.specs.declared.Scanned.{Scanned}
 use Rattle.receiver_scan.specs.Midway.{Midway, Within, Does}
@@ -143,16 +144,16 @@ module _ (rate wait base : ℕ) (held : List Float) where
 
   -- ---- the end of a scan
 
-  pub does-scan : (s : Scanned) (e : List ℕ) (t : Scanned) (f : List ℕ) (x : Starts) → Each s e t f → remembered x ≡ startsFrom (base - rate) (remembered (t .starts))
+  pub does-scan : (s : Scanned) (e : List ℕ) (t : Scanned) (f : List ℕ) (x : Starts) → Each s e t f → distances x ≡ lately rate (distances (t .starts))
       → x .count ≤ mostStarts → Does (scanIf rate (demodOf rate) wait) held base s e (record { starts = x; waiting = t .waiting; count = t .count }) f
   unfolding scanIf forget
   does-scan s e t f x d q n =
       record {
         midway = λ l old h p m.
             let y = rw (← h) at (d .midway l old h p m) in
-            let z = each-stays rate (demodOf rate) wait l (heldBursts rate (l .held)) in
+            let k = takeEachIf rate (demodOf rate) wait l (heldBursts rate (l .held)) in
             record {
-              starts = q ∙ ap (startsFrom (base - rate)) (y .starts) ∙ rw (z .base ∙ p);
+              starts = q ∙ ap (lately rate) (y .starts) ∙ lately-is rate (k .base) (k .starts);
               waiting = y .waiting;
               count = y .count;
               events = y .events;

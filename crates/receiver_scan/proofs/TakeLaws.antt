@@ -5,7 +5,8 @@ use mathlib.Core.List.{List, [], _∷_, _++_}
 use mathlib.Core.Bool.{Bool, true, false, _&&_, cond}
 use Prim.Native.Nat.{ℕ, _+_, _*_, _≤_, _<_}
 use native.Mathlib.Omega.{arith}
-use lib.ListN.{length, length-append, length-take}
+use lib.IntN.{ℤ, pos}
+use lib.ListN.{length, length-append, length-map, length-take}
 use lib.Seq.{sets}
 use lib.Dec.{ltb}
 use lib.Ieee.{Float}
@@ -23,7 +24,8 @@ use Rattle.ledger.specs.Room.{openPlaces, eventPlaces, room, takeOneIf}
 use Rattle.ledger.specs.Causes.{mostStarts}
 use Rattle.ledger.specs.Demodulation.{heldFrame, demodOf}
 use Rattle.ledger.specs.Records.{frameBytes}
-use Rattle.receiver_starts.specs.Starts.{remembered}
+use Rattle.receiver_starts.specs.Starts.{distances, distancesOf, nearOne}
+use Rattle.receiver_starts.proofs.SampleLaws.{near-index, one-more}
 use Rattle.receiver_starts.specs.declared.Starts.{Starts}
 use Rattle.receiver_waiting.specs.Waiting.{waitingOf}
 use Rattle.receiver_waiting.specs.declared.Waiting.{Waiting}
@@ -43,11 +45,11 @@ if-false t v x y q e = rw q e
 -- ---- the steps of a burst that is taken
 
 module _ (l : Ledger byEntry) (old : List ℕ) (s : Starts) (w : Waiting) (n : ℕ) (e : List ℕ) (m : Midway l old s w n e) where
-  mid-remember : (x : ℕ) (t : Starts) → remembered t ≡ remembered s ++ (x ∷ []) → Midway (remember l x) old t w n e
+  mid-remember : (i : ℕ) (t : Starts) → distances t ≡ distances s ++ (pos i ∷ []) → Midway (remember l (l .base + i)) old t w n e
   unfolding remember
-  mid-remember x t q =
+  mid-remember i t q =
       record {
-        starts = q ∙ ap (λ (r : List ℕ). r ++ (x ∷ [])) (m .starts);
+        starts = q ∙ ap (λ (r : List ℤ). r ++ (pos i ∷ [])) (m .starts) ∙ one-more (l .base) (l .starts) i;
         waiting = m .waiting;
         count = m .count;
         events = m .events;
@@ -72,13 +74,10 @@ module _ (l : Ledger byEntry) (old : List ℕ) (s : Starts) (w : Waiting) (n : �
       }
 
 module _ (rate : ℕ) (b : Burst) (held : List Float) (base : ℕ) (s : Scanned) (e : List ℕ) (t : Starts) (x : BurstFrame)
-    (q : remembered t ≡ remembered (s .starts) ++ ((base + b .start) ∷ [])) (d : x ≡ shown (accepted (decodeBurst held rate b (seconds rate base)))) where
+    (q : distances t ≡ distances (s .starts) ++ (pos (b .start) ∷ [])) (d : x ≡ shown (accepted (decodeBurst held rate b (seconds rate base)))) where
   decoded-is : (l : Ledger byEntry) → l .held ≡ held → l .base ≡ base
       → heldFrame rate (l .held) (seconds rate (l .base)) b ≡ heardAs (x .outcome) (x .decoded)
   decoded-is l h p = rw (h, p) (shown-as x (decodeBurst held rate b (seconds rate base)) d)
-
-  start-is : (l : Ledger byEntry) → l .base ≡ base → remembered t ≡ remembered (s .starts) ++ ((l .base + b .start) ∷ [])
-  start-is l p = q ∙ ap (λ (k : ℕ). remembered (s .starts) ++ ((k + b .start) ∷ [])) (sym p)
 
   pub does-without : heardAs (x .outcome) (x .decoded) ≡ none → Within (record { starts = t; waiting = s .waiting; count = s .count })
       → Does (taken rate b) held base s e (record { starts = t; waiting = s .waiting; count = s .count }) e
@@ -87,7 +86,7 @@ module _ (rate : ℕ) (b : Burst) (held : List Float) (base : ℕ) (s : Scanned)
         midway = λ l old h p m.
             rw (decoded-is l h p ∙ o)
             (mid-none (remember l (l .base + b .start)) old t (s .waiting) (s .count) e
-            (mid-remember l old (s .starts) (s .waiting) (s .count) e m (l .base + b .start) t (start-is l p)) (l .base + b .start));
+            (mid-remember l old (s .starts) (s .waiting) (s .count) e m (b .start) t q) (l .base + b .start));
         within = inside;
       }
 
@@ -102,7 +101,7 @@ module _ (rate : ℕ) (b : Burst) (held : List Float) (base : ℕ) (s : Scanned)
         midway = λ l old h p m.
             rw (decoded-is l h p ∙ o)
             (mid-some (remember l (l .base + b .start)) old t (s .waiting) (s .count) e
-            (mid-remember l old (s .starts) (s .waiting) (s .count) e m (l .base + b .start) t (start-is l p)) (l .base + b .start) (x .decoded) v f lawful place
+            (mid-remember l old (s .starts) (s .waiting) (s .count) e m (b .start) t q) (l .base + b .start) (x .decoded) v f lawful place
             (rw (← p) at j) (rw (← p) at k));
         within = inside;
       }
@@ -119,7 +118,7 @@ module _ (held : List Float) (base : ℕ) (s : Scanned) (e : List ℕ) (inside :
   room-of : (l : Ledger byEntry) (old : List ℕ) → Midway l old (s .starts) (s .waiting) (s .count) e → room l ≡ hasRoom (s .starts .count) (s .waiting .count) (s .count)
   unfolding room
   room-of l old m =
-      let a : length (l .starts) ≡ s .starts .count = ap length (sym (m .starts)) ∙ length-take (s .starts .count) (s .starts .at) ∙ omega (arith, inside .starts) in
+      let a : length (l .starts) ≡ s .starts .count = sym (length-map (l .starts) _) ∙ ap length (sym (m .starts)) ∙ length-take (s .starts .count) (s .starts .at) ∙ omega (arith, inside .starts) in
       let c : length (l .waiting) ≡ s .waiting .count = ap length (sym (m .waiting)) ∙ length-take (s .waiting .count) (s .waiting .messages) ∙ omega (arith, inside .waiting) in
       rw (a, c, ← m .count)
 
@@ -132,15 +131,18 @@ module _ (held : List Float) (base : ℕ) (s : Scanned) (e : List ℕ) (inside :
     does-full q = record { midway = λ l old u p m. rw (room-of l old m ∙ q) m; within = inside }
 
     takes-of : (l : Ledger byEntry) (old : List ℕ) → l .held ≡ held → l .base ≡ base → Midway l old (s .starts) (s .waiting) (s .count) e
-        → takes rate wait l b ≡ takesAt rate wait (remembered (s .starts)) base (length held) b
+        → takes rate wait l b ≡ takesAt rate wait (distances (s .starts)) (length held) b
     unfolding takes
-    takes-of l old u p m = let z = m .starts in cc
+    takes-of l old u p m =
+        let z = m .starts in
+        let y = near-index rate (l .base) (l .starts) (b .start) in
+        cc
 
-    pub does-not : hasRoom (s .starts .count) (s .waiting .count) (s .count) ≡ true → takesAt rate wait (remembered (s .starts)) base (length held) b ≡ false → One s e
+    pub does-not : hasRoom (s .starts .count) (s .waiting .count) (s .count) ≡ true → takesAt rate wait (distances (s .starts)) (length held) b ≡ false → One s e
     unfolding takeOneIf takeOne
     does-not r q = record { midway = λ l old u p m. rw (room-of l old m ∙ r, takes-of l old u p m ∙ q) m; within = inside }
 
-    pub does-take : hasRoom (s .starts .count) (s .waiting .count) (s .count) ≡ true → takesAt rate wait (remembered (s .starts)) base (length held) b ≡ true
+    pub does-take : hasRoom (s .starts .count) (s .waiting .count) (s .count) ≡ true → takesAt rate wait (distances (s .starts)) (length held) b ≡ true
         → (t : Scanned) (f : List ℕ) → Does (taken rate b) held base s e t f → One t f
     unfolding takeOneIf takeOne
     does-take r q t f g = record { midway = λ l old u p m. rw (room-of l old m ∙ r, takes-of l old u p m ∙ q) (g .midway l old u p m); within = g .within }

@@ -5,16 +5,17 @@ use mathlib.Core.Bool.{Bool, true, not, _&&_}
 use Prim.Native.Nat.{ℕ, _+_, _≤_}
 use lib.ListN.{length}
 use lib.Dec.{leb, ltb}
+use lib.IntN.{ℤ, pos}
 use lib.Ieee.{Float}
 use Rattle.limits.specs.Limits.{lowestRate, highestRate, longestStream, recordSize, eventsSize, scratch64}
 use Rattle.limits.specs.Samples.{allDbm}
 use Rattle.bursts.specs.declared.Burst.{Burst}
-use Rattle.ledger.specs.Ledger.{Ledger, byEntry, capacity, near, seconds, hear, remember}
+use Rattle.ledger.specs.Ledger.{Ledger, byEntry, capacity, seconds, hear, remember}
 use Rattle.ledger.specs.Causes.{mostStarts}
 use Rattle.ledger.specs.Room.{openPlaces, eventPlaces}
 use Rattle.ledger.specs.Demodulation.{demodOf}
 use Rattle.ledger.specs.Records.{Sized, frameBytes, withRecords}
-use Rattle.receiver_starts.specs.Starts.{remembered}
+use Rattle.receiver_starts.specs.Starts.{distances, distancesOf, nearOne}
 use Rattle.receiver_starts.specs.declared.Starts.{Starts}
 use Rattle.receiver_waiting.specs.Waiting.{waitingOf}
 use Rattle.receiver_waiting.specs.declared.Waiting.{Waiting}
@@ -22,7 +23,7 @@ use Rattle.receiver_scan.specs.declared.Scanned.{Scanned}
 
 -- the ledger l is what starts, open messages, the count of records and the event buffer stand for, in a call that found the buffer as `old`
 pub record Midway (l : Ledger byEntry) (old : List ℕ) (s : Starts) (w : Waiting) (n : ℕ) (e : List ℕ) : Type 0 where
-  pub starts : remembered s ≡ l .starts
+  pub starts : distances s ≡ distancesOf (l .base) (l .starts)
   pub waiting : waitingOf w ≡ l .waiting
   pub count : n ≡ length (l .heard)
   pub events : e ≡ withRecords (map frameBytes (l .heard)) old
@@ -55,9 +56,9 @@ pub record Does (f : Ledger byEntry → Ledger byEntry) (held : List Float) (bas
 abbrev pub hasRoom : ℕ → ℕ → ℕ → Bool
 hasRoom starts waiting count = ltb starts mostStarts && (ltb waiting openPlaces && ltb count eventPlaces)
 
--- the ledger's `takes`, of the numbers that it looks at
-abbrev pub takesAt : ℕ → ℕ → List ℕ → ℕ → ℕ → Burst → Bool
-takesAt rate wait starts base held b = (ltb 0 (b .start) && leb (b .end + wait) held) && not (near rate starts (base + b .start))
+-- the ledger's `takes`, of the distances and numbers that it looks at: a burst's buffer index is the distance of its start
+abbrev pub takesAt : ℕ → ℕ → List ℤ → ℕ → Burst → Bool
+takesAt rate wait starts held b = (ltb 0 (b .start) && leb (b .end + wait) held) && not (nearOne rate starts (pos (b .start)))
 
 -- the ledger's `takeOne` of a burst that is taken
 abbrev pub taken : ℕ → Burst → Ledger byEntry → Ledger byEntry

@@ -1,7 +1,7 @@
 // A scan (receiver.rs `scan`): the bursts of the held samples that are taken, their records and messages, and which starts are forgotten.
 ghost use mathlib.Core.Path.{_≡_};
 ghost use mathlib.Core.Bool.{cond};
-ghost use Prim.Native.Nat.{_+_, _*_, _≤_, _<_};
+ghost use Prim.Native.Nat.{_+_, _*_, _^_, _≤_, _<_};
 ghost use lib.ListN.{length};
 ghost use lib.Seq.{sets};
 ghost use Rattle.limits.specs.Limits.{longestStream, recordSize};
@@ -12,7 +12,7 @@ ghost use Rattle.ledger.specs.Causes.{mostStarts};
 ghost use Rattle.ledger.specs.Room.{openPlaces, eventPlaces, takeOneIf, takeEachIf, scanIf};
 ghost use Rattle.ledger.specs.Demodulation.{demodOf};
 ghost use Rattle.ledger.specs.Records.{frameBytes};
-ghost use Rattle.receiver_starts.specs.Starts.{remembered};
+ghost use Rattle.receiver_starts.specs.Starts.{distances};
 ghost use Rattle.receiver_waiting.specs.Waiting.{waitingOf};
 ghost use Rattle.receiver_scan.specs.Midway.{Lent, Within, Does, hasRoom, takesAt, taken};
 use bursts::Burst;
@@ -64,9 +64,9 @@ fn has_room(starts: usize, waiting: usize, count: usize) -> bool
 }
 
 // Only bursts that have ended; ones touching the start of the buffer were decoded earlier, and so were those near a remembered start.
-fn takes(rate: u32, wait: usize, starts: Starts, base: u64, held: usize, burst: Burst) -> bool
-    requires { ⌜ (starts .count ≤ mostStarts) × (base + burst .start ≤ longestStream) × (burst .end + wait ≤ longestStream) ⌝ }
-    ensures { λ r. ⌜ r ≡ takesAt rate wait (remembered starts) base held burst ⌝ }
+fn takes(rate: u32, wait: usize, starts: Starts, held: usize, burst: Burst) -> bool
+    requires { ⌜ (starts .count ≤ mostStarts) × (burst .start < 2 ^ 31) × (burst .end + wait ≤ longestStream) ⌝ }
+    ensures { λ r. ⌜ r ≡ takesAt rate wait (distances starts) held burst ⌝ }
 {
     if burst.start == 0 {
         return false;
@@ -75,7 +75,8 @@ fn takes(rate: u32, wait: usize, starts: Starts, base: u64, held: usize, burst: 
         return false;
     }
     let at = starts.at;
-    !receiver_starts::near(rate, &at, starts.count, base + (burst.start as u64))
+    let x = receiver_starts::distance(burst.start);
+    !receiver_starts::near(rate, &at, starts.count, x)
 }
 
 // A frame has a record behind the others of the call, and joins the open messages where its CRC is right.
@@ -117,7 +118,7 @@ fn take_burst(
 {
     let start = base + (burst.start as u64);
     let seen = s.starts;
-    let starts = receiver_starts::remember(seen, start);
+    let starts = receiver_starts::remember(seen, receiver_starts::distance(burst.start));
     let waiting = s.waiting;
     let x = demod::decode_within(held, rate, burst, seconds(rate, base), scratch);
     let outcome = x.outcome;
@@ -160,7 +161,7 @@ fn take_one(
     if !has_room(starts.count, s.waiting.count, s.count) {
         return s;
     }
-    if !takes(rate, wait, starts, base, held.len(), burst) {
+    if !takes(rate, wait, starts, held.len(), burst) {
         return s;
     }
     take_burst(held, rate, base, burst, s, events, scratch)
@@ -230,7 +231,7 @@ pub fn scan(
         scratch,
     );
     let all = s.starts;
-    let recent = receiver_starts::forget(all, receiver_starts::minus(base, rate as u64));
+    let recent = receiver_starts::forget(all, rate);
     let messages = s.waiting;
     Scanned {
         starts: recent,

@@ -1,3 +1,5 @@
--- Laws of remembered starts, and of arrays with a count.
+-- Laws of remembered starts, of arrays with a count, and of signed numbers; distances and absolute samples.
 pub mod Places
+pub mod SampleLaws
+pub mod Signed
 pub mod StartLaws

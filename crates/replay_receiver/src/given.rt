@@ -1,5 +1,5 @@
 // A state that is handed in: base, unscanned count, held samples, starts, and of each message that waits its record and the time of the frame that joined last.
-ghost use Prim.Native.Nat.{_<_};
+ghost use Prim.Native.Nat.{_<_, _≤_};
 use frame::SingleBit;
 use ledger::Pending;
 use receiver::SigfoxReceiver;
@@ -33,8 +33,39 @@ fn small(n: u8) -> usize
     n as usize
 }
 
+fn least(a: u64, b: u64) -> u64
+    ensures { λ r. ⌜ (r ≤ a) × (r ≤ b) ⌝ }
+{
+    if a <= b { a } else { b }
+}
+
+// n samples after the first held one, or the farthest i32.
+fn after(n: u64) -> i32 {
+    endian::i32_of_bits(least(n, 0x7fff_ffff) as u32)
+}
+
+// n samples before it, or the farthest i32.
+fn before(n: u64) -> i32 {
+    let k = least(n, 0x8000_0000) as u32;
+    if k == 0 {
+        return 0;
+    }
+    endian::i32_of_bits(u32::MAX - k + 1)
+}
+
+// A start in two's complement less the base, or the nearest i32 to it.
+fn distance(start: u64, base: u64) -> i32 {
+    if start < 0x8000_0000_0000_0000 {
+        if base <= start {
+            return after(start - base);
+        }
+        return before(base - start);
+    }
+    before(least(u64::MAX - start, 0xffff_ffff) + least(base, 0xffff_ffff) + 1)
+}
+
 // A count, and that many starts; those past the last place are read over.
-fn read_starts(starts: Starts) -> GivenStarts {
+fn read_starts(starts: Starts, base: u64) -> GivenStarts {
     let mut count = [0u8; 1];
     let mut whole = replay::read_part(&mut count);
     let n = small(count[0]);
@@ -45,7 +76,7 @@ fn read_starts(starts: Starts) -> GivenStarts {
         let mut part = [0u8; 8];
         whole = whole & replay::read_part(&mut part);
         if i < 96 {
-            t.at[i] = endian::get_u64(&part, 0);
+            t.at[i] = distance(endian::get_u64(&part, 0), base);
         }
         i += 1;
     }
@@ -171,10 +202,11 @@ pub fn read_state(rate: u32, samples: &mut [f32; 48001]) -> Given {
     let kept = replay::read_f32s(samples);
     let mut receiver = SigfoxReceiver::new(rate);
     let starts = receiver.starts;
-    let s = read_starts(starts);
+    let base = endian::get_u64(&head, 0);
+    let s = read_starts(starts, base);
     let waiting = receiver.waiting;
     let w = read_waiting(waiting);
-    receiver.base = endian::get_u64(&head, 0);
+    receiver.base = base;
     receiver.unscanned = endian::get_u32(&head, 8) as usize;
     receiver.held = kept.count;
     let given_starts = s.starts;

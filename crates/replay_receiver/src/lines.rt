@@ -4,7 +4,21 @@ use receiver::SigfoxReceiver;
 use receiver_starts::Starts;
 use receiver_waiting::Waiting;
 
-fn print_starts(s: Starts) {
+// The sample at a distance from the base; one that no state has after an accepted call is printed as 0 or as the largest number.
+fn sample(base: u64, d: i32) -> u64 {
+    let n = endian::bits_of_i32(d) as u64;
+    if n < 0x8000_0000 {
+        return if base <= u64::MAX - n {
+            base + n
+        } else {
+            u64::MAX
+        };
+    }
+    let k = 0x1_0000_0000 - n;
+    if k <= base { base - k } else { 0 }
+}
+
+fn print_starts(s: Starts, base: u64) {
     let n = s.count;
     let mut i: usize = 0;
     while i < receiver_starts::MOST_STARTS {
@@ -12,7 +26,7 @@ fn print_starts(s: Starts) {
             return;
         }
         replay::print(b" ");
-        replay::print_number(s.at[i]);
+        replay::print_number(sample(base, s.at[i]));
         i += 1;
     }
 }
@@ -53,7 +67,7 @@ fn print_state(r: SigfoxReceiver) -> bool {
     print_field(r.base);
     print_field(r.unscanned as u64);
     print_field(starts.count as u64);
-    print_starts(starts);
+    print_starts(starts, r.base);
     print_field(waiting.count as u64);
     print_waiting(waiting);
     replay::print_end()

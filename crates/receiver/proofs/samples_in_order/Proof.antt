@@ -23,13 +23,10 @@ slice-aggregate-all-dbm c = let s = c .before .before .before .before in
 all-dbm-requires : tie.Need-all-dbm-requires
 all-dbm-requires c κs = search needs
 
-add-in-order : tie.Need-add-in-order
-add-in-order c = let a = c .before .before .before .before .before .args in
+in-order-requires : tie.Need-in-order-requires
+in-order-requires c κs = let a = c .before .before .before .before .before .args in
     let n = numbers-fit (a .rate) (a .held) (a .base) (a .unscanned) (sym (c .before .before .before .numbers-ok .ensures) ∙ not-false (c .before .before .before .numbers-ok .result) (c .before .before .if1 .left)) in
     omega (arith, n .1)
-
-in-order-requires : tie.Need-in-order-requires
-in-order-requires c κs = search needs
 
 returns-2 : tie.Need-returns-2
 returns-2 c = let a = c .before .before .before .before .before .before .args in
@@ -43,6 +40,5 @@ samples-in-order-spec =
     returns
     slice-aggregate-all-dbm
     all-dbm-requires
-    add-in-order
     in-order-requires
     returns-2)

@@ -25,7 +25,7 @@ returns c =
 takes-requires : tie.Need-takes-requires
 takes-requires c κs =
     let s = c .before .before .before .before .before .before in
-    (s .pre .3 .starts, omega (arith, s .pre .0 .stream, s .pre .1), omega (arith, s .pre .0 .fits, s .pre .0 .waits, s .pre .0 .highest, s .pre .2))
+    (s .pre .3 .starts, omega (arith, s .pre .0 .fits, s .pre .0 .highest, s .pre .1), omega (arith, s .pre .0 .fits, s .pre .0 .waits, s .pre .0 .highest, s .pre .2))
 
 returns-2 : tie.Need-returns-2
 returns-2 c =

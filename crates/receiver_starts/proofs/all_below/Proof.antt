@@ -2,33 +2,46 @@
 use mathlib.Core.Path.{_∙_, _≡_, refl, sym}
 use Prim.Native.Nat.{_-_, _≤_}
 use native.Mathlib.Omega.{arith}
-use lib.ListN.{take}
+use lib.IntN.{pos}
+use lib.ListN.{getD, take}
 use lib.Seq.{slice, slice-empty}
+use mir.Syntax.{w32}
+use mir.Val.{toZ, ofZ}
 use borrow.Author.Needs.{needs}
-use Rattle.ledger.specs.Causes.{below}
-use Rattle.receiver_starts.proofs.StartLaws.{below-more, below-not}
+use Rattle.receiver_starts.specs.Starts.{allBelow}
+use Rattle.receiver_starts.proofs.StartLaws.{Biased, below-more, below-not}
 use Rattle.receiver_starts.proofs.all_below.Statement.{statement}
 use Rattle.receiver_starts.proofs.all_below.Tie as tie
 
 abbrev Inv-loop : tie.InvT-loop
-Inv-loop starts n end i₀ i = (i ≤ n) × (below end (take n starts) ≡ below end (slice i n starts))
+Inv-loop starts n held end i₀ i = (i ≤ n) × (allBelow held (take n starts) ≡ allBelow held (slice i n starts))
 
 abbrev μ-loop : tie.MeasureT-loop
-μ-loop starts n end i₀ i = n - i
+μ-loop starts n held end i₀ i = n - i
+
+add-end : tie.Need-add-end Inv-loop μ-loop
+add-end c = search needs
 
 loop-holds : tie.Need-loop-holds Inv-loop μ-loop
 loop-holds c = (search needs, refl)
 
-mul-if1 : tie.Need-mul-if1 Inv-loop μ-loop
-mul-if1 c = search needs
+mul-biased : tie.Need-mul-biased Inv-loop μ-loop
+mul-biased c = search needs
 
-shared-slice-read-if1 : tie.Need-shared-slice-read-if1 Inv-loop μ-loop
-shared-slice-read-if1 c = search needs
+shared-slice-copy-out-biased : tie.Need-shared-slice-copy-out-biased Inv-loop μ-loop
+shared-slice-copy-out-biased c = search needs
+
+biased-requires : tie.Need-biased-requires Inv-loop μ-loop
+biased-requires c κs = search needs
 
 returns : tie.Need-returns Inv-loop μ-loop
-returns c = let a = c .before .before .before .before .args in
-    let l = c .before .before .before .loop in
-    sym (l .inv .1 ∙ below-not (a .starts .now) (a .n) (l .i) (omega arith) (omega arith) (a .end) (c .if1 .taken))
+returns c =
+    let a = c .before .before .before .before .before .args in
+    let l = c .before .before .before .before .loop in
+    let d = getD (a .starts .now) (l .i) (pos 0) in
+    let z : toZ w32 (ofZ w32 d) ≡ d = search needs in
+    let b : Biased d (c .before .biased .result) = rw z at (c .before .biased .ensures) in
+    sym (l .inv .1 ∙ below-not (a .starts .now) (a .n) (l .i) (omega arith) (omega arith) (c .before .biased .result) b (a .held) (c .if1 .taken))
 
 add-i : tie.Need-add-i Inv-loop μ-loop
 add-i c = search needs
@@ -37,13 +50,18 @@ loop-less : tie.Need-loop-less Inv-loop μ-loop
 loop-less c = search needs
 
 loop-again : tie.Need-loop-again Inv-loop μ-loop
-loop-again c = let a = c .before .before .before .before .args in
-    let l = c .before .before .before .loop in
-    (omega arith, l .inv .1 ∙ below-more (a .starts .now) (a .n) (l .i) (omega arith) (omega arith) (a .end) (omega arith))
+loop-again c =
+    let a = c .before .before .before .before .before .args in
+    let l = c .before .before .before .before .loop in
+    let d = getD (a .starts .now) (l .i) (pos 0) in
+    let z : toZ w32 (ofZ w32 d) ≡ d = search needs in
+    let b : Biased d (c .before .biased .result) = rw z at (c .before .biased .ensures) in
+    (omega arith, l .inv .1 ∙ below-more (a .starts .now) (a .n) (l .i) (omega arith) (omega arith) (c .before .biased .result) b (a .held) (c .if1 .left))
 
 returns-2 : tie.Need-returns-2 Inv-loop μ-loop
-unfolding below
-returns-2 c = let a = c .before .before .args in
+unfolding allBelow
+returns-2 c =
+    let a = c .before .before .args in
     let l = c .before .loop in
     let e : l .i ≡ a .n = omega arith in
     sym (l .inv .1 ∙ rw (e, slice-empty (a .n) (a .starts .now)) refl)
@@ -54,9 +72,11 @@ all-below-spec =
     (tie.spec
     Inv-loop
     μ-loop
+    add-end
     loop-holds
-    mul-if1
-    shared-slice-read-if1
+    mul-biased
+    shared-slice-copy-out-biased
+    biased-requires
     returns
     add-i
     loop-less

@@ -2,34 +2,36 @@
 use mathlib.Core.Path.{_≡_, refl}
 use Prim.Native.Nat.{_-_, _≤_}
 use native.Mathlib.Omega.{arith}
-use lib.ListN.{length, take}
+use lib.IntN.{pos}
+use lib.ListN.{getD, length, take}
+use mir.Syntax.{w32}
+use mir.Val.{toZ, ofZ}
 use borrow.Author.Needs.{needs}
-use Rattle.ledger.specs.Ledger.{startsFrom}
 use Rattle.receiver_starts.proofs.StartLaws.{forget-turn, stands-from}
-use Rattle.receiver_starts.specs.Starts.{over}
+use Rattle.receiver_starts.specs.Starts.{lately, over}
 use Rattle.receiver_starts.proofs.forget.Statement.{statement}
 use Rattle.receiver_starts.proofs.forget.Tie as tie
 
 abbrev Inv-loop : tie.InvT-loop
-Inv-loop oldest old n t₀ i₀ t i = (i ≤ n) × (t ≡ over t₀ (startsFrom oldest (take i old)))
+Inv-loop back old n t₀ i₀ t i = (i ≤ n) × (t ≡ over t₀ (lately back (take i old)))
 
 abbrev μ-loop : tie.MeasureT-loop
-μ-loop oldest old n t₀ i₀ t i = n - i
+μ-loop back old n t₀ i₀ t i = n - i
 
 loop-holds : tie.Need-loop-holds Inv-loop μ-loop
-unfolding over startsFrom
+unfolding over lately
 loop-holds c = (search needs, refl)
 
 mul-keep : tie.Need-mul-keep Inv-loop μ-loop
 mul-keep c = search needs
 
-array-read-keep : tie.Need-array-read-keep Inv-loop μ-loop
-array-read-keep c = search needs
+array-copy-out-keep : tie.Need-array-copy-out-keep Inv-loop μ-loop
+array-copy-out-keep c = search needs
 
 keep-requires : tie.Need-keep-requires Inv-loop μ-loop
-keep-requires c κs = let a = c .before .before .before .args in
-    let l = c .before .loop in
-    omega (arith, stands-from (a .oldest) (l .i) _ (l .t) (a .s .at) (l .inv .1))
+keep-requires c κs = let a = c .before .before .before .before .args in
+    let l = c .before .before .loop in
+    omega (arith, stands-from (a .back) (l .i) _ (l .t) (a .s .at) (l .inv .1))
 
 add-i : tie.Need-add-i Inv-loop μ-loop
 add-i c = search needs
@@ -38,12 +40,14 @@ loop-less : tie.Need-loop-less Inv-loop μ-loop
 loop-less c = search needs
 
 loop-again : tie.Need-loop-again Inv-loop μ-loop
-loop-again c = let a = c .before .before .before .before .args in
-    let l = c .before .before .loop in
+loop-again c = let a = c .before .before .before .before .before .args in
+    let l = c .before .before .before .loop in
     let k = c .keep in
+    let d = getD (a .s .at) (l .i) (pos 0) in
+    let z : toZ w32 (ofZ w32 d) ≡ d = search needs in
     let h : length (a .s .at) ≡ 96 = search needs in (
       omega arith,
-      forget-turn (a .oldest) _ (l .t) (k .result) (a .s .at) (l .i) (omega arith) (l .inv .1) (k .ensures),
+      forget-turn (a .back) _ (l .t) (k .result) (a .s .at) (l .i) (omega arith) (l .inv .1) (rw z at (k .ensures)),
     )
 
 returns : tie.Need-returns Inv-loop μ-loop
@@ -61,7 +65,7 @@ forget-spec =
     μ-loop
     loop-holds
     mul-keep
-    array-read-keep
+    array-copy-out-keep
     keep-requires
     add-i
     loop-less

@@ -17,28 +17,35 @@ slice-aggregate-all-below c = search needs
 
 all-below-requires : tie.Need-all-below-requires
 all-below-requires c κs = let h : length (c .before .before .before .args .s .at) ≡ 96 = search needs in
+    (omega arith, c .before .before .before .pre)
+
+slice-aggregate-all-from : tie.Need-slice-aggregate-all-from
+slice-aggregate-all-from c = search needs
+
+mul-all-from : tie.Need-mul-all-from
+mul-all-from c = search needs
+
+all-from-requires : tie.Need-all-from-requires
+all-from-requires c κs = let h : length (c .before .before .before .before .before .args .s .at) ≡ 96 = search needs in
     omega arith
 
-slice-aggregate-all-since : tie.Need-slice-aggregate-all-since
-slice-aggregate-all-since c = search needs
+slice-aggregate-all-from-2 : tie.Need-slice-aggregate-all-from-2
+slice-aggregate-all-from-2 c = search needs
 
-mul-all-since : tie.Need-mul-all-since
-mul-all-since c = search needs
-
-all-since-requires : tie.Need-all-since-requires
-all-since-requires c κs = let h : length (c .before .before .before .before .before .args .s .at) ≡ 96 = search needs in
+all-from-requires-2 : tie.Need-all-from-requires-2
+all-from-requires-2 c κs = let h : length (c .before .before .before .before .before .before .before .args .s .at) ≡ 96 = search needs in
     omega arith
 
 slice-aggregate-apart : tie.Need-slice-aggregate-apart
 slice-aggregate-apart c = search needs
 
 apart-requires : tie.Need-apart-requires
-apart-requires c κs = let h : length (c .before .before .before .before .before .before .before .args .s .at) ≡ 96 = search needs in
+apart-requires c κs = let h : length (c .before .before .before .before .before .before .before .before .before .args .s .at) ≡ 96 = search needs in
     omega arith
 
 returns-2 : tie.Need-returns-2
-returns-2 c = let a = c .before .before .before .before .before .before .before .before .args in
-    rw (le-leb (a .s .count) mostStarts (omega (arith, c .before .before .before .before .before .before .before .if1 .left)), c .before .before .before .before .all-below .ensures, c .before .before .all-since .ensures, c .apart .ensures) refl
+returns-2 c = let a = c .before .before .before .before .before .before .before .before .before .before .args in
+    rw (le-leb (a .s .count) mostStarts (omega (arith, c .before .before .before .before .before .before .before .before .before .if1 .left)), c .before .before .before .before .before .before .all-below .ensures, c .before .before .before .before .all-from .ensures, c .before .before .all-from2 .ensures, c .apart .ensures) refl
 
 pub in-order-spec : {M : Type 1} → statement M
 in-order-spec =
@@ -47,9 +54,11 @@ in-order-spec =
     returns
     slice-aggregate-all-below
     all-below-requires
-    slice-aggregate-all-since
-    mul-all-since
-    all-since-requires
+    slice-aggregate-all-from
+    mul-all-from
+    all-from-requires
+    slice-aggregate-all-from-2
+    all-from-requires-2
     slice-aggregate-apart
     apart-requires
     returns-2)

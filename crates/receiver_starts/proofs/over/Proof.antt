@@ -3,7 +3,10 @@ use mathlib.Core.List.{_++_}
 use mathlib.Core.Path.{_≡_, refl}
 use Prim.Native.Nat.{_-_, _≤_}
 use native.Mathlib.Omega.{arith}
-use lib.ListN.{drop, length, take}
+use lib.IntN.{pos}
+use lib.ListN.{drop, getD, length, take}
+use mir.Syntax.{w32}
+use mir.Val.{toZ, ofZ}
 use borrow.Author.Needs.{needs}
 use Rattle.receiver_starts.proofs.Places.{copy-turn}
 use Rattle.receiver_starts.proofs.StartLaws.{over-is}
@@ -25,11 +28,11 @@ mul-t c = search needs
 element-copy-out-t : tie.Need-element-copy-out-t Inv-loop μ-loop
 element-copy-out-t c = search needs
 
-mul-t-2 : tie.Need-mul-t-2 Inv-loop μ-loop
-mul-t-2 c = search needs
+mul-t12 : tie.Need-mul-t12 Inv-loop μ-loop
+mul-t12 c = search needs
 
-element-write-t : tie.Need-element-write-t Inv-loop μ-loop
-element-write-t c = search needs
+element-set-from-t : tie.Need-element-set-from-t Inv-loop μ-loop
+element-set-from-t c = search needs
 
 add-i : tie.Need-add-i Inv-loop μ-loop
 add-i c = search needs
@@ -42,7 +45,9 @@ loop-again c = let a = c .before .before .before .args in
     let l = c .before .before .loop in
     let h : length (a .t2 .at) ≡ 96 = search needs in
     let k : length (a .old .at) ≡ 96 = search needs in
-    (omega arith, copy-turn (a .t2 .at) (a .old .at) (l .t .at) (l .i) 0 (omega arith) (omega arith) (l .inv .1))
+    let d = getD (a .t2 .at) (l .i) (pos 0) in
+    let z : toZ w32 (ofZ w32 d) ≡ d = search needs in
+    (omega arith, rw z (copy-turn (a .t2 .at) (a .old .at) (l .t .at) (l .i) (pos 0) (omega arith) (omega arith) (l .inv .1)))
 
 returns : tie.Need-returns Inv-loop μ-loop
 returns c = let a = c .before .before .args in
@@ -59,8 +64,8 @@ over-spec =
     loop-holds
     mul-t
     element-copy-out-t
-    mul-t-2
-    element-write-t
+    mul-t12
+    element-set-from-t
     add-i
     loop-less
     loop-again

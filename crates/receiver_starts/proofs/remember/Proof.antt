@@ -2,23 +2,25 @@
 use mathlib.Core.Path.{_≡_}
 use native.Mathlib.Omega.{arith}
 use lib.ListN.{length}
+use mir.Syntax.{w32}
+use mir.ValLaws.{toZ-ofZ}
 use borrow.Author.Needs.{needs}
 use Rattle.receiver_starts.proofs.StartLaws.{over-store}
 use Rattle.receiver_starts.proofs.remember.Statement.{statement}
 use Rattle.receiver_starts.proofs.remember.Tie as tie
 
-mul-t : tie.Need-mul-t
-mul-t c = search needs
+mul-x : tie.Need-mul-x
+mul-x c = search needs
 
-element-write-t : tie.Need-element-write-t
-element-write-t c = search needs
+element-set-from-x : tie.Need-element-set-from-x
+element-set-from-x c = search needs
 
 add-t : tie.Need-add-t
 add-t c = search needs
 
 returns : tie.Need-returns
 returns c = let h : length (c .args .s .at) ≡ 96 = search needs in
-    over-store (c .args .s) (c .args .x) (omega arith)
+    rw (toZ-ofZ w32 (c .args .x) (c .fits .x)) (over-store (c .args .s) (c .args .x) (omega arith))
 
 pub remember-spec : {M : Type 1} → statement M
-remember-spec = tie.close (tie.spec mul-t element-write-t add-t returns)
+remember-spec = tie.close (tie.spec mul-x element-set-from-x add-t returns)

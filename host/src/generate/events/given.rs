@@ -188,9 +188,9 @@ fn in_order(rng: &mut Rng, rate: u32, dbm: &[f32], held: usize) -> State {
 }
 
 /// Ways to spoil a state.
-const RULES: usize = 14;
+const RULES: usize = 16;
 
-/// The state with one rule of 01's order broken, or with a NaN.
+/// The state with one rule of 01's order broken, or with a NaN; 02: a start below minus the base, or one whose distance is no i32.
 fn spoiled(rng: &mut Rng, rate: u32, s: &State, rule: usize) -> State {
     let r = u64::from(rate);
     let mut t = s.clone();
@@ -212,6 +212,14 @@ fn spoiled(rng: &mut Rng, rate: u32, s: &State, rule: usize) -> State {
         }
         11 => t.held = vec![-110.0; 12 * rate as usize + 1],
         12 => t.starts = (0..97).map(|i| t.base + i).collect(),
+        13 => {
+            t.base = rng.next() % (7 * r);
+            t.starts = vec![u64::MAX - rng.next() % (7 * r - t.base)];
+        }
+        14 => {
+            let far = 1 << rng.pick(&[31, 32, 33, 63]);
+            t.starts = vec![if rng.chance(0.5) { t.base + far } else { t.base.wrapping_sub(far) }];
+        }
         _ => {
             let count = rng.pick(&[41, 64, 119, 120, 128, 255]);
             t.waiting = devices(rng, 0..count);

@@ -9,7 +9,8 @@ use crate::text::Input;
 const MOST_STARTS: usize = 96;
 const MOST_WAITING: usize = 40;
 
-/// 01: "In order: held at most 12 x rate, .."; a message's own part of it is `fits`.
+/// 01: "In order: held at most 12 x rate, .."; a message's own part of it is `fits`. 02: "none may be below minus the base": such a start is a number below 0,
+/// which as two's complement lies above every end.
 pub fn in_order(rate: u32, r: &SigfoxReceiver) -> bool {
     let (r_rate, base) = (rate as usize, r.base);
     let end = base.saturating_add(r.len);

@@ -5,10 +5,10 @@ use Rattle.replay_receiver.proofs.given.read_starts.Statement.{statemen
 use Rattle.replay_receiver.proofs.given.read_starts.Tie as tie
 
 abbrev Inv-loop : tie.InvT-loop
-Inv-loop whole₀ n t₀ i₀ whole t i = Unit
+Inv-loop base whole₀ n t₀ i₀ whole t i = Unit
 
 abbrev μ-loop : tie.MeasureT-loop
-μ-loop whole₀ n t₀ i₀ whole t i = n - i
+μ-loop base whole₀ n t₀ i₀ whole t i = n - i
 
 slice-aggregate-read-part : tie.Need-slice-aggregate-read-part Inv-loop μ-loop
 slice-aggregate-read-part c = search needs
@@ -37,11 +37,14 @@ slice-aggregate-get-u64 c = search needs
 get-u64-requires : tie.Need-get-u64-requires Inv-loop μ-loop
 get-u64-requires c κs = search needs
 
-mul-t : tie.Need-mul-t Inv-loop μ-loop
-mul-t c = search needs
+distance-requires : tie.Need-distance-requires Inv-loop μ-loop
+distance-requires c κs = search needs
 
-element-write-t : tie.Need-element-write-t Inv-loop μ-loop
-element-write-t c = search needs
+mul-t21 : tie.Need-mul-t21 Inv-loop μ-loop
+mul-t21 c = search needs
+
+element-set-from-t : tie.Need-element-set-from-t Inv-loop μ-loop
+element-set-from-t c = search needs
 
 add-i : tie.Need-add-i Inv-loop μ-loop
 add-i c = search needs
@@ -70,8 +73,9 @@ read-starts-spec =
     read-part-requires-2
     slice-aggregate-get-u64
     get-u64-requires
-    mul-t
-    element-write-t
+    distance-requires
+    mul-t21
+    element-set-from-t
     add-i
     loop-less
     loop-again

@@ -5,10 +5,10 @@ use Rattle.replay_receiver.proofs.lines.print_starts.Statement.{stateme
 use Rattle.replay_receiver.proofs.lines.print_starts.Tie as tie
 
 abbrev Inv-loop : tie.InvT-loop
-Inv-loop s n i₀ t5 i = Unit
+Inv-loop base s n i₀ t6 i = Unit
 
 abbrev μ-loop : tie.MeasureT-loop
-μ-loop s n i₀ t5 i = 96 - i
+μ-loop base s n i₀ t6 i = 96 - i
 
 loop-holds : tie.Need-loop-holds Inv-loop μ-loop
 loop-holds c = search needs
@@ -22,11 +22,14 @@ slice-aggregate-print c = search needs
 print-requires : tie.Need-print-requires Inv-loop μ-loop
 print-requires c κs = search needs
 
-mul-print-number : tie.Need-mul-print-number Inv-loop μ-loop
-mul-print-number c = search needs
+mul-sample : tie.Need-mul-sample Inv-loop μ-loop
+mul-sample c = search needs
 
-element-copy-out-print-number : tie.Need-element-copy-out-print-number Inv-loop μ-loop
-element-copy-out-print-number c = search needs
+element-copy-out-sample : tie.Need-element-copy-out-sample Inv-loop μ-loop
+element-copy-out-sample c = search needs
+
+sample-requires : tie.Need-sample-requires Inv-loop μ-loop
+sample-requires c κs = search needs
 
 print-number-requires : tie.Need-print-number-requires Inv-loop μ-loop
 print-number-requires c κs = search needs
@@ -53,8 +56,9 @@ print-starts-spec =
     returns
     slice-aggregate-print
     print-requires
-    mul-print-number
-    element-copy-out-print-number
+    mul-sample
+    element-copy-out-sample
+    sample-requires
     print-number-requires
     add-i
     loop-less
