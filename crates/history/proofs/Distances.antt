@@ -1,12 +1,12 @@
 -- The remembered starts of the port.
-use mathlib.Core.Path.{_≡_, _∙_, ap, refl, sym}
-use mathlib.Core.Bool.{Bool, true, false}
+use mathlib.Core.Path.{_≡_, _∙_, ap, refl}
+use mathlib.Core.Bool.{true, false}
 use mathlib.Core.List.{List, [], _∷_, _++_, map}
 use mathlib.Core.Logic.{⊎-elim}
 use Prim.Native.Nat.{ℕ, suc, _+_, _-_}
 use native.Mathlib.Omega.{arith}
 use lib.Dec.{leb, ltb}
-use lib.IntN.{ℤ, pos, negsuc, subℕ, _+ℤ_}
+use lib.IntN.{ℤ, pos, _+ℤ_}
 use lib.Ieee.{Float}
 use borrow.Author.Tests.{le-ltb, leb-true, ltb-false, ltb-true}
 use Rattle.limits.specs.Limits.{lowestRate, highestRate}
@@ -20,11 +20,10 @@ use Rattle.ledger.proofs.Fairness.{demod-fair}
 use Rattle.ledger.proofs.Grown.{every-grown, grown-next, none-grown}
 use Rattle.ledger.proofs.OpenKinds.{frames-lawful}
 use Rattle.ledger.proofs.Orderly.{in-order}
-use Rattle.receiver_starts.specs.Starts.{distances, distanceOf, distancesOf}
+use Rattle.receiver_starts.specs.Starts.{distanceOf, distancesOf}
 use Rattle.receiver.proofs.Contracts.{contracts}
-use Rattle.receiver.specs.declared.SigfoxReceiver.{SigfoxReceiver}
 use Rattle.history.specs.Runs.{Exchange, Port, Run, portAfter, freshPort, attemptOf}
-use Rattle.history.specs.Distances.{absolute, Exact, AllExact, Distances}
+use Rattle.history.specs.Distances.{Exact, AllExact, Distances}
 use Rattle.history.proofs.Calls.{Stands, fresh-stands, next}
 
 -- ---- base plus a distance is the sample

@@ -4,10 +4,8 @@ use mathlib.Core.Bool.{Bool, true, false}
 use mathlib.Core.List.{List, [], _∷_, map}
 use Prim.Native.Nat.{ℕ}
 use lib.IntN.{ℤ, pos, negsuc, _+ℤ_}
-use lib.ListN.{length}
 use Rattle.receiver_starts.specs.Starts as starts
 use Rattle.receiver_starts.specs.Starts.{lately, moved, nearOne, startsOk}
-use Rattle.receiver_starts.specs.declared.Starts.{Starts}
 
 -- starts at 5,999, 6,000 and 7,400, seen from the base 7,000: −1,001, −1,000 and 400
 abbrev seen : List ℤ
