@@ -9,7 +9,7 @@ use lib.Dec.{leb, ltb}
 use borrow.Author.Tests.{ltb-true, ltb-false, leb-true, lt-ltb, le-leb, not-false}
 use Rattle.limits.specs.Limits.{badRate, short, long, badSample, badState, stream, badNumber, lowestRate, highestRate, longestStream}
 use Rattle.limits.specs.Samples.{rateOk, allDbm}
-use Rattle.ledger.specs.Ledger.{Kind, capacity, spaced, Ledger, Call, push, flush}
+use Rattle.ledger.specs.Ledger.{Kind, capacity, Ledger, Call, push, flush}
 use Rattle.ledger.specs.Causes.{mostStarts, oldestS, mostWaiting, below, since, unlike, allFit, startsOrdered, countsOf, orderly, anyNan, Lent, tooShort, callCause, cause}
 use Rattle.ledger.specs.Room.{Below, Since, InOrder, Accepted}
 use Rattle.ledger.proofs.Basics.{and-true}

@@ -29,7 +29,7 @@ below-more : (a b : ℕ) (l : List ℕ) → a ≤ b → Below a l → Below b l
 below-more a b [] h w = tt
 below-more a b (s ∷ l) h w = (omega (arith, w .0), below-more a b l h (w .1))
 
-since-snoc : (base back : ℕ) (l : List ℕ) (x : ℕ) → Since base back l → base ≤ x → Since base back (l ++ (x ∷ []))
+pub since-snoc : (base back : ℕ) (l : List ℕ) (x : ℕ) → Since base back l → base ≤ x → Since base back (l ++ (x ∷ []))
 since-snoc base back [] x w h = (omega arith, tt)
 since-snoc base back (s ∷ l) x w h = (w .0, since-snoc base back l x (w .1) h)
 

@@ -20,6 +20,7 @@ use Rattle.ledger.specs.Ledger.{Kind, Demod, Ledger, byEntry, capacity, half, t
 use Rattle.ledger.specs.Room.{Since, room, takeOneIf, takeEachIf, scanIf, dueIf, fillIf, fillsIf}
 use Rattle.ledger.specs.Demodulation.{demodOf}
 use Rattle.ledger.proofs.Basics.{either, and-true}
+use Rattle.ledger.proofs.Places.{since-snoc}
 use Rattle.ledger.proofs.Sizes.{Still, one-still, halve-less, add-length, amount-room, amount-pos}
 use Rattle.receiver_samples.specs.Buffer.{Buffer, leftHeld, leftPlaces, share, filled, allFilled}
 use Rattle.receiver_samples.specs.Buffer as buffer
@@ -41,10 +42,6 @@ use Rattle.receiver_scan.specs.declared.Scanned.{Scanned}
 since-wide : (a b c d : ℕ) (l : List ℕ) → c + b ≤ a + d → Since a b l → Since c d l
 since-wide a b c d [] h w = tt
 since-wide a b c d (s ∷ l) h w = (omega (arith, w .0), since-wide a b c d l h (w .1))
-
-since-snoc : (base back : ℕ) (l : List ℕ) (x : ℕ) → Since base back l → base ≤ x → Since base back (l ++ (x ∷ []))
-since-snoc base back [] x w h = (omega arith, tt)
-since-snoc base back (s ∷ l) x w h = (w .0, since-snoc base back l x (w .1) h)
 
 since-some : (base back lo : ℕ) (l : List ℕ) → Since base back l → Since base back (startsFrom lo l)
 unfolding startsFrom

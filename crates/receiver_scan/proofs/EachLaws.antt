@@ -19,7 +19,7 @@ use Rattle.bursts.proofs.SearchLaws.{from-start}
 use Rattle.bursts.proofs.Rows.{Next}
 use Rattle.demod.specs.declared.DecodedFrame.{DecodedFrame}
 use Rattle.ledger.specs.Scanning.{scanOptions, heldBursts}
-use Rattle.ledger.specs.Ledger.{Ledger, byEntry, Demod, hear, remember, takes, seconds, takeOne, startsFrom, forget}
+use Rattle.ledger.specs.Ledger.{Ledger, byEntry, Demod, hear, remember, takes, seconds, takeOne, forget}
 use Rattle.ledger.specs.Room.{room, takeOneIf, takeEachIf, scanIf}
 use Rattle.ledger.specs.Causes.{mostStarts}
 use Rattle.ledger.specs.Demodulation.{demodOf}

@@ -24,7 +24,7 @@ use Rattle.ledger.specs.Room.{openPlaces, eventPlaces, room, takeOneIf}
 use Rattle.ledger.specs.Causes.{mostStarts}
 use Rattle.ledger.specs.Demodulation.{heldFrame, demodOf}
 use Rattle.ledger.specs.Records.{frameBytes}
-use Rattle.receiver_starts.specs.Starts.{distances, distancesOf, nearOne}
+use Rattle.receiver_starts.specs.Starts.{distances}
 use Rattle.receiver_starts.proofs.SampleLaws.{near-index, one-more}
 use Rattle.receiver_starts.specs.declared.Starts.{Starts}
 use Rattle.receiver_waiting.specs.Waiting.{waitingOf}

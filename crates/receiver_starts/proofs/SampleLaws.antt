@@ -1,21 +1,21 @@
 -- Distances from the first held sample say of starts what 01 says of absolute samples. Assumes nothing.
-use mathlib.Core.Bool.{Bool, _&&_, true, false, not}
+use mathlib.Core.Bool.{Bool, _&&_, true, not}
 use mathlib.Core.List.{List, [], _∷_, _++_, map}
 use mathlib.Core.Logic.{⊎-elim}
 use mathlib.Core.Path.{_≡_, _∙_, ap, refl, sym}
-use Prim.Native.Nat.{ℕ, suc, _+_, _-_, _*_, _^_, _≤_, _<_}
+use Prim.Native.Nat.{ℕ, suc, _+_, _-_, _*_, _≤_, _<_}
 use native.Mathlib.Omega.{arith}
 use lib.Dec.{leb, ltb}
-use lib.IntN.{ℤ, pos, negsuc, negℤ, natAbs, subℕ, _+ℤ_, _-ℤ_}
-use lib.ListN.{length, length-map}
+use lib.IntN.{ℤ, pos, negsuc, negℤ, natAbs, _-ℤ_}
+use lib.ListN.{length}
 use lib.Signed.{leZ, ltZ}
-use borrow.Author.Tests.{le-leb, le-ltb, leb-false, leb-true, lt-leb, lt-ltb, ltb-false, ltb-true}
+use borrow.Author.Tests.{le-leb, leb-false, leb-true, ltb-false, ltb-true}
 use Rattle.ledger.specs.Ledger.{close, dist, near, spaced, startsFrom}
 use Rattle.ledger.specs.Causes.{mostStarts, oldestS, below, since, startsOrdered}
 use Rattle.ledger.specs.Room.{Since}
 use Rattle.ledger.proofs.Basics.{and-true, either}
 use Rattle.receiver_starts.specs.Starts.{distanceOf, distancesOf, sampleAt, nearOne, lately, moved, allBelow, allFrom, allApart}
-use Rattle.receiver_starts.proofs.Signed.{ahead, behind, apart-is, below-is, from-is, minus-is, parts, sub-ahead, sub-behind, sub-same}
+use Rattle.receiver_starts.proofs.Signed.{apart-is, below-is, from-is, minus-is, parts, sub-ahead, sub-behind, sub-same}
 
 -- two tests that hold together are one
 leb-as : (a b c d : ℕ) → (a ≤ b → c ≤ d) → (c ≤ d → a ≤ b) → leb a b ≡ leb c d

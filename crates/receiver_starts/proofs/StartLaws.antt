@@ -1,12 +1,12 @@
 -- Turns of the loops over remembered starts, on plain lists. Assumes nothing.
-use mathlib.Core.Bool.{Bool, _&&_, true, false}
-use mathlib.Core.List.{List, [], _++_, _∷_, map}
+use mathlib.Core.Bool.{_&&_, true, false}
+use mathlib.Core.List.{List, [], _++_, _∷_}
 use mathlib.Core.Logic.{_⊎_, ⊎-elim}
 use mathlib.Core.Path.{_∙_, _≡_, ap, ap₂, refl, sym}
 use Prim.Native.Nat.{_*_, _+_, _-_, _/_, _<_, _^_, _≤_, suc, ℕ}
 use native.Mathlib.Numerals.{add-one}
 use native.Mathlib.Omega.{arith}
-use lib.Dec.{leb, ltb}
+use lib.Dec.{ltb}
 use lib.IntN.{ℤ, pos, negsuc, negℤ, natAbs, subℕ, _+ℤ_, _-ℤ_}
 use lib.Signed.{leZ, ltZ, mag}
 use lib.ListN.{drop, getD, length, length-append, length-map, length-set, set, take, take-append-drop}
