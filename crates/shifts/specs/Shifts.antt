@@ -80,7 +80,7 @@ unfoldable pub rising : List ℕ → Bool
 rising [] = true
 rising (d ∷ l) = risingFrom d l
 
--- windows and dates are looked at whether or not a start second is given (docs/DECISIONS.md 91)
+-- windows and dates are looked at whether or not a start second is given (docs/DECISIONS.md 82)
 unfoldable pub shiftsOk : Shifts → List ℕ → Bool
 shiftsOk s closed = startOk (s .start) && (leb (s .count) mostWindows && (windowsOk (windowsOf s) && rising closed))
 
