@@ -1,9 +1,9 @@
-// A list of event records, as 02's requests 09, 11 and 13 take it: whole records, the messages among them, and the test for refusal 12.
+// A list of event records, as 02's requests 09, 11 and 13 take it: the messages among its records, and the test of a record for refusal 12.
 ghost use mathlib.Core.Path.{_≡_};
 ghost use Prim.Native.Nat.{_≤_};
 ghost use lib.ListN.{length};
 ghost use Rattle.limits.specs.Limits.{recordSize};
-ghost use Rattle.event_list.specs.Events.{isMessage, recordOk, listOk};
+ghost use Rattle.event_list.specs.Events.{isMessage, recordOk};
 use record::read;
 
 // The ranks of a message are a sum of 1, 2, 4.
@@ -30,24 +30,4 @@ pub fn record_ok(r: &[u8]) -> bool
     let low = 1 <= mask;
     let high = mask <= MOST_RANKS;
     frame | (message & (level & (low & high)))
-}
-
-// Whether refusal 12 does not apply to a list.
-pub fn list_ok(records: &[u8]) -> bool
-    ensures { λ t. ⌜ t ≡ listOk (now (records .entry)) ⌝ }
-{
-    if records.len() % limits::RECORD != 0 {
-        return false;
-    }
-    let n = records.len() / limits::RECORD;
-    let mut ok = true;
-    let mut i: usize = 0;
-    while i < n {
-        let from = limits::RECORD * i;
-        let to = from + limits::RECORD;
-        let here = record_ok(&records[from..to]);
-        ok = ok & here;
-        i += 1;
-    }
-    ok
 }

@@ -5,6 +5,7 @@ pub mod NearLaws
 pub mod LookedLaws
 pub mod TimeLaws
 pub mod AirLaws
+pub mod MarkLaws
 pub mod AnswerLaws
 pub mod Claims
 pub mod Contracts

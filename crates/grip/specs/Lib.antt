@@ -2,5 +2,6 @@
 pub mod Times
 pub mod Nearest
 pub mod OnAir
+pub mod Marks
 pub mod Reading
 pub mod Claims

@@ -1,5 +1,6 @@
 // The message that goes with a grip, and the messages on air across an instant, over a list of event records (02, request 11).
 mod looking; // one more record for a grip
+mod marks; // a bit for each record
 mod spans; // the spans across an instant
 
 ghost use mathlib.Core.Path.{_≡_};
@@ -16,6 +17,9 @@ ghost use Rattle.grip.specs.Reading.{readPart, foundOf};
 
 // The pattern of the infinity.
 const INFINITY: u64 = 0x7ff0_0000_0000_0000;
+
+// Bytes of marks for as many records as a call reads at most.
+const MARKS: usize = 125_000;
 
 // What `nearest_message` answers.
 pub enum Nearest {
@@ -140,11 +144,13 @@ pub fn on_air(records: &[u8], x: f64, numbers: &mut [u32]) -> Air
     if limits::MOST_RECORD_BYTES < records.len() {
         return Air::Refused(limits::LONG);
     }
-    if !event_list::list_ok(records) {
+    let mut marks = [0u8; MARKS];
+    if !spans::mark_all(records, x, &mut marks) {
         return Air::Refused(limits::BAD_RECORDS);
     }
     if !is_finite(x) {
         return Air::Refused(limits::BAD_TIME);
     }
-    Air::Numbers(spans::note_all(records, x, numbers))
+    let count = records.len() / limits::RECORD;
+    Air::Numbers(spans::note_all(&marks, count, numbers))
 }

@@ -82,20 +82,23 @@ fn is_on_air(record: &[u8]) -> bool {
     record[0] == MESSAGE && (0..3).any(span)
 }
 
-/// The numbers of the messages on air, in a list with a place for each record; none where the records are refused.
+/// The numbers of the messages on air, in a list with a place for each record, which is written when all records were tested; none where they are refused.
 fn rust_on_air(records: &Vec<u8>) -> Vec<u32> {
     let mut numbers = vec![0; RECORDS];
-    if records.len() % RECORD != 0 || !records.chunks_exact(RECORD).all(is_right) {
+    let mut found = vec![];
+    if records.len() % RECORD != 0 {
         return vec![];
     }
-    let mut n = 0;
     for (i, record) in records.chunks_exact(RECORD).enumerate() {
+        if !is_right(record) {
+            return vec![];
+        }
         if is_on_air(record) {
-            numbers[n] = i as u32;
-            n += 1;
+            found.push(i as u32);
         }
     }
-    numbers.truncate(n);
+    numbers[..found.len()].copy_from_slice(&found);
+    numbers.truncate(found.len());
     numbers
 }
 

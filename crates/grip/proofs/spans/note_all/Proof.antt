@@ -1,53 +1,40 @@
 -- `grip::spans::note_all` meets its contract. Assumes nothing.
-use borrow.Author.Needs.{needs}
-use native.Mathlib.Omega.{arith}
 use mathlib.Core.Path.{_≡_, refl, ap, _∙_}
-use Prim.Native.Nat.{_+_, _-_, _*_, _≤_, _<_}
-use mathlib.Core.List.{[], _∷_}
-use lib.ListN.{length, take, drop}
+use mathlib.Core.Bool.{Bool}
+use mathlib.Core.List.{List}
+use Prim.Native.Nat.{ℕ, _+_, _-_, _≤_}
+use native.Mathlib.Omega.{arith}
+use lib.ListN.{length}
 use lib.Seq.{sets, length-sets}
-use Rattle.event_list.specs.Events.{eventsOf, wholes}
-use Rattle.event_list.proofs.EventLaws.{length-records, event-part}
-use Rattle.grip.specs.OnAir.{airFrom}
-use Rattle.grip.proofs.AirLaws.{at-most, start, next-count, next-list, whole}
+use Rattle.grip.specs.Marks.{markAt, numberIf, markedOf}
+use Rattle.grip.proofs.MarkLaws.{marked-le, start, next-count, next-list}
+use borrow.Author.Needs.{needs}
 use Rattle.grip.proofs.spans.note_all.Statement.{statement}
 use Rattle.grip.proofs.spans.note_all.Tie as tie
 
 abbrev Inv-loop : tie.InvT-loop
-Inv-loop records x numbers₀ count n₀ i₀ numbers n i = (i ≤ count) × (length numbers ≡ length numbers₀) × (n ≡ length (airFrom 0 x (take i (eventsOf records)))) × (numbers ≡ sets numbers₀ 0 (airFrom 0 x (take i (eventsOf records))))
+Inv-loop marks count numbers₀ n₀ i₀ numbers n i = (i ≤ count) × (length numbers ≡ length numbers₀) × (n ≡ length (markedOf i marks)) × (numbers ≡ sets numbers₀ 0 (markedOf i marks))
 
 abbrev μ-loop : tie.MeasureT-loop
-μ-loop records x numbers₀ count n₀ i₀ numbers n i = count - i
+μ-loop marks count numbers₀ n₀ i₀ numbers n i = count - i
 
 loop-holds : tie.Need-loop-holds Inv-loop μ-loop
 loop-holds c =
-    let s = c .before .before in
-    let g = start (eventsOf (s .args .records .now)) (s .args .x) (s .args .numbers .now) in
+    let a = c .before .before .args in
+    let g = start (a .marks .now) (a .numbers .now) in
     (search needs, refl, g .0, g .1)
 
-mul-from : tie.Need-mul-from Inv-loop μ-loop
-mul-from c = search needs
-
-add-to : tie.Need-add-to Inv-loop μ-loop
-add-to c = search needs
+is-marked-requires : tie.Need-is-marked-requires Inv-loop μ-loop
+is-marked-requires c κs = search needs
 
 cast-note : tie.Need-cast-note Inv-loop μ-loop
 cast-note c = search needs
 
-sub-note : tie.Need-sub-note Inv-loop μ-loop
-sub-note c = search needs
-
-part-note-start : tie.Need-part-note-start Inv-loop μ-loop
-part-note-start c = search needs
-
-part-note-end : tie.Need-part-note-end Inv-loop μ-loop
-part-note-end c = search needs
-
 note-requires : tie.Need-note-requires Inv-loop μ-loop
 note-requires c κs =
-    let s = c .before .before .before .before .before .before in
+    let a = c .before .before .before .before .before .before .args in
     let l = c .before .before .before .loop in
-    (search needs, omega (arith, at-most (eventsOf (s .args .records .now)) (s .args .x) (l .i), l .inv .1, l .inv .2, s .pre .1, c .before .before .loop-test .taken))
+    omega (arith, marked-le (a .marks .now) (l .i), l .inv .1, l .inv .2, c .before .before .before .before .before .before .pre .1, c .before .before .loop-test .taken)
 
 add-i : tie.Need-add-i Inv-loop μ-loop
 add-i c = search needs
@@ -57,19 +44,18 @@ loop-less c = search needs
 
 loop-again : tie.Need-loop-again Inv-loop μ-loop
 loop-again c =
-    let s = c .before .before .before .before .before .before .before .before .before in
-    let a = s .args in
-    let l = c .before .before .before .before .before .before .loop in
-    let es = eventsOf (a .records .now) in
-    let h : l .i < wholes (a .records .now) = omega arith in
-    let hl : l .i < length es = omega (arith, length-records (wholes (a .records .now)) (a .records .now)) in
-    let m = take (120 * l .i + 120 - 120 * l .i) (drop (120 * l .i) (a .records .now)) in
-    let e = event-part (a .records .now) (l .i) h in
-    let k = c .before .before .note in (
+    let at-loop = c .before .before .before .before .before .before in
+    let a = at-loop .before .before .before .args in
+    let l = at-loop .loop in
+    let m = a .marks .now in
+    let k = c .before .before .note in
+    let w = numberIf (markAt m (l .i)) (l .i) in
+    let e = ap (λ (t : Bool). numberIf t (l .i)) (c .before .before .before .before .is-marked .ensures) in
+    let t = k .ensures .1 ∙ ap (sets (l .numbers) (l .n)) e in (
       omega arith,
-      ap length (k .ensures .1) ∙ length-sets (l .numbers) (l .n) (airFrom (l .i) (a .x) (m ∷ [])) ∙ l .inv .1,
-      next-count es (a .x) (l .i) hl m e (l .n) (k .result) (l .inv .2) (k .ensures .0),
-      next-list es (a .x) (l .i) hl m e (l .n) (a .numbers .now) (l .numbers) (k .last .0) (l .inv .2) (l .inv .3) (k .ensures .1),
+      ap length t ∙ length-sets (l .numbers) (l .n) w ∙ l .inv .1,
+      next-count m (l .i) (l .n) (l .inv .2) (k .result) (k .ensures .0 ∙ ap (λ (v : List ℕ). l .n + length v) e),
+      next-list m (l .i) (l .n) (l .inv .2) (a .numbers .now) (l .numbers) (k .last .0) (l .inv .3) t,
     )
 
 same-length : tie.Need-same-length Inv-loop μ-loop
@@ -79,8 +65,7 @@ returns : tie.Need-returns Inv-loop μ-loop
 returns c =
     let a = c .before .before .before .before .args in
     let l = c .before .loop in
-    let es = eventsOf (a .records .now) in
-    let e : airFrom 0 (a .x) (take (l .i) es) ≡ airFrom 0 (a .x) es = whole es (a .x) (l .i) (omega (arith, length-records (wholes (a .records .now)) (a .records .now))) in
+    let e : markedOf (l .i) (a .marks .now) ≡ markedOf (a .count) (a .marks .now) = ap (λ (k : ℕ). markedOf k (a .marks .now)) (omega arith) in
     (l .inv .2 ∙ ap length e, l .inv .3 ∙ ap (sets (a .numbers .now) 0) e)
 
 pub note-all-spec : {M : Type 1} → statement M
@@ -90,12 +75,8 @@ note-all-spec =
     Inv-loop
     μ-loop
     loop-holds
-    mul-from
-    add-to
+    is-marked-requires
     cast-note
-    sub-note
-    part-note-start
-    part-note-end
     note-requires
     add-i
     loop-less
