@@ -1,4 +1,4 @@
-// What `host/bench` measures of the receiver: raw samples in pushes of one size, then a flush; it prints how many records there were.
+// What `host/bench` measures of the receiver: raw samples in pushes of one size, each by the short way where it only adds, then a flush; it prints how many records there were.
 ghost use Prim.Native.Nat.{_<_};
 use libc::STDIN_FILENO;
 use receiver::SigfoxReceiver;
@@ -50,7 +50,7 @@ fn push_chunk(
     while at < raw.len() {
         let n = dips::least(step, raw.len() - at);
         let end = at + n;
-        let r = receiver.push_raw(
+        if receiver.adds_raw(
             &raw[at..end],
             shifts,
             &closed,
@@ -58,11 +58,34 @@ fn push_chunk(
             events,
             scratch32,
             scratch64,
-        );
-        let next = r.receiver;
-        receiver = next;
-        records = std::num::wrapping_add_u64(records, r.count as u64);
-        refused = r.refused;
+        ) {
+            let r = receiver.add_raw(
+                &raw[at..end],
+                shifts,
+                &closed,
+                samples,
+                events,
+                scratch32,
+                scratch64,
+            );
+            let next = r.receiver;
+            receiver = next;
+            refused = 0;
+        } else {
+            let r = receiver.push_raw(
+                &raw[at..end],
+                shifts,
+                &closed,
+                samples,
+                events,
+                scratch32,
+                scratch64,
+            );
+            let next = r.receiver;
+            receiver = next;
+            records = std::num::wrapping_add_u64(records, r.count as u64);
+            refused = r.refused;
+        }
         at = end;
     }
     State {

@@ -128,7 +128,7 @@ pub none-wait : (w : Waiting) → w .count ≡ 0 → 0 ≡ messagesCause w
 unfolding messagesCause unlike allFit anyNan
 none-wait w z = rw z refl
 
-module _ (w : Waiting) (r : Condition) (k : waiting.Checked w r) where
+module _ (w : Waiting) {now : Float} (r : Condition) (k : waiting.Checked w now r) where
   pub messages-order : r .ok ≡ false → badState ≡ messagesCause w
   unfolding messagesCause
   messages-order f = rw (sym (k .ok) ∙ f) refl

@@ -6,3 +6,4 @@ pub mod FillLaws
 pub mod RunLaws
 pub mod AddLaws
 pub mod AnswerLaws
+pub mod QuickLaws

@@ -13,13 +13,15 @@ use Rattle.ledger.specs.Causes.{mostStarts}
 use Rattle.ledger.specs.Room.{InOrder, Accepted, openPlaces}
 use Rattle.ledger.specs.Demodulation.{demodOf}
 use Rattle.ledger.specs.Records.{recordOf, withRecords}
+use Rattle.shifts.specs.Shifts.{Schedule}
 use Rattle.receiver_starts.specs.Starts.{distances, startsOk}
+use Rattle.receiver_starts.specs.declared.Starts.{Starts}
 use Rattle.receiver_waiting.specs.Waiting.{waitingOf, leaves, anyExpires}
 use Rattle.receiver_scan.specs.Midway.{Midway}
 use Rattle.receiver_scan.specs.declared.Scanned.{Scanned}
 use Rattle.receiver_closing.specs.Written.{written}
-use Rattle.receiver.specs.State.{ledgerOf, countsOf, stateOver}
-use Rattle.receiver.specs.Calls.{samplesAfter}
+use Rattle.receiver.specs.State.{ledgerOf, countsOf, stateOver, samplesOk, givenCause}
+use Rattle.receiver.specs.Calls.{Memory, refusalOf, samplesAfter}
 use Rattle.receiver.specs.declared.SigfoxReceiver.{SigfoxReceiver}
 use Rattle.receiver.specs.declared.Received.{Received}
 
@@ -98,3 +100,17 @@ pub record Added (s : SigfoxReceiver) (xs before : List Float) (r : Received) (a
         };
   }
   pub samples : after ≡ paste before (s .held) xs (length xs)
+
+-- no cause but the messages' applies to a push of n samples, there is room for them without a drop, and no scan is due
+pub record Quiet (rate held base unscanned : ℕ) (s : Starts) (samples : List Float) (b : causes.Lent) (n : ℕ) : Type 0 where
+  pub given : givenCause rate b n ≡ 0
+  pub order : samplesOk rate held base unscanned s samples ≡ true
+  pub stream : base + held + n ≤ longestStream
+  pub some : 1 ≤ n
+  pub fits : held + n ≤ capacity rate
+  pub calm : 2 * (unscanned + n) < rate
+
+-- the push c of n samples is accepted, and only adds them
+pub record OnlyAdds (s : SigfoxReceiver) (c : Call) (p : Schedule) (n : ℕ) (m : Memory) : Type 0 where
+  pub accepted : refusalOf s c p m ≡ 0
+  pub adds : Adds s n

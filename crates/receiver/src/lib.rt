@@ -1,6 +1,6 @@
 // The receiver's state (receiver.rs `SigfoxReceiver`), and the causes for which a call is refused, by number.
 ghost use mathlib.Core.Path.{_≡_};
-ghost use mathlib.Core.Bool.{cond};
+ghost use mathlib.Core.Bool.{true, cond};
 ghost use Prim.Native.Nat.{_+_, _^_, _≤_, _<_};
 ghost use lib.ListN.{length};
 ghost use lib.Dec.{ltb};
@@ -10,6 +10,7 @@ ghost use Rattle.shifts.specs.Shifts.{shiftsCause};
 ghost use Rattle.ledger.specs.Causes.{tooShort, cause, firstOf};
 ghost use Rattle.receiver.specs.State.{newState, ledgerOf, countsOf, lentOf, numbersOk, samplesOk, givenCause, messagesCause, stateCause};
 ghost use Rattle.receiver.specs.Calls.{Answered};
+ghost use Rattle.receiver.specs.Running.{Quiet, OnlyAdds};
 
 mod run; // an accepted call
 
@@ -136,6 +137,76 @@ impl SigfoxReceiver {
         )
     }
 
+    // Whether a push of these raw samples is accepted and only adds them to those held: then `add_raw` does it.
+    pub fn adds_raw(
+        self,
+        raw: &[u8],
+        shifts: Shifts,
+        closed: &[u32],
+        samples: &[f32],
+        events: &[u8],
+        scratch32: &[f32],
+        scratch64: &[f64],
+    ) -> bool
+        ensures { λ r. ⌜ (r ≡ true → OnlyAdds self (pushRaw (now (raw .entry))) (record { shifts = shifts; closed = now (closed .entry) }) (length (now (raw .entry)))
+            (record { samples = now (samples .entry); events = now (events .entry); scratch32 = now (scratch32 .entry); scratch64 = now (scratch64 .entry) })) ⌝ }
+    {
+        let lent = Lengths {
+            samples: samples.len(),
+            events: events.len(),
+            scratch32: scratch32.len(),
+            scratch64: scratch64.len(),
+        };
+        let n = raw.len();
+        let starts = self.starts;
+        if !quiet(
+            self.rate,
+            self.held,
+            self.base,
+            self.unscanned,
+            starts,
+            samples,
+            lent,
+            n,
+        ) {
+            return false;
+        }
+        if 1 <= shifts::cause(shifts, closed) {
+            return false;
+        }
+        let count = self.waiting.count;
+        if count == 0 {
+            return true;
+        }
+        let messages = self.waiting.messages;
+        let held = self.held + n;
+        let time = receiver_scan::seconds(self.rate, self.base + (held as u64));
+        let c = receiver_waiting::check(messages, count, time);
+        c.ok & (!c.nan & !c.expires)
+    }
+
+    // `push_raw` where `adds_raw` says so. A caller with the receiver in a local that asks first makes no copy of it.
+    pub fn add_raw(
+        self,
+        raw: &[u8],
+        shifts: Shifts,
+        closed: &[u32],
+        samples: &mut [f32],
+        events: &mut [u8],
+        scratch32: &mut [f32],
+        scratch64: &mut [f64],
+    ) -> Received
+        requires { ⌜ OnlyAdds self (pushRaw (now raw)) (record { shifts = shifts; closed = now closed }) (length (now raw))
+            (record { samples = now samples; events = now events; scratch32 = now scratch32; scratch64 = now scratch64 }) ⌝ }
+        ensures { λ r. ⌜ Answered self (pushRaw (now (raw .entry))) (record { shifts = shifts; closed = now (closed .entry) })
+            (record { samples = now (samples .entry); events = now (events .entry); scratch32 = now (scratch32 .entry); scratch64 = now (scratch64 .entry) })
+            (record { samples = now (samples .exit); events = now (events .exit); scratch32 = now (scratch32 .exit); scratch64 = now (scratch64 .exit) }) r ⌝ }
+    {
+        receiver_samples::dbm_of_all(raw, scratch32);
+        let n = raw.len();
+        run::add(self, &scratch32[..n], samples)
+    }
+
     // What has been heard so far is decoded and every open message written (receiver.rs `flush`).
     pub fn flush(
         self,
@@ -235,7 +306,7 @@ fn given_cause(rate: u32, lent: Lengths, n: usize) -> u8
 fn messages_cause(messages: [Pending; receiver_waiting::OPEN_PLACES], n: usize) -> u8
     ensures { λ r. ⌜ r ≡ messagesCause (record { messages = messages; count = n }) ⌝ }
 {
-    let c = receiver_waiting::check(messages, n);
+    let c = receiver_waiting::check(messages, n, 0.0);
     if !c.ok {
         return limits::BAD_STATE;
     }
@@ -275,6 +346,32 @@ fn state_cause(s: SigfoxReceiver, samples: &[f32], n: usize) -> u8
         return order;
     }
     stream_cause(s.base, s.held, n, order)
+}
+
+// Whether no cause but the messages' applies to a push of n samples, there is room for them without a drop, and no scan is due.
+fn quiet(
+    rate: u32,
+    held: usize,
+    base: u64,
+    unscanned: usize,
+    starts: Starts,
+    samples: &[f32],
+    lent: Lengths,
+    n: usize,
+) -> bool
+    requires { ⌜ lent .samples ≡ length (now samples) ⌝ }
+    ensures { λ r. ⌜ (r ≡ true → Quiet rate held base unscanned starts (now (samples .entry)) (lentOf lent) n) ⌝ }
+{
+    if 1 <= given_cause(rate, lent, n) {
+        return false;
+    }
+    if !samples_in_order(rate, held, base, unscanned, starts, samples) {
+        return false;
+    }
+    if 1 <= stream_cause(base, held, n, 0) {
+        return false;
+    }
+    run::fits(rate, held, unscanned, n)
 }
 
 // The cause of a push, the first by number; 0 for none.

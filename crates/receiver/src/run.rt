@@ -2,7 +2,7 @@
 ghost use mathlib.Core.Path.{_≡_};
 ghost use mathlib.Core.Bool.{true};
 ghost use mathlib.Core.List.{List};
-ghost use Prim.Native.Nat.{ℕ, _+_, _≤_};
+ghost use Prim.Native.Nat.{ℕ, _+_, _*_, _≤_, _<_};
 ghost use lib.ListN.{length};
 ghost use Rattle.limits.specs.Limits.{highestRate};
 ghost use Rattle.ledger.specs.Ledger.{Ledger, Call, byEntry, capacity, push, flush, tail};
@@ -97,31 +97,39 @@ fn finish(
     }
 }
 
+// Whether there is room for n samples, some, without a drop, and no scan is due after them.
+pub fn fits(rate: u32, held: usize, unscanned: usize, n: usize) -> bool
+    requires { ⌜ (rate ≤ highestRate) × (held ≤ capacity rate) × (n ≤ capacity rate) × (2 * unscanned < rate) ⌝ }
+    ensures { λ r. ⌜ (r ≡ true → (1 ≤ n) × (held + n ≤ capacity rate) × (2 * (unscanned + n) < rate)) ⌝ }
+{
+    if n == 0 {
+        return false;
+    }
+    if receiver_samples::capacity(rate) < held + n {
+        return false;
+    }
+    2 * (unscanned + n) < (rate as usize)
+}
+
 // Whether a push of n samples only adds them: there is room without a drop, no scan is due, and no message leaves.
 fn only_adds(s: SigfoxReceiver, n: usize) -> bool
     requires { ⌜ Addable s n ⌝ }
     ensures { λ r. ⌜ (r ≡ true → Adds s n) ⌝ }
 {
-    let held = s.held + n;
-    if n == 0 {
-        return false;
-    }
-    if receiver_samples::capacity(s.rate) < held {
-        return false;
-    }
-    if (s.rate as usize) <= 2 * (s.unscanned + n) {
+    if !fits(s.rate, s.held, s.unscanned, n) {
         return false;
     }
     if s.waiting.count == 0 {
         return true;
     }
     let messages = s.waiting.messages;
+    let held = s.held + n;
     let time = receiver_scan::seconds(s.rate, s.base + (held as u64));
     !receiver_waiting::any_expires(messages, s.waiting.count, time)
 }
 
 // An accepted push that only adds its samples.
-fn add(s: SigfoxReceiver, dbm: &[f32], samples: &mut [f32]) -> Received
+pub fn add(s: SigfoxReceiver, dbm: &[f32], samples: &mut [f32]) -> Received
     requires { ⌜ Adds s (length (now dbm)) × (s .rate ≤ highestRate) × (capacity (s .rate) ≤ length (now samples)) ⌝ }
     ensures { λ r. ⌜ Added s (now (dbm .entry)) (now (samples .entry)) r (now (samples .exit)) ⌝ }
 {

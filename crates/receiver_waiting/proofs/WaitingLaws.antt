@@ -243,16 +243,22 @@ module _ (l : List Pending) (n i : ℕ) (z : Pending) (here : i < n) (fits : n �
   nan-turn e p =
       rw (e, add-one) (or-assoc b (entryNan (getD l i z)) (anyNan byEntry (slice (suc i) n l)) ∙ (rw (slice-cons i n l z here fits) at p))
 
-pub seen-is : (l : List Pending) (r : Looked) (n i : ℕ) → i ≡ n → n ≤ length l → take i (r .keys) ≡ map keyNumber (take i l) → Counters (take i l)
+  pub expires-turn : (now : Float) → r ≡ expires now (getD l i z) → b || anyExpires now (slice i n l) ≡ w → (b || r) || anyExpires now (slice (i + 1) n l) ≡ w
+  unfolding anyExpires
+  expires-turn now e p =
+      rw (e, add-one) (or-assoc b (expires now (getD l i z)) (anyExpires now (slice (suc i) n l)) ∙ (rw (slice-cons i n l z here fits) at p))
+
+pub seen-is : (l : List Pending) (now : Float) (r : Looked) (n i : ℕ) → i ≡ n → n ≤ length l → take i (r .keys) ≡ map keyNumber (take i l) → Counters (take i l)
     → r .fit && allFit byEntry (slice i n l) ≡ allFit byEntry (take n l) → r .nan || anyNan byEntry (slice i n l) ≡ anyNan byEntry (take n l)
-    → Seen (take n l) r
-unfolding allFit anyNan
-seen-is l r n i e h k c f a =
+    → r .expires || anyExpires now (slice i n l) ≡ anyExpires now (take n l) → Seen (take n l) now r
+unfolding allFit anyNan anyExpires
+seen-is l now r n i e h k c f a x =
     record {
       keys = rw (length-take-le n l h) (rw e at k);
       counters = rw e at c;
       fit = sym (and-true (r .fit)) ∙ (rw (e, slice-empty n l) at f);
       nan = sym (or-false (r .nan)) ∙ (rw (e, slice-empty n l) at a);
+      expires = sym (or-false (r .expires)) ∙ (rw (e, slice-empty n l) at x);
     }
 
 -- ---- keys
@@ -300,17 +306,20 @@ unlike-is (m ∷ l) c = rw (waits-is m l (c .0) (c .1), unlike-is l (c .1)) refl
 
 -- ---- a state's messages
 
-pub too-many : (w : Waiting) → mostWaiting < w .count → Checked w (record { ok = false; nan = false })
-too-many w h = record { ok = rw (lt-leb (w .count) mostWaiting h) refl; nan = rw (lt-leb (w .count) mostWaiting h) refl }
+pub too-many : (w : Waiting) (now : Float) → mostWaiting < w .count → Checked w now (record { ok = false; nan = false; expires = false })
+too-many w now h =
+    let e = lt-leb (w .count) mostWaiting h in
+    record { ok = rw e refl; nan = rw e refl; expires = rw e refl }
 
-pub checked-is : (w : Waiting) (l : Looked) (d : Bool) (r : Condition) → w .count ≤ mostWaiting → length (w .messages) ≡ openPlaces → Seen (waitingOf w) l
-    → d ≡ distinct (take (w .count) (l .keys)) → r ≡ record { ok = d && l .fit; nan = l .nan } → Checked w r
-checked-is w l d r h n s e q =
+pub checked-is : (w : Waiting) (now : Float) (l : Looked) (d : Bool) (r : Condition) → w .count ≤ mostWaiting → length (w .messages) ≡ openPlaces
+    → Seen (waitingOf w) now l → d ≡ distinct (take (w .count) (l .keys)) → r ≡ record { ok = d && l .fit; nan = l .nan; expires = l .expires } → Checked w now r
+checked-is w now l d r h n s e q =
     let m : length (waitingOf w) ≡ w .count = length-take-le (w .count) (w .messages) (omega arith) in
     let k : take (w .count) (l .keys) ≡ map keyNumber (waitingOf w) = (rw m at (s .keys)) in
     record {
       ok = rw (q, e, k, s .fit, le-leb (w .count) mostWaiting h, unlike-is (waitingOf w) (s .counters)) refl;
       nan = rw (q, le-leb (w .count) mostWaiting h) (s .nan);
+      expires = rw (q, le-leb (w .count) mostWaiting h) (s .expires);
     }
 
 -- ---- values of the code

@@ -99,18 +99,20 @@ abbrev pub Counters : List Pending → Type 0
 Counters [] = Unit
 Counters (p ∷ l) = (p .message .counter < 65536) × Counters l
 
--- what one look at the messages l finds
-pub record Seen (l : List Pending) (r : Looked) : Type 0 where
+-- what one look at the messages l finds, at a time
+pub record Seen (l : List Pending) (now : Float) (r : Looked) : Type 0 where
   pub keys : take (length l) (r .keys) ≡ map keyNumber l
   pub counters : Counters l
   pub fit : r .fit ≡ allFit byEntry l
   pub nan : r .nan ≡ anyNan byEntry l
+  pub expires : r .expires ≡ anyExpires now l
 
 -- "at most 128 [02: 40] waiting, no two alike in device and counter, each with .."
 abbrev pub waitingOk : Waiting → Bool
 waitingOk w = leb (w .count) mostWaiting && (unlike byEntry (waitingOf w) && allFit byEntry (waitingOf w))
 
 -- of more than 40 none is looked at
-pub record Checked (w : Waiting) (r : Condition) : Type 0 where
+pub record Checked (w : Waiting) (now : Float) (r : Condition) : Type 0 where
   pub ok : r .ok ≡ waitingOk w
   pub nan : r .nan ≡ leb (w .count) mostWaiting && anyNan byEntry (waitingOf w)
+  pub expires : r .expires ≡ leb (w .count) mostWaiting && anyExpires now (waitingOf w)

@@ -38,12 +38,14 @@ struct Looked {
     keys: [u64; MOST_WAITING],
     fit: bool,
     nan: bool,
+    expires: bool,
 }
 
-// Whether the messages are in order, and whether one has a NaN.
+// Whether the messages are in order, whether one has a NaN, and whether a push writes one.
 pub struct Condition {
     pub ok: bool,
     pub nan: bool,
+    pub expires: bool,
 }
 
 // ---- joining
@@ -190,27 +192,31 @@ fn key_of(p: Pending) -> u64
 }
 
 // One look at each of the first n messages, so that the array is handed on once.
-fn look(messages: [Pending; OPEN_PLACES], n: usize) -> Looked
+fn look(messages: [Pending; OPEN_PLACES], n: usize, now: f64) -> Looked
     requires { ⌜ n ≤ mostWaiting ⌝ }
-    ensures { λ r. ⌜ Seen (take n messages) r ⌝ }
+    ensures { λ r. ⌜ Seen (take n messages) now r ⌝ }
 {
     let mut keys = [0u64; MOST_WAITING];
     let mut fit = true;
     let mut nans = false;
+    let mut any = false;
     let mut i: usize = 0;
     while i < n {
         let p = messages[i];
         keys[i] = key_of(p);
         let fits = receiver_message::fits(p);
         let lost = receiver_message::has_nan(p);
+        let complete = receiver_message::expires(p, now);
         fit = fit & fits;
         nans = nans | lost;
+        any = any | complete;
         i += 1;
     }
     Looked {
         keys,
         fit,
         nan: nans,
+        expires: any,
     }
 }
 
@@ -244,21 +250,23 @@ fn all_distinct(keys: &[u64], n: usize) -> bool
     true
 }
 
-// Whether the first n messages are in order, and whether one has a NaN.
-pub fn check(messages: [Pending; OPEN_PLACES], n: usize) -> Condition
-    ensures { λ r. ⌜ Checked (record { messages = messages; count = n }) r ⌝ }
+// Whether the first n messages are in order, whether one has a NaN, and whether a push at a time writes one.
+pub fn check(messages: [Pending; OPEN_PLACES], n: usize, now: f64) -> Condition
+    ensures { λ r. ⌜ Checked (record { messages = messages; count = n }) now r ⌝ }
 {
     if MOST_WAITING < n {
         return Condition {
             ok: false,
             nan: false,
+            expires: false,
         };
     }
-    let l = look(messages, n);
+    let l = look(messages, n, now);
     let keys = l.keys;
     let different = all_distinct(&keys, n);
     Condition {
         ok: different & l.fit,
         nan: l.nan,
+        expires: l.expires,
     }
 }

@@ -1,4 +1,5 @@
-//! Rows of the receiver over raw samples in pushes of one size: the Rust here, the port as the program `bench_receiver`.
+//! Rows of the receiver over raw samples in pushes of one size: the Rust here, the port as the program `bench_receiver`. "asked first": its loop
+//! asks `adds_raw` whether a push only adds its samples, and calls `add_raw` or `push_raw`.
 
 use super::{Row, programs};
 use crate::generate::load::air;
@@ -21,7 +22,7 @@ fn row(&(rate, step, how): &(u32, usize, &str)) -> Result<Row, String> {
     let raw = air(rate, SECONDS);
     let head = [rate.to_le_bytes(), (step as u32).to_le_bytes()].concat();
     let input = [head, raw.clone()].concat();
-    let what = format!("events, {SECONDS} s at {how}");
+    let what = format!("events, {SECONDS} s at {how}, asked first");
     programs::row("receiver.rs", what, "bench_receiver", &input, move || {
         line(rate, step, &raw)
     })

@@ -1,15 +1,34 @@
 -- `bench_receiver::push_chunk` meets its contract. Assumes nothing.
-use Prim.Native.Nat.{_-_, _≤_}
+use Prim.Native.Nat.{_+_, _-_, _<_, _≤_}
+use native.Mathlib.Omega.{arith}
 use lib.ListN.{length}
 use borrow.Author.Needs.{needs}
 use Rattle.bench_receiver.proofs.push_chunk.Statement.{statement}
 use Rattle.bench_receiver.proofs.push_chunk.Tie as tie
+use Rattle.bench_receiver.proofs.push_chunk.Reads as reads
+use Rattle.bench_receiver.proofs.push_chunk.Lts as lts
+use Rattle.dips.proofs.least.Reads as least-reads
+use Rattle.receiver.proofs.SigfoxReceiver.add_raw.Reads as add-raw-reads
+use Rattle.receiver.proofs.SigfoxReceiver.adds_raw.Reads as adds-raw-reads
+use Rattle.receiver.proofs.SigfoxReceiver.push_raw.Reads as push-raw-reads
+use Rattle.shifts.proofs.Shifts.none.Reads as none-reads
+use Rattle.std.proofs.num.wrapping_add_u64.Reads as wrapping-add-u64-reads
 
 abbrev Inv-loop : tie.InvT-loop
 Inv-loop raw step samples₀ events₀ scratch32₀ scratch64₀ receiver₀ records₀ refused₀ shifts closed at₀ samples events scratch32 scratch64 receiver records refused at = at ≤ length raw
 
 abbrev μ-loop : tie.MeasureT-loop
 μ-loop raw step samples₀ events₀ scratch32₀ scratch64₀ receiver₀ records₀ refused₀ shifts closed at₀ samples events scratch32 scratch64 receiver records refused at = length raw - at
+
+-- in a turn, with the size of its part
+abbrev Turn : Type 0
+Turn = lts.After-least (none-reads.Asked, none-reads.Learnt, least-reads.Asked, least-reads.Learnt, adds-raw-reads.Asked, adds-raw-reads.Learnt, add-raw-reads.Asked, add-raw-reads.Learnt, push-raw-reads.Asked, push-raw-reads.Learnt, wrapping-add-u64-reads.Asked, wrapping-add-u64-reads.Learnt) reads.Pre reads.Post Inv-loop μ-loop
+
+-- the part is not empty, and ends in the list
+part : (c : Turn) → (c .before .before .loop .at < c .before .before .loop .at + c .least .result) × (c .before .before .loop .at + c .least .result ≤ length (c .before .before .before .before .before .before .args .raw .now))
+part c =
+    let s = c .before .before .before .before .before .before in
+    (omega (arith, c .least .ensures, c .before .loop-test .taken, s .pre), omega (arith, c .least .ensures, c .before .loop-test .taken, c .before .before .loop .inv))
 
 none-requires : tie.Need-none-requires Inv-loop μ-loop
 none-requires c κs = search needs
@@ -25,6 +44,38 @@ least-requires c κs = search needs
 
 add-end : tie.Need-add-end Inv-loop μ-loop
 add-end c = search needs
+
+sub-adds-raw : tie.Need-sub-adds-raw Inv-loop μ-loop
+sub-adds-raw c = search needs
+
+part-adds-raw-start : tie.Need-part-adds-raw-start Inv-loop μ-loop
+part-adds-raw-start c = search needs
+
+part-adds-raw-end : tie.Need-part-adds-raw-end Inv-loop μ-loop
+part-adds-raw-end c = search needs
+
+slice-aggregate-adds-raw : tie.Need-slice-aggregate-adds-raw Inv-loop μ-loop
+slice-aggregate-adds-raw c = search needs
+
+adds-raw-requires : tie.Need-adds-raw-requires Inv-loop μ-loop
+adds-raw-requires c κs = search needs
+
+sub-add-raw : tie.Need-sub-add-raw Inv-loop μ-loop
+sub-add-raw c = search needs
+
+part-add-raw-start : tie.Need-part-add-raw-start Inv-loop μ-loop
+part-add-raw-start c = search needs
+
+part-add-raw-end : tie.Need-part-add-raw-end Inv-loop μ-loop
+part-add-raw-end c = search needs
+
+slice-aggregate-add-raw : tie.Need-slice-aggregate-add-raw Inv-loop μ-loop
+slice-aggregate-add-raw c = search needs
+
+add-raw-requires : tie.Need-add-raw-requires Inv-loop μ-loop
+add-raw-requires c κs =
+    let asked = c .before .before .before .before .before .before in
+    asked .before .adds-raw .ensures (asked .if1 .taken)
 
 sub-push-raw : tie.Need-sub-push-raw Inv-loop μ-loop
 sub-push-raw c = search needs
@@ -45,10 +96,26 @@ wrapping-add-u64-requires : tie.Need-wrapping-add-u64-requires Inv-loop μ-loop
 wrapping-add-u64-requires c κs = search needs
 
 loop-less : tie.Need-loop-less Inv-loop μ-loop
-loop-less c = search needs
+loop-less c =
+    let t = c .before .before .before .before .before .before .before .before .before .before .before .before .before .before .before .before .before .before .before .before in
+    let p = part t in
+    omega (arith, p .0, p .1)
 
 loop-again : tie.Need-loop-again Inv-loop μ-loop
-loop-again c = search needs
+loop-again c =
+    let t = c .before .before .before .before .before .before .before .before .before .before .before .before .before .before .before .before .before .before .before .before in
+    part t .1
+
+loop-less-2 : tie.Need-loop-less-2 Inv-loop μ-loop
+loop-less-2 c =
+    let t = c .before .before .before .before .before .before .before .before .before .before .before .before .before .before .before .before .before .before .before .before .before in
+    let p = part t in
+    omega (arith, p .0, p .1)
+
+loop-again-2 : tie.Need-loop-again-2 Inv-loop μ-loop
+loop-again-2 c =
+    let t = c .before .before .before .before .before .before .before .before .before .before .before .before .before .before .before .before .before .before .before .before .before in
+    part t .1
 
 returns : tie.Need-returns Inv-loop μ-loop
 returns c = search needs
@@ -64,6 +131,16 @@ push-chunk-spec =
     sub-least
     least-requires
     add-end
+    sub-adds-raw
+    part-adds-raw-start
+    part-adds-raw-end
+    slice-aggregate-adds-raw
+    adds-raw-requires
+    sub-add-raw
+    part-add-raw-start
+    part-add-raw-end
+    slice-aggregate-add-raw
+    add-raw-requires
     sub-push-raw
     part-push-raw-start
     part-push-raw-end
@@ -72,4 +149,6 @@ push-chunk-spec =
     wrapping-add-u64-requires
     loop-less
     loop-again
+    loop-less-2
+    loop-again-2
     returns)

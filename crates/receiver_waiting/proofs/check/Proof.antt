@@ -13,7 +13,7 @@ use Rattle.receiver_waiting.proofs.check.Tie as tie
 
 returns : tie.Need-returns
 returns c = let a = c .before .args in
-    too-many (record { messages = a .messages; count = a .n }) (omega (arith, c .if1 .taken))
+    too-many (record { messages = a .messages; count = a .n }) (a .now) (omega (arith, c .if1 .taken))
 
 look-requires : tie.Need-look-requires
 look-requires c κs = search needs
@@ -29,7 +29,7 @@ returns-2 : tie.Need-returns-2
 returns-2 c = let a = c .before .before .before .before .before .before .args in
     let g = c .before .before .before .before .before .before .good .0 in
     let h : length (a .messages) ≡ openPlaces = search (needs, length-mapped, g) in
-    checked-is (record { messages = a .messages; count = a .n }) (c .before .before .before .before .look .result) (c .before .all-distinct .result) _ (omega (arith, c .before .before .before .before .before .if1 .left)) h (c .before .before .before .before .look .ensures) (c .before .all-distinct .ensures) refl
+    checked-is (record { messages = a .messages; count = a .n }) (a .now) (c .before .before .before .before .look .result) (c .before .all-distinct .result) _ (omega (arith, c .before .before .before .before .before .if1 .left)) h (c .before .before .before .before .look .ensures) (c .before .all-distinct .ensures) refl
 
 pub check-spec : {M : Type 1} → statement M
 check-spec =

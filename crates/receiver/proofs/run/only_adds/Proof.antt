@@ -1,46 +1,28 @@
 -- `receiver::run::only_adds` meets its contract. Assumes nothing.
-use mathlib.Core.Path.{_≡_, _∙_, refl, sym}
-use Prim.Native.Nat.{ℕ}
-use native.Mathlib.Omega.{arith}
-use borrow.Author.Needs.{needs}
+use mathlib.Core.Bool.{false}
+use mathlib.Core.Path.{_∙_, refl, sym}
+use Rattle.ledger.proofs.Basics.{clash}
 use Rattle.receiver_waiting.specs.Waiting.{anyExpires}
-use Rattle.receiver.proofs.StateLaws.{not-true}
+use Rattle.receiver.proofs.StateLaws.{not-false, not-true}
+use borrow.Author.Needs.{needs}
 use Rattle.receiver.proofs.run.only_adds.Statement.{statement}
 use Rattle.receiver.proofs.run.only_adds.Tie as tie
 
-add-held : tie.Need-add-held
-add-held c = search needs
+fits-requires : tie.Need-fits-requires
+fits-requires c κs = search needs
 
 returns : tie.Need-returns
-returns c e = absurd (let z : _≡_ {A = ℕ} 0 1 = cc in omega arith)
-
-capacity-requires : tie.Need-capacity-requires
-capacity-requires c κs = search needs
+returns c e = clash false e refl
 
 returns-2 : tie.Need-returns-2
-returns-2 c e = absurd (let z : _≡_ {A = ℕ} 0 1 = cc in omega arith)
-
-cast-if3 : tie.Need-cast-if3
-cast-if3 c = search needs
-
-add-if3 : tie.Need-add-if3
-add-if3 c = search needs
-
-mul-if3 : tie.Need-mul-if3
-mul-if3 c = search needs
-
-returns-3 : tie.Need-returns-3
-returns-3 c e = absurd (let z : _≡_ {A = ℕ} 0 1 = cc in omega arith)
-
-returns-4 : tie.Need-returns-4
 unfolding anyExpires
-returns-4 c e =
-    record {
-      some = omega (arith, c .before .before .before .before .before .before .before .if1 .left);
-      fits = omega (arith, c .before .before .before .before .before .if2 .left, c .before .before .before .before .before .before .capacity .ensures);
-      quiet = omega (arith, c .before .before .if3 .left);
-      stay = rw (c .if4 .taken) refl;
-    }
+returns-2 c e =
+    let f = c .before .before .before .fits2 in
+    let g = f .ensures (not-false (f .result) (c .before .before .if1 .left)) in
+    record { some = g .0; fits = g .1; quiet = g .2; stay = rw (c .if2 .taken) refl }
+
+add-held : tie.Need-add-held
+add-held c = search needs
 
 add-seconds : tie.Need-add-seconds
 add-seconds c = search needs
@@ -51,12 +33,14 @@ seconds-requires c κs = search needs
 any-expires-requires : tie.Need-any-expires-requires
 any-expires-requires c κs = search needs
 
-returns-5 : tie.Need-returns-5
-returns-5 c e =
+returns-3 : tie.Need-returns-3
+returns-3 c e =
+    let f = c .before .before .before .before .before .before .before .before .fits2 in
+    let g = f .ensures (not-false (f .result) (c .before .before .before .before .before .before .before .if1 .left)) in
     record {
-      some = omega (arith, c .before .before .before .before .before .before .before .before .before .before .before .if1 .left);
-      fits = omega (arith, c .before .before .before .before .before .before .before .before .before .if2 .left, c .before .before .before .before .before .before .before .before .before .before .capacity .ensures);
-      quiet = omega (arith, c .before .before .before .before .before .before .if3 .left);
+      some = g .0;
+      fits = g .1;
+      quiet = g .2;
       stay = rw (c .before .seconds .ensures) at (sym (c .any-expires .ensures) ∙ not-true (c .any-expires .result) e);
     }
 
@@ -64,16 +48,11 @@ pub only-adds-spec : {M : Type 1} → statement M
 only-adds-spec =
     tie.close
     (tie.spec
-    add-held
+    fits-requires
     returns
-    capacity-requires
     returns-2
-    cast-if3
-    add-if3
-    mul-if3
-    returns-3
-    returns-4
+    add-held
     add-seconds
     seconds-requires
     any-expires-requires
-    returns-5)
+    returns-3)
