@@ -1,4 +1,5 @@
-//! docs/ARCHITECTURE.md's tables of what must be believed: closed under what their definitions name, nothing in them for nothing, and the lines counted.
+//! docs/ARCHITECTURE.md's tables of what must be believed: closed under what their definitions name, nothing in them for nothing, and the lines counted;
+//! and its table of what else stands in specs/.
 //! Needs the repository alone.
 
 mod tree;
@@ -296,5 +297,43 @@ fn the_lines_are_counted() {
     none(
         "rows whose files have another number of lines",
         wrong.map(|cells| format!("{}: {}", cells[0], lines(&cells[1]))),
+    );
+}
+
+#[test]
+fn every_file_of_specs_has_its_table() {
+    let believed: BTreeSet<Module> = files_of("demand").union(&files_of("request")).cloned().collect();
+    let beside = files_of("beside it");
+    none("in both tables", believed.intersection(&beside).map(label));
+    let tree = Tree::read();
+    let in_specs = tree.files.keys().filter(|(_, folder, _)| folder == "specs");
+    let there: BTreeSet<Module> = in_specs.filter(|(_, _, module)| module != "Lib").cloned().collect();
+    let all: BTreeSet<Module> = believed.union(&beside).cloned().collect();
+    none("in specs/, and in neither table", there.difference(&all).map(label));
+    none("beside it, and not in specs/", beside.difference(&there).map(label));
+}
+
+/// Scaffolding, and nothing else, says what it is in its first line.
+#[test]
+fn scaffolding_says_so() {
+    let rows = table_rows(ARCHITECTURE, "beside it");
+    let row = rows.iter().find(|cells| cells[0].starts_with("scaffolding"));
+    let listed: BTreeSet<Module> = listed(&row.expect("a row of scaffolding")[1]).into_iter().collect();
+    let mut said = BTreeSet::new();
+    for home in crates() {
+        let base = home.join("specs");
+        for path in files(&base, ".antt") {
+            if text(&path).starts_with("-- Scaffolding. ") {
+                said.insert((name(&home), "specs".to_string(), name(&path)));
+            }
+        }
+    }
+    none(
+        "listed, and its first line doesn't say so",
+        listed.difference(&said).map(label),
+    );
+    none(
+        "said in its first line, and not listed",
+        said.difference(&listed).map(label),
     );
 }

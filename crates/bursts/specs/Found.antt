@@ -1,4 +1,4 @@
--- What the searches inside `find_bursts` promise, on the Rust's loop. Assumes nothing.
+-- Scaffolding. What the searches inside `find_bursts` promise, on the Rust's loop. Assumes nothing.
 use Prim.Native.Nat.{ℕ, suc, _≤_, _<_}
 use mathlib.Core.Path.{_≡_}
 use mathlib.Core.Bool.{true}

@@ -1,4 +1,4 @@
--- Bytes one after the other, each by its rule (conv_tables' specs/Tables.antt). No definition of 02 rests on it. Assumes nothing.
+-- Scaffolding. Bytes one after the other, each by its rule (conv_tables' specs/Tables.antt). No definition of 02 rests on it. Assumes nothing.
 use Prim.Native.Nat.{ℕ}
 use mathlib.Core.List.{List, [], _∷_}
 use Rattle.conv_tables.specs.Tables.{decodedByte, nextState}

@@ -1,4 +1,4 @@
--- Scaffolding: the bit clock as the code keeps it, with its four sums and its bit indexes moved up by 2^31, and the outcome from there.
+-- Scaffolding. The bit clock as the code keeps it, with its four sums and its bit indexes moved up by 2^31, and the outcome from there.
 -- Law `running-is` of the proofs says that it is `Clock`'s and `Bits`'. Assumes nothing.
 use Prim.Native.Nat.{ℕ, _+_, _-_, _/_, max}
 use mathlib.Core.Bool.{Bool, true, false, cond, _&&_, _||_}

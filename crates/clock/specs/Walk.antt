@@ -1,4 +1,4 @@
--- Scaffolding: the bits between points, given by their places (bit index + 2^31): by membership, and point by point, where the points rise, as `write_bits` writes them.
+-- Scaffolding. The bits between points, given by their places (bit index + 2^31): by membership, and point by point, where the points rise, as `write_bits` writes them.
 use Prim.Native.Nat.{ℕ, zero, suc, _+_, _-_, _*_, _≤_, _<_}
 use mathlib.Core.Bool.{Bool, false, cond, _||_}
 use mathlib.Core.List.{List, [], _∷_, map}

@@ -1,4 +1,4 @@
--- The CRC's register as the code has it: a number of 16 bits that takes the message's bits one after the other. No definition of 01 rests on it. Assumes nothing.
+-- Scaffolding. The CRC's register as the code has it: a number of 16 bits that takes the message's bits one after the other. No definition of 01 rests on it. Assumes nothing.
 use Prim.Native.Nat.{ℕ, _*_, _/_, _%_}
 use mathlib.Core.Bool.{Bool, cond}
 use mathlib.Core.List.{List, [], _∷_}

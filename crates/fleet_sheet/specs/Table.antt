@@ -1,4 +1,4 @@
--- How the rows stand in the code's table while the list is read: seven numbers a row, in the order of the devices. Assumes nothing.
+-- Scaffolding. How the rows stand in the code's table while the list is read: seven numbers a row, in the order of the devices. Assumes nothing.
 use mathlib.Core.Path.{_≡_}
 use Prim.Native.Nat.{ℕ, zero, suc, _+_, _*_, _^_, _≤_, _<_}
 use mathlib.Core.Bool.{Bool, cond, _&&_}

@@ -1,4 +1,4 @@
--- What is read so far of a list that comes in parts: the tally and the table stand for the messages among it. `fleet_report` reads its list as one part. Assumes nothing.
+-- Scaffolding. What is read so far of a list that comes in parts: the tally and the table stand for the messages among it. `fleet_report` reads its list as one part. Assumes nothing.
 use mathlib.Core.Path.{_≡_}
 use Prim.Native.Nat.{ℕ, _≤_}
 use mathlib.Core.List.{List, _++_}

@@ -1,4 +1,4 @@
--- A body's bits with the convolution undone, a byte at a time, as the code makes them. Assumes nothing.
+-- Scaffolding. A body's bits with the convolution undone, a byte at a time, as the code makes them. Assumes nothing.
 use mathlib.Core.Path.{_≡_}
 use mathlib.Core.List.{List}
 use mathlib.Core.Bool.{Bool, _&&_}

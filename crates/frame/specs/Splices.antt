@@ -1,4 +1,4 @@
--- A repair in the form in which the code tries it: `put` bits, 0 or 1 of them, in the place of `skip` bits. Assumes nothing.
+-- Scaffolding. A repair in the form in which the code tries it: `put` bits, 0 or 1 of them, in the place of `skip` bits. Assumes nothing.
 use mathlib.Core.Path.{_≡_}
 use Prim.Native.Nat.{ℕ, _+_, _-_, _≤_, _<_}
 use mathlib.Core.Bool.{Bool, true}

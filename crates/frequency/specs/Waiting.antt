@@ -1,4 +1,4 @@
--- `next_tuning` on the parallel slices, and what its parts ask of them. Assumes nothing.
+-- Scaffolding. `next_tuning` on the parallel slices, and what its parts ask of them. Assumes nothing.
 use Prim.Native.Nat.{ℕ}
 use mathlib.Core.Path.{_≡_}
 use mathlib.Core.Bool.{true}

@@ -1,4 +1,4 @@
--- What a step that puts readings or tunings behind the others leaves in the parallel slices. Assumes nothing.
+-- Scaffolding. What a step that puts readings or tunings behind the others leaves in the parallel slices. Assumes nothing.
 use Prim.Native.Nat.{ℕ, _+_}
 use mathlib.Core.Path.{_≡_}
 use mathlib.Core.Bool.{Bool, cond}

@@ -1,4 +1,4 @@
--- What the functions that gather into scratch ask of the parallel slices. Assumes nothing.
+-- Scaffolding. What the functions that gather into scratch ask of the parallel slices. Assumes nothing.
 use Prim.Native.Nat.{ℕ, _≤_, _<_, _^_}
 use mathlib.Core.Path.{_≡_}
 use mathlib.Core.Bool.{true}

@@ -53,6 +53,10 @@ settling rate tuned at = lt (num at) (add binary64 (num tuned) (mul binary64 set
 unfoldable pub kept : ℕ → ℕ → ℕ → Bool
 kept rate n at = le (sub binary64 (num n) (mul binary64 keepS (num rate))) (num at)
 
+-- KEEP_S as a whole number
+abbrev pub keepWhole : ℕ
+keepWhole = 60
+
 -- the same by whole numbers: what is kept is at this index or later (proofs/Indices.antt)
 abbrev pub oldestOf : ℕ → ℕ → ℕ
-oldestOf rate n = n - 60 * rate
+oldestOf rate n = n - keepWhole * rate

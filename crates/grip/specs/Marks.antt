@@ -1,4 +1,4 @@
--- Marks of records, a bit each: how the messages on air are kept until the whole list was read. Assumes nothing.
+-- Scaffolding. Marks of records, a bit each: how the messages on air are kept until the whole list was read. Assumes nothing.
 use Prim.Native.Nat.{ℕ, zero, suc, _/_, _%_, _^_}
 use mathlib.Core.Path.{_≡_}
 use mathlib.Core.Bool.{Bool, false, cond}

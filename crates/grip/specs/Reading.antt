@@ -1,4 +1,4 @@
--- How a list is read for a grip, record by record and in parts; what the best so far stands for. `nearest_message` reads its list as one part. Assumes nothing.
+-- Scaffolding. How a list is read for a grip, record by record and in parts; what the best so far stands for. `nearest_message` reads its list as one part. Assumes nothing.
 use Prim.Native.Nat.{ℕ, _+_, _%_}
 use mathlib.Core.Path.{_≡_}
 use mathlib.Core.Bool.{Bool, true, false, cond, _&&_, _||_, not}

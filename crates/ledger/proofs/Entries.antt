@@ -8,11 +8,12 @@ use lib.ListN.{length}
 use lib.Dec.{leb, eqb}
 use lib.Ieee.{Float}
 use borrow.Author.Tests.{le-leb}
+use Rattle.frame.specs.Sizes.{mostPayload, mostAuth}
 use Rattle.ledger.specs.Types.{Pending}
 use Rattle.ledger.specs.Frames.{Frame, keyOf, rankOf, rssiOf, timeOf, startOf}
 use Rattle.ledger.specs.Merge.{entryKey, has, threeRanks, louder, openEntry, merge, mergeAll, expires, finished}
 use Rattle.ledger.specs.Ledger.{Message, frames, messageKey, summary, ranked, latest, complete}
-use Rattle.ledger.specs.Causes.{mostPayload, mostAuth, spansFit, inFront, entryFits}
+use Rattle.ledger.specs.Causes.{spansFit, inFront, entryFits}
 use Rattle.ledger.proofs.Basics.{and-true, Every}
 use Rattle.ledger.proofs.Spans.{meet-length, meet-fit, meet-front, has-meet, open-has, open-spans, open-front, any-kept}
 

@@ -8,6 +8,7 @@ use lib.Ieee.{isNan}
 use Rattle.limits.specs.Limits.{badRate, short, long, badSample, badState, stream, badNumber, eventsSize, scratch64, longestStream}
 use Rattle.limits.specs.Samples.{rateOk, allDbm}
 use Rattle.shifts.specs.Shifts.{Schedule, scheduleCause}
+use Rattle.frame.specs.Sizes.{mostPayload, mostAuth}
 use Rattle.ledger.specs.Types.{FrameSpan, FirstFrameEnd, Known, Unknown, Pending}
 use Rattle.ledger.specs.Frames.{Key, same}
 use Rattle.ledger.specs.Merge.{noSpan, has}
@@ -26,13 +27,6 @@ oldestS = 7
 -- 02, request 08: "count over 40 waiting as a state not in order"
 abbrev pub mostWaiting : ℕ
 mostWaiting = 40
-
--- "payload at most 12 and auth at most 5 bytes"
-abbrev pub mostPayload : ℕ
-mostPayload = 12
-
-abbrev pub mostAuth : ℕ
-mostAuth = 5
 
 -- ---- "In order"
 

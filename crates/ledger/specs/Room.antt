@@ -10,9 +10,10 @@ use lib.Dec.{leb, ltb}
 use lib.Ieee.{Float}
 use Rattle.limits.specs.Limits.{longestStream}
 use Rattle.limits.specs.Samples.{allDbm}
+use Rattle.frame.specs.Sizes.{mostPayload, mostAuth}
 use Rattle.ledger.specs.Types.{DecodedFrame, Burst}
 use Rattle.ledger.specs.Ledger.{Kind, Demod, capacity, tail, spaced, Ledger, takeOne, forget, halve, amount, add, scanned, fill, Call, push, flush, startCall, scans, messages}
-use Rattle.ledger.specs.Causes.{mostStarts, mostWaiting, mostPayload, mostAuth, oldestS, unlike, allFit}
+use Rattle.ledger.specs.Causes.{mostStarts, mostWaiting, oldestS, unlike, allFit}
 
 -- ---- what the bounds need of demodulation
 

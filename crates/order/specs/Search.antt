@@ -1,4 +1,4 @@
--- How a search for one element of the sorted list stands: a range of numbers, and a rank among the elements in it.
+-- Scaffolding. How a search for one element of the sorted list stands: a range of numbers, and a rank among the elements in it.
 -- Only contracts of `order`'s private functions cite this; what `select32` and `select64` promise is in Order and Sorted.
 use mathlib.Core.Path.{_≡_}
 use mathlib.Core.List.{List}

@@ -1,4 +1,4 @@
--- An accepted call under way: what the code has of it stands for a ledger. Assumes nothing.
+-- Scaffolding. An accepted call under way: what the code has of it stands for a ledger. Assumes nothing.
 use mathlib.Core.Path.{_≡_}
 use mathlib.Core.Bool.{Bool, true, false}
 use mathlib.Core.List.{List, map}

@@ -1,4 +1,4 @@
--- The records of the messages that a call writes at its end. Assumes nothing.
+-- Scaffolding. The records of the messages that a call writes at its end. Assumes nothing.
 use mathlib.Core.Path.{_≡_}
 use mathlib.Core.List.{List, [], _∷_, map}
 use mathlib.Core.Bool.{Bool, cond}

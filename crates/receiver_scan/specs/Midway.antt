@@ -1,4 +1,4 @@
--- A call under way: what the starts, the open messages and the event buffer stand for, and what a step of a scan asks and does. Assumes nothing.
+-- Scaffolding. A call under way: what the starts, the open messages and the event buffer stand for, and what a step of a scan asks and does. Assumes nothing.
 use mathlib.Core.Path.{_≡_}
 use mathlib.Core.List.{List, [], _∷_, map}
 use mathlib.Core.Bool.{Bool, true, not, _&&_}

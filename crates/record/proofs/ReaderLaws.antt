@@ -12,8 +12,9 @@ use lib.Ieee.Bits.{ofBits-toBits}
 use Rattle.endian.specs.Bytes.{bytesOf, bitsOf, signedBits, signedOf, numberAt}
 use Rattle.endian.proofs.Numbers.{bytes-length}
 use Rattle.endian.proofs.Values.{signed-small, signed-back, pattern-small}
+use Rattle.frame.specs.Fields.{byteAt}
 use Rattle.record.specs.Record.{spare, upTo, headBytes, markBytes, identityBytes, levelBytes, rankBytes, timeBytes, startBytes}
-use Rattle.record.specs.Readers.{byteAt, kindOf, rankOf, flagsOf, payloadLenOf, authLenOf, repairOf, placeOf, deviceOf, counterOf, payloadOf, authOf, depthOf, markOf, ppmOf, rssiOf, spanRankOf, timeOf, endOf, startOf}
+use Rattle.record.specs.Readers.{kindOf, rankOf, flagsOf, payloadLenOf, authLenOf, repairOf, placeOf, deviceOf, counterOf, payloadOf, authOf, depthOf, markOf, ppmOf, rssiOf, spanRankOf, timeOf, endOf, startOf}
 use Rattle.record.specs.declared.parts.Head.{Head}
 use Rattle.record.specs.declared.parts.Marks.{Marks}
 use Rattle.record.proofs.PartLaws.{length-up-to, length-head, length-marks, length-identity, length-levels, length-ranks, length-times}

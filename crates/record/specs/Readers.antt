@@ -1,13 +1,11 @@
 -- The fields of a record, read back by 01's table: one definition for each. Assumes nothing.
 use Prim.Native.Nat.{ℕ, _+_, _*_}
 use mathlib.Core.List.{List}
-use lib.ListN.{take, drop, getD}
+use lib.ListN.{take, drop}
 use lib.IntN.{ℤ}
 use lib.Ieee.{Float, binary32, binary64}
 use Rattle.endian.specs.Bytes.{numberAt, signedOf, floatAt}
-
-abbrev pub byteAt : List ℕ → ℕ → ℕ
-byteAt l i = getD l i 0
+use Rattle.frame.specs.Fields.{byteAt}
 
 abbrev pub kindOf : List ℕ → ℕ
 kindOf l = byteAt l 0

@@ -1,4 +1,4 @@
--- How the code counts and prices: a count for each day of what is read so far of a list that comes in parts, and how far the steps reach. `charges` reads its list as one part. Assumes nothing.
+-- Scaffolding. How the code counts and prices: a count for each day of what is read so far of a list that comes in parts, and how far the steps reach. `charges` reads its list as one part. Assumes nothing.
 use Prim.Native.Nat.{ℕ, zero, suc, _+_, _-_, _/_, _≤_, min}
 use mathlib.Core.Path.{_≡_}
 use mathlib.Core.Bool.{Bool, true, cond}

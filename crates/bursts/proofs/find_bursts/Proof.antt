@@ -8,6 +8,16 @@ use borrow.Author.Needs.{needs}
 use Rattle.bursts.proofs.find_bursts.Statement.{statement}
 use Rattle.bursts.proofs.find_bursts.Tie as tie
 
+-- The places that are cited, each from a later one.
+abbrev at-else1 : tie.Else2 → tie.Else1
+at-else1 c = c .before
+
+abbrev at-rate-ok : tie.Else2 → tie.After-rate-ok
+at-rate-ok c = at-else1 c .before
+
+abbrev at-start : tie.Else2 → tie.Start
+at-start c = at-rate-ok c .before .before
+
 rate-ok-requires : tie.Need-rate-ok-requires
 rate-ok-requires c κs = search needs
 
@@ -42,27 +52,30 @@ options-ok-requires c κs = search needs
 
 returns-4 : tie.Need-returns-4
 returns-4 c =
+    let else2 = c .before .before .before .before in
     let o = c .before .options-ok in
     let v = c .before .before .before .all-dbm in
-    let r = c .before .before .before .before .before .before .rate-ok in
-    let a = c .before .before .before .before .before .before .before .before .args in
-    burst-bad (a .dbm .now) (a .rate) (a .options) (a .floor) (a .from) (sym (r .ensures) ∙ not-false (r .result) (c .before .before .before .before .before .if1 .left))
-    (c .before .before .before .before .if2 .left) (sym (v .ensures) ∙ not-false (v .result) (c .before .before .if3 .left)) (sym (o .ensures) ∙ not-true (o .result) (c .if4 .taken))
+    let r = at-rate-ok else2 .rate-ok in
+    let a = at-start else2 .args in
+    burst-bad (a .dbm .now) (a .rate) (a .options) (a .floor) (a .from) (sym (r .ensures) ∙ not-false (r .result) (at-else1 else2 .if1 .left))
+    (else2 .if2 .left) (sym (v .ensures) ∙ not-false (v .result) (c .before .before .if3 .left)) (sym (o .ensures) ∙ not-true (o .result) (c .if4 .taken))
 
 search-bursts-requires : tie.Need-search-bursts-requires
 search-bursts-requires c κs =
-    let r = c .before .before .before .before .before .before .rate-ok in
-    let a = c .before .before .before .before .before .before .before .before .args in
-    (omega (arith, rate-high (a .rate) (sym (r .ensures) ∙ not-false (r .result) (c .before .before .before .before .before .if1 .left)), c .before .before .before .before .if2 .left), omega arith)
+    let else2 = c .before .before .before .before in
+    let r = at-rate-ok else2 .rate-ok in
+    let a = at-start else2 .args in
+    (omega (arith, rate-high (a .rate) (sym (r .ensures) ∙ not-false (r .result) (at-else1 else2 .if1 .left)), else2 .if2 .left), omega arith)
 
 returns-5 : tie.Need-returns-5
 returns-5 c =
+    let else2 = c .before .before .before .before .before in
     let o = c .before .before .options-ok in
     let v = c .before .before .before .before .all-dbm in
-    let r = c .before .before .before .before .before .before .before .rate-ok in
-    let a = c .before .before .before .before .before .before .before .before .before .args in
-    burst-done (a .dbm .now) (a .rate) (a .options) (a .floor) (a .from) (sym (r .ensures) ∙ not-false (r .result) (c .before .before .before .before .before .before .if1 .left))
-    (c .before .before .before .before .before .if2 .left) (sym (v .ensures) ∙ not-false (v .result) (c .before .before .before .if3 .left)) (c .search-bursts .result)
+    let r = at-rate-ok else2 .rate-ok in
+    let a = at-start else2 .args in
+    burst-done (a .dbm .now) (a .rate) (a .options) (a .floor) (a .from) (sym (r .ensures) ∙ not-false (r .result) (at-else1 else2 .if1 .left))
+    (else2 .if2 .left) (sym (v .ensures) ∙ not-false (v .result) (c .before .before .before .if3 .left)) (c .search-bursts .result)
     (sym (o .ensures) ∙ not-false (o .result) (c .before .if4 .left)) (c .search-bursts .ensures)
 
 pub find-bursts-spec : {M : Type 1} → statement M

@@ -18,6 +18,16 @@ Inv-loop dbm rate options floor at from threshold gap i₀ i = (i ≤ length dbm
 abbrev μ-loop : tie.MeasureT-loop
 μ-loop dbm rate options floor at from threshold gap i₀ i = length dbm - i
 
+-- The places that are cited, each from a later one.
+abbrev at-first-loud : tie.After-last-loud Inv-loop μ-loop → tie.After-first-loud Inv-loop μ-loop
+at-first-loud c = c .before .before
+
+abbrev at-loop : tie.After-last-loud Inv-loop μ-loop → tie.At-loop Inv-loop μ-loop
+at-loop c = at-first-loud c .before .before
+
+abbrev at-start : tie.After-last-loud Inv-loop μ-loop → tie.Start Inv-loop μ-loop
+at-start c = at-loop c .before .before .before .before .before
+
 f32-to-f64-with-nan-requires : tie.Need-f32-to-f64-with-nan-requires Inv-loop μ-loop
 f32-to-f64-with-nan-requires c κs = search needs
 
@@ -47,8 +57,9 @@ last-loud-requires c κs =
 
 is-long-requires : tie.Need-is-long-requires Inv-loop μ-loop
 is-long-requires c κs =
-    let l = c .before .last-loud .ensures in
-    let s = c .before .before .before .before .before .before .before .before .before .before in
+    let last-loud = c .before in
+    let l = last-loud .last-loud .ensures in
+    let s = at-start last-loud in
     (l .after, omega (arith, l .inside, s .pre .0))
 
 burst-of-requires : tie.Need-burst-of-requires Inv-loop μ-loop
@@ -58,9 +69,10 @@ burst-of-requires c κs =
 
 returns-2 : tie.Need-returns-2 Inv-loop μ-loop
 returns-2 c =
-    let l = c .before .before .before .before .last-loud in
-    let f = c .before .before .before .before .before .before .first-loud in
-    let o = c .before .before .before .before .before .before .before .before in
+    let last-loud = c .before .before .before .before in
+    let l = last-loud .last-loud in
+    let f = at-first-loud last-loud .first-loud in
+    let o = at-loop last-loud in
     let a = o .before .before .before .before .before .args in
     search-found (a .dbm .now) (a .rate) (a .options) (a .floor) (a .from) _ _ (o .loop .i) _ (o .loop .inv .1) (f .result) (f .ensures)
     (omega (arith, l .ensures .after, l .ensures .inside)) (l .result) (l .ensures) (c .burst-of .result)

@@ -6,6 +6,25 @@ use borrow.Author.Needs.{needs}
 use Rattle.bytewise.proofs.bytes_cause.Statement.{statement}
 use Rattle.bytewise.proofs.bytes_cause.Tie as tie
 
+-- The places that are cited, each from a later one.
+abbrev at-else5 : tie.After-are-bits → tie.Else5
+at-else5 c = c .before
+
+abbrev at-else4 : tie.After-are-bits → tie.Else4
+at-else4 c = at-else5 c .before
+
+abbrev at-else3 : tie.After-are-bits → tie.Else3
+at-else3 c = at-else4 c .before
+
+abbrev at-else2 : tie.After-are-bits → tie.Else2
+at-else2 c = at-else3 c .before
+
+abbrev at-else1 : tie.After-are-bits → tie.Else1
+at-else1 c = at-else2 c .before
+
+abbrev at-start : tie.After-are-bits → tie.Start
+at-start c = at-else1 c .before .before .before
+
 returns : tie.Need-returns
 returns c = let a = c .before .before .before .args in
     short-out (a .bytes .now) (a .rest .now) (a .rank) (a .room) (a .rest-room) (c .if1 .taken)
@@ -36,14 +55,18 @@ are-bits-requires : tie.Need-are-bits-requires
 are-bits-requires c κs = search needs
 
 returns-6 : tie.Need-returns-6
-returns-6 c = let a = c .before .before .before .before .before .before .before .before .before .args in
-    none-applies (a .bytes .now) (a .rest .now) (a .rank) (a .room) (a .rest-room) (c .before .before .before .before .before .before .if1 .left) (c .before .before .before .before .before .if2 .left) (omega (arith, c .before .before .before .before .if3 .left, c .before .before .before .if4 .left)) (c .before .before .if5 .left)
-    (sym (c .before .are-bits .ensures) ∙ c .if6 .taken)
+returns-6 c =
+    let are-bits = c .before in
+    let a = at-start are-bits .args in
+    none-applies (a .bytes .now) (a .rest .now) (a .rank) (a .room) (a .rest-room) (at-else1 are-bits .if1 .left) (at-else2 are-bits .if2 .left) (omega (arith, at-else3 are-bits .if3 .left, at-else4 are-bits .if4 .left)) (at-else5 are-bits .if5 .left)
+    (sym (are-bits .are-bits .ensures) ∙ c .if6 .taken)
 
 returns-7 : tie.Need-returns-7
-returns-7 c = let a = c .before .before .before .before .before .before .before .before .before .args in
-    not-bits (a .bytes .now) (a .rest .now) (a .rank) (a .room) (a .rest-room) (c .before .before .before .before .before .before .if1 .left) (c .before .before .before .before .before .if2 .left) (omega (arith, c .before .before .before .before .if3 .left, c .before .before .before .if4 .left)) (c .before .before .if5 .left)
-    (sym (c .before .are-bits .ensures) ∙ c .if6 .left)
+returns-7 c =
+    let are-bits = c .before in
+    let a = at-start are-bits .args in
+    not-bits (a .bytes .now) (a .rest .now) (a .rank) (a .room) (a .rest-room) (at-else1 are-bits .if1 .left) (at-else2 are-bits .if2 .left) (omega (arith, at-else3 are-bits .if3 .left, at-else4 are-bits .if4 .left)) (at-else5 are-bits .if5 .left)
+    (sym (are-bits .are-bits .ensures) ∙ c .if6 .left)
 
 pub bytes-cause-spec : {M : Type 1} → statement M
 bytes-cause-spec =

@@ -16,6 +16,19 @@ use borrow.Author.Needs.{needs}
 use Rattle.bytewise.proofs.deconvolve_bytes.Statement.{statement}
 use Rattle.bytewise.proofs.deconvolve_bytes.Tie as tie
 
+-- The places that are cited, each from a later one.
+abbrev at-number-of : tie.After-undo-into → tie.After-number-of
+at-number-of c = c .before .before
+
+abbrev at-else1 : tie.After-number-of → tie.Else1
+at-else1 c = c .before
+
+abbrev at-bytes-cause : tie.After-number-of → tie.After-bytes-cause
+at-bytes-cause c = at-else1 c .before
+
+abbrev at-start : tie.After-number-of → tie.Start
+at-start c = at-bytes-cause c .before .before .before .before .before
+
 bytes-cause-requires : tie.Need-bytes-cause-requires
 bytes-cause-requires c κs = search needs
 
@@ -44,15 +57,18 @@ number-of-requires c κs = search needs
 
 undo-into-requires : tie.Need-undo-into-requires
 undo-into-requires c κs =
-    let a = c .before .before .before .before .before .before .before .before .args in
-    let x = none (a .bytes .now) (a .rest .now) (a .rank) (length (a .out .now)) (length (a .out-rest .now)) (sym (c .before .before .before .bytes-cause .ensures) ∙ c .before .before .if1 .left) in
-    (x .ranked, c .before .number-of .ensures .1, x .fits)
+    let number-of = c .before in
+    let a = at-start number-of .args in
+    let x = none (a .bytes .now) (a .rest .now) (a .rank) (length (a .out .now)) (length (a .out-rest .now)) (sym (at-bytes-cause number-of .bytes-cause .ensures) ∙ at-else1 number-of .if1 .left) in
+    (x .ranked, number-of .number-of .ensures .1, x .fits)
 
 code-from-requires : tie.Need-code-from-requires
 code-from-requires c κs =
-    let a = c .before .before .before .before .before .before .before .before .before .before .before .before .args in
-    let x = none (a .bytes .now) (a .rest .now) (a .rank) (length (a .out .now)) (length (a .out-rest .now)) (sym (c .before .before .before .before .before .before .before .bytes-cause .ensures) ∙ c .before .before .before .before .before .before .if1 .left) in
-    (x .all, x .rest-fits, omega (arith, c .before .before .before .undo-into .ensures .2))
+    let undo-into = c .before .before .before in
+    let number-of = at-number-of undo-into in
+    let a = at-start number-of .args in
+    let x = none (a .bytes .now) (a .rest .now) (a .rank) (length (a .out .now)) (length (a .out-rest .now)) (sym (at-bytes-cause number-of .bytes-cause .ensures) ∙ at-else1 number-of .if1 .left) in
+    (x .all, x .rest-fits, omega (arith, undo-into .undo-into .ensures .2))
 
 state-of-requires : tie.Need-state-of-requires
 state-of-requires c κs = search needs
@@ -66,20 +82,22 @@ same-length-2 c = search needs
 returns-2 : tie.Need-returns-2
 unfolding said bytesAnswer bytesOut restOut
 returns-2 c =
-    let a = c .before .before .before .before .before .before .before .before .before .before .before .before .before .before .before .before .args in
+    let undo-into = c .before .before .before .before .before .before .before in
+    let number-of = at-number-of undo-into in
+    let a = at-start number-of .args in
     let b = a .bytes .now in
     let t = a .rest .now in
     let o = a .out .now in
     let q = a .out-rest .now in
     let s = stateIs (a .start) in
-    let r = c .before .before .before .before .before .before .before .before .before .before .before .bytes-cause in
+    let r = at-bytes-cause number-of .bytes-cause in
     let k = bytesCause b t (a .rank) (length o) (length q) in
     let plain = undone b t (a .rank) s in
     let new : List ℕ = toBytes (length b) plain ++ drop (length b) o in
     let new-rest : List ℕ = map bitOf (drop (8 * length b) plain) ++ drop (length t) q in
-    let h = c .before .before .before .before .before .before .before .before .before .before .if1 .left in
-    let n = c .before .before .before .before .before .before .before .before .before .number-of in
-    let m = c .before .before .before .before .before .before .before .undo-into in
+    let h = at-else1 number-of .if1 .left in
+    let n = number-of .number-of in
+    let m = undo-into .undo-into in
     let w = c .before .before .before .code-from in (
       ap accepted (c .state-of .ensures ∙ w .ensures .1 ∙ state-is b t (a .rank) (n .result) (m .result) s (n .ensures .0) (m .ensures .1))
           ∙ done-answer (r .result) k (r .ensures) (stateAfter s plain) h,

@@ -17,6 +17,16 @@ Inv-loop bytes rank state out₀ decoded next s₀ i₀ out s i = (i ≤ length 
 abbrev μ-loop : tie.MeasureT-loop
 μ-loop bytes rank state out₀ decoded next s₀ i₀ out s i = length bytes - i
 
+-- The places that are cited, each from a later one.
+abbrev at-next : tie.At-loop Inv-loop μ-loop → tie.After-next Inv-loop μ-loop
+at-next c = c .before
+
+abbrev at-decoded : tie.At-loop Inv-loop μ-loop → tie.After-decoded Inv-loop μ-loop
+at-decoded c = at-next c .before
+
+abbrev at-start : tie.At-loop Inv-loop μ-loop → tie.Start Inv-loop μ-loop
+at-start c = at-decoded c .before .before .before
+
 decoded-requires : tie.Need-decoded-requires Inv-loop μ-loop
 decoded-requires c κs = tt
 
@@ -32,8 +42,9 @@ shared-slice-read-undone-byte c = search needs
 
 undone-byte-requires : tie.Need-undone-byte-requires Inv-loop μ-loop
 undone-byte-requires c κs =
-    let e = c .before .before .before .before .before .before .before .before .before in
-    (c .before .before .before .before .before .before .decoded .ensures, c .before .before .before .before .before .next .ensures, e .pre .0, c .before .before .before .before .loop .inv .2)
+    let loop = c .before .before .before .before in
+    let e = at-start loop in
+    (at-decoded loop .decoded .ensures, at-next loop .next .ensures, e .pre .0, loop .loop .inv .2)
 
 slice-write-out : tie.Need-slice-write-out Inv-loop μ-loop
 slice-write-out c = search needs
@@ -46,9 +57,9 @@ loop-less c = search needs
 
 loop-again : tie.Need-loop-again Inv-loop μ-loop
 loop-again c =
-    let u = c .undone-byte in
     let l = c .before .before .before .before .before in
-    let a = c .before .before .before .before .before .before .before .before .before .before .args in (
+    let u = c .undone-byte in
+    let a = at-start l .args in (
       omega arith,
       simp length-set (l .loop .inv .1),
       u .ensures .2,

@@ -18,6 +18,13 @@ Inv-loop plan month-start start part₀ counts₀ t₀ bytes₀ t10 part counts 
 abbrev μ-loop : tie.MeasureT-loop
 μ-loop plan month-start start part₀ counts₀ t₀ bytes₀ t10 part counts t bytes = 120000001 - bytes
 
+-- The places that are cited, each from a later one.
+abbrev at-fill : tie.After-fetched Inv-loop μ-loop → tie.After-fill Inv-loop μ-loop
+at-fill c = c .before .before .before
+
+abbrev at-loop : tie.After-fetched Inv-loop μ-loop → tie.At-loop Inv-loop μ-loop
+at-loop c = at-fill c .before .before .before
+
 second-of-requires : tie.Need-second-of-requires Inv-loop μ-loop
 second-of-requires c κs = search needs
 
@@ -53,8 +60,10 @@ slice-aggregate-total c = search needs
 
 total-requires : tie.Need-total-requires Inv-loop μ-loop
 total-requires c κs =
-    let l = c .before .before .before .before .before .before .before .before .before .loop in
-    record { size = l .inv .3 .size; under = λ j. omega (arith, l .inv .3 .under j, l .inv .2, c .before .before .before .before .before .before .before .before .loop-test .taken) }
+    let loop-test = c .before .before .before .before .before .before .before .before in
+    let loop = loop-test .before in
+    let l = loop .loop in
+    record { size = l .inv .3 .size; under = λ j. omega (arith, l .inv .3 .under j, l .inv .2, loop-test .loop-test .taken) }
 
 print-charge-requires : tie.Need-print-charge-requires Inv-loop μ-loop
 print-charge-requires c κs = search needs
@@ -64,13 +73,14 @@ returns-2 c = search needs
 
 add-bytes : tie.Need-add-bytes Inv-loop μ-loop
 add-bytes c =
-    let f = c .before .before .before .before .before .fill in
-    let n = c .before .before .fetched .given .0 .0 in
-    let e = ap brought (c .before .before .fetched .given .1) in
-    let l = c .before .before .before .before .before .before .before .before .loop in
+    let fetched = c .before .before in
+    let f = at-fill fetched .fill in
+    let n = fetched .fetched .given .0 .0 in
+    let e = ap brought (fetched .fetched .given .1) in
+    let l = at-loop fetched .loop in
     let h : n ≤ length (f .last .0) = omega (arith, e, f .ensures) in
     let k : length (f .last .0) ≡ 61440 = omega (arith, f .kept .0, l .inv .0) in
-    omega (arith, h, k, c .before .before .before .before .before .before .before .loop-test .taken)
+    omega (arith, h, k, at-fill fetched .before .before .loop-test .taken)
 
 print-refusal-requires : tie.Need-print-refusal-requires Inv-loop μ-loop
 print-refusal-requires c κs = search needs
@@ -80,20 +90,22 @@ returns-3 c = search needs
 
 array-share-prefix-part : tie.Need-array-share-prefix-part Inv-loop μ-loop
 array-share-prefix-part c =
-    let f = c .before .before .before .before .before .before .fill in
-    let n = c .before .before .before .fetched .given .0 .0 in
-    let e = ap brought (c .before .before .before .fetched .given .1) in
-    let l = c .before .before .before .before .before .before .before .before .before .loop in
+    let fetched = c .before .before .before in
+    let f = at-fill fetched .fill in
+    let n = fetched .fetched .given .0 .0 in
+    let e = ap brought (fetched .fetched .given .1) in
+    let l = at-loop fetched .loop in
     let h : n ≤ length (f .last .0) = omega (arith, e, f .ensures) in
     let k : length (f .last .0) ≡ 61440 = omega (arith, f .kept .0, l .inv .0) in
     omega (arith, h, k)
 
 slice-aggregate-read-records : tie.Need-slice-aggregate-read-records Inv-loop μ-loop
 slice-aggregate-read-records c =
-    let f = c .before .before .before .before .before .before .before .fill in
-    let n = c .before .before .before .before .fetched .given .0 .0 in
-    let e = ap brought (c .before .before .before .before .fetched .given .1) in
-    let l = c .before .before .before .before .before .before .before .before .before .before .loop in
+    let fetched = c .before .before .before .before in
+    let f = at-fill fetched .fill in
+    let n = fetched .fetched .given .0 .0 in
+    let e = ap brought (fetched .fetched .given .1) in
+    let l = at-loop fetched .loop in
     let h : n ≤ length (f .last .0) = omega (arith, e, f .ensures) in
     let k : length (f .last .0) ≡ 61440 = omega (arith, f .kept .0, l .inv .0) in
     sym (length-take-le n (f .last .0) h)
@@ -103,30 +115,33 @@ slice-aggregate-read-records-2 c = search needs
 
 read-records-requires : tie.Need-read-records-requires Inv-loop μ-loop
 read-records-requires c κs =
-    let f = c .before .before .before .before .before .before .before .before .fill in
-    let n = c .before .before .before .before .before .fetched .given .0 .0 in
-    let e = ap brought (c .before .before .before .before .before .fetched .given .1) in
-    let l = c .before .before .before .before .before .before .before .before .before .before .before .loop in
+    let fetched = c .before .before .before .before .before in
+    let f = at-fill fetched .fill in
+    let n = fetched .fetched .given .0 .0 in
+    let e = ap brought (fetched .fetched .given .1) in
+    let l = at-loop fetched .loop in
     let h : n ≤ length (f .last .0) = omega (arith, e, f .ensures) in
     let k : length (f .last .0) ≡ 61440 = omega (arith, f .kept .0, l .inv .0) in
     (omega (arith, length-take-le n (f .last .0) h, l .inv .2, c .before .before .if2 .left), l .inv .1, l .inv .3)
 
 loop-less : tie.Need-loop-less Inv-loop μ-loop
 loop-less c =
-    let f = c .before .before .before .before .before .before .before .before .before .before .fill in
-    let n = c .before .before .before .before .before .before .before .fetched .given .0 .0 in
-    let e = ap brought (c .before .before .before .before .before .before .before .fetched .given .1) in
-    let l = c .before .before .before .before .before .before .before .before .before .before .before .before .before .loop in
+    let fetched = c .before .before .before .before .before .before .before in
+    let f = at-fill fetched .fill in
+    let n = fetched .fetched .given .0 .0 in
+    let e = ap brought (fetched .fetched .given .1) in
+    let l = at-loop fetched .loop in
     let h : n ≤ length (f .last .0) = omega (arith, e, f .ensures) in
     let k : length (f .last .0) ≡ 61440 = omega (arith, f .kept .0, l .inv .0) in
-    omega (arith, c .before .before .before .before .before .if1 .left, c .before .before .before .before .before .before .before .before .before .before .before .before .loop-test .taken)
+    omega (arith, c .before .before .before .before .before .if1 .left, at-fill fetched .before .before .loop-test .taken)
 
 loop-again : tie.Need-loop-again Inv-loop μ-loop
 loop-again c =
-    let f = c .before .before .before .before .before .before .before .before .before .before .fill in
-    let n = c .before .before .before .before .before .before .before .fetched .given .0 .0 in
-    let e = ap brought (c .before .before .before .before .before .before .before .fetched .given .1) in
-    let l = c .before .before .before .before .before .before .before .before .before .before .before .before .before .loop in
+    let fetched = c .before .before .before .before .before .before .before in
+    let f = at-fill fetched .fill in
+    let n = fetched .fetched .given .0 .0 in
+    let e = ap brought (fetched .fetched .given .1) in
+    let l = at-loop fetched .loop in
     let h : n ≤ length (f .last .0) = omega (arith, e, f .ensures) in
     let k : length (f .last .0) ≡ 61440 = omega (arith, f .kept .0, l .inv .0) in
     let w = c .before .read-records in

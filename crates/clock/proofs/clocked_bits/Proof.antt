@@ -18,6 +18,10 @@ use borrow.Author.Needs.{needs}
 use Rattle.clock.proofs.clocked_bits.Statement.{statement}
 use Rattle.clock.proofs.clocked_bits.Tie as tie
 
+-- The places that are cited, each from a later one.
+abbrev at-start : tie.Else1 → tie.Start
+at-start c = c .before .before .before .before
+
 returns : tie.Need-returns
 returns c =
     let a = c .before .before .before .before .args in
@@ -43,14 +47,16 @@ greatest-requires c κs = search needs
 
 sub-count : tie.Need-sub-count
 sub-count c =
-    let s = c .before .before .before .before .before .before .before .before .before in
-    let o = s .pre .4 .order (omega (arith, c .before .before .before .before .before .if1 .left)) in
+    let else1 = c .before .before .before .before .before in
+    let s = at-start else1 in
+    let o = s .pre .4 .order (omega (arith, else1 .if1 .left)) in
     omega (arith, o, c .greatest .ensures)
 
 add-count : tie.Need-add-count
 add-count c =
-    let s = c .before .before .before .before .before .before .before .before .before in
-    let o = s .pre .4 .low (omega (arith, c .before .before .before .before .before .if1 .left)) in
+    let else1 = c .before .before .before .before .before in
+    let s = at-start else1 in
+    let o = s .pre .4 .low (omega (arith, else1 .if1 .left)) in
     omega (arith, o, c .greatest .ensures, c .before .place-of .ensures .1)
 
 least-requires : tie.Need-least-requires
@@ -58,8 +64,9 @@ least-requires c κs = search needs
 
 write-bits-requires : tie.Need-write-bits-requires
 write-bits-requires c κs =
-    let s = c .before .before .before .before .before .before .before .before .before .before .before in
-    let h = c .before .before .before .before .before .before .before .if1 .left in
+    let else1 = c .before .before .before .before .before .before .before in
+    let s = at-start else1 in
+    let h = else1 .if1 .left in
     let o = s .pre .4 .order (omega (arith, h)) in
     let l = s .pre .4 .low (omega (arith, h)) in
     (omega (arith, s .pre .2, s .pre .5), omega (arith, c .before .least .ensures), omega (arith, c .before .least .ensures), omega (arith, c .before .least .ensures, s .pre .3), omega (arith, o, l))
@@ -75,19 +82,28 @@ same-length c = search needs
 
 median-depth-requires : tie.Need-median-depth-requires
 median-depth-requires c κs =
-    let s = c .before .before .before .before .before .before .before .before .before .before .before .before .before .before .before .before in
-    (omega (arith, c .before .before .before .before .before .before .before .before .before .before .before .before .if1 .left), s .pre .2, s .pre .5, s .pre .6)
+    let else1 = c .before .before .before .before .before .before .before .before .before .before .before .before in
+    let s = at-start else1 in
+    (omega (arith, else1 .if1 .left), s .pre .2, s .pre .5, s .pre .6)
 
 returns-3 : tie.Need-returns-3
 returns-3 c =
-    let s = c .before .before .before .before .before .before .before .before .before .before .before .before .before .before .before .before .before in
+    let write-bits = c .before .before .before .before .before in
+    let least = write-bits .before .before in
+    let greatest = least .before in
+    let place-of = greatest .before in
+    let else2 = place-of .before in
+    let is-lost = else2 .before in
+    let end-index = is-lost .before in
+    let else1 = end-index .before in
+    let s = at-start else1 in
     let a = s .args in
-    let k = c .before .before .before .before .before .before .before .before .before .before .before .before .end-index in
+    let k = end-index .end-index in
     let p : toZ w32 (ofZ w32 (c .before .ppm-of .result)) ≡ ppmOf (a .c .period) (nominalOf (a .rate)) =
     ap (λ (z : ℤ). toZ w32 (ofZ w32 z)) (c .before .ppm-of .ensures ∙ ap (ppmOf (a .c .period)) (c .before .before .nominal-of .ensures)) ∙ toZ-ofZ w32 _ (ppm-fits (a .c .period) (nominalOf (a .rate))) in
-    clock-bits (a .rate) (a .seg .now) (a .level) (places (a .points .now) (a .c .count)) (take (a .c .count) (drop depthsAt (a .points .now))) (a .c) (k .result) (c .before .before .before .before .before .before .before .before .greatest .result) _ (c .before .before .before .before .before .before .before .least .result) _ (c .median-depth .result) (a .bits .now) _
-    (c .before .before .before .before .before .before .before .before .before .before .before .before .before .if1 .left) (k .ensures) (sym (c .before .before .before .before .before .before .before .before .before .before .before .is-lost .ensures) ∙ c .before .before .before .before .before .before .before .before .before .before .if2 .left) (c .before .before .before .before .before .before .before .before .greatest .ensures ∙ ap (max (a .c .last)) (c .before .before .before .before .before .before .before .before .before .place-of .ensures .0)) refl (c .before .before .before .before .before .before .before .least .ensures)
-    p (c .median-depth .ensures) (s .pre .4) (c .before .before .before .before .before .write-bits .ensures)
+    clock-bits (a .rate) (a .seg .now) (a .level) (places (a .points .now) (a .c .count)) (take (a .c .count) (drop depthsAt (a .points .now))) (a .c) (k .result) (greatest .greatest .result) _ (least .least .result) _ (c .median-depth .result) (a .bits .now) _
+    (else1 .if1 .left) (k .ensures) (sym (is-lost .is-lost .ensures) ∙ else2 .if2 .left) (greatest .greatest .ensures ∙ ap (max (a .c .last)) (place-of .place-of .ensures .0)) refl (least .least .ensures)
+    p (c .median-depth .ensures) (s .pre .4) (write-bits .write-bits .ensures)
 
 pub clocked-bits-spec : {M : Type 1} → statement M
 clocked-bits-spec =

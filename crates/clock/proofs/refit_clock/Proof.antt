@@ -21,9 +21,14 @@ count-as-f64-requires c κs = search needs
 returns-2 : tie.Need-returns-2
 unfolding refitted slope
 returns-2 c =
-    let s = c .before .before .before .before .before .before .before .before .before .args .c in
-    let t : lt (num 0) (det s) ≡ _ = sym (ap (λ (x : Float). lt x (det s)) zero-is) ∙ sym (ap (lt _) (c .before .before .before .before .before .before .det-of .ensures)) ∙ c .before .before .before .before .before .if2 .taken in
-    rw (c .before .before .before .before .count-as-f64 .ensures, c .before .before .before .before .before .before .det-of .ensures) (refit-done s (c .before .before .before .before .before .before .before .if1 .left) t)
+    let count-as-f64 = c .before .before .before .before in
+    let then2 = count-as-f64 .before in
+    let det-of = then2 .before in
+    let else1 = det-of .before in
+    let start = else1 .before .before in
+    let s = start .args .c in
+    let t : lt (num 0) (det s) ≡ _ = sym (ap (λ (x : Float). lt x (det s)) zero-is) ∙ sym (ap (lt _) (det-of .det-of .ensures)) ∙ then2 .if2 .taken in
+    rw (count-as-f64 .count-as-f64 .ensures, det-of .det-of .ensures) (refit-done s (else1 .if1 .left) t)
 
 returns-3 : tie.Need-returns-3
 returns-3 c =

@@ -20,6 +20,13 @@ Inv-loop dbm rate t0 floor events₀ scratch₀ options at₀ n₀ events scratc
 abbrev μ-loop : tie.MeasureT-loop
 μ-loop dbm rate t0 floor events₀ scratch₀ options at₀ n₀ events scratch at n = length dbm - at
 
+-- The places that are cited, each from a later one.
+abbrev at-search-bursts : tie.After-b Inv-loop μ-loop → tie.After-search-bursts Inv-loop μ-loop
+at-search-bursts c = c .before .before
+
+abbrev at-loop : tie.After-b Inv-loop μ-loop → tie.At-loop Inv-loop μ-loop
+at-loop c = at-search-bursts c .before .before
+
 new-requires : tie.Need-new-requires Inv-loop μ-loop
 new-requires c κs = search needs
 
@@ -88,28 +95,31 @@ capture-burst-requires c κs =
 
 loop-less : tie.Need-loop-less Inv-loop μ-loop
 loop-less c =
-    let l = c .before .before .before .before .before .before .before .before .before .before .before .before in
+    let b' = c .before .before .before .before .before .before .before .before in
+    let l = at-loop b' in
     let s = l .before .before .before .before .before in
     let a = s .args in
-    let b = c .before .before .before .before .before .before .before .before .b .given .0 .0 in
+    let b = b' .b .given .0 .0 in
     let f : Next (a .dbm .now) (a .rate) defaultOptions (a .floor) (l .loop .at) b =
     found-next (a .dbm .now) (a .rate) defaultOptions (a .floor) (l .loop .at) b (l .loop .inv .1 .inside)
-    (sym (ap said (c .before .before .before .before .before .before .before .before .b .given .1)) ∙ c .before .before .before .before .before .before .before .before .before .before .search-bursts .ensures ∙ ap (λ (o : BurstOptions). accepted (firstFrom 0 (burstsFrom (a .dbm .now) (a .rate) o (a .floor) (l .loop .at)))) (l .before .new .ensures)) in
+    (sym (ap said (b' .b .given .1)) ∙ at-search-bursts b' .search-bursts .ensures ∙ ap (λ (o : BurstOptions). accepted (firstFrom 0 (burstsFrom (a .dbm .now) (a .rate) o (a .floor) (l .loop .at)))) (l .before .new .ensures)) in
     let z : length (a .dbm .now) - b .end < length (a .dbm .now) - l .loop .at = omega (arith, f .after, f .order, f .inside) in
     z
 
 loop-again : tie.Need-loop-again Inv-loop μ-loop
 loop-again c =
-    let l = c .before .before .before .before .before .before .before .before .before .before .before .before in
+    let capture-burst = c .before .before .before .before in
+    let b' = capture-burst .before .before .before .before in
+    let l = at-loop b' in
     let s = l .before .before .before .before .before in
     let a = s .args in
-    let b = c .before .before .before .before .before .before .before .before .b .given .0 .0 in
+    let b = b' .b .given .0 .0 in
     let f : Next (a .dbm .now) (a .rate) defaultOptions (a .floor) (l .loop .at) b =
     found-next (a .dbm .now) (a .rate) defaultOptions (a .floor) (l .loop .at) b (l .loop .inv .1 .inside)
-    (sym (ap said (c .before .before .before .before .before .before .before .before .b .given .1)) ∙ c .before .before .before .before .before .before .before .before .before .before .search-bursts .ensures ∙ ap (λ (o : BurstOptions). accepted (firstFrom 0 (burstsFrom (a .dbm .now) (a .rate) o (a .floor) (l .loop .at)))) (l .before .new .ensures)) in
+    (sym (ap said (b' .b .given .1)) ∙ at-search-bursts b' .search-bursts .ensures ∙ ap (λ (o : BurstOptions). accepted (firstFrom 0 (burstsFrom (a .dbm .now) (a .rate) o (a .floor) (l .loop .at)))) (l .before .new .ensures)) in
     let r = capture-room (a .dbm .now) (a .rate) (a .t0) (a .floor) (a .events .now) (l .loop .at) (l .loop .n) (l .loop .events) (l .loop .inv .1) b f in
     let place : recordSize * (l .loop .n + 1) ≤ length (l .loop .events) = omega (arith, r, s .pre .5, l .loop .inv .1 .size) in
-    (c .before .before .before .before .capture-burst .kept .1 .1 .1 .1 .1 .1 .0 ∙ l .loop .inv .0, capture-more (a .dbm .now) (a .rate) (a .t0) (a .floor) (a .events .now) (l .loop .at) (l .loop .n) (l .loop .events) (l .loop .inv .1) b f (c .before .before .before .before .capture-burst .result) _ (c .before .before .before .before .capture-burst .ensures .0) (c .before .before .before .before .capture-burst .ensures .1) place)
+    (capture-burst .capture-burst .kept .1 .1 .1 .1 .1 .1 .0 ∙ l .loop .inv .0, capture-more (a .dbm .now) (a .rate) (a .t0) (a .floor) (a .events .now) (l .loop .at) (l .loop .n) (l .loop .events) (l .loop .inv .1) b f (capture-burst .capture-burst .result) _ (capture-burst .capture-burst .ensures .0) (capture-burst .capture-burst .ensures .1) place)
 
 same-length-5 : tie.Need-same-length-5 Inv-loop μ-loop
 same-length-5 c = c .before .loop .inv .1 .size

@@ -4,6 +4,10 @@ use borrow.Author.Needs.{needs}
 use Rattle.demod.proofs.capture_burst.Statement.{statement}
 use Rattle.demod.proofs.capture_burst.Tie as tie
 
+-- The places that are cited, each from a later one.
+abbrev at-start : tie.After-decode-within → tie.Start
+at-start c = c .before .before .before .before .before
+
 decode-within-requires : tie.Need-decode-within-requires
 decode-within-requires c κs = search needs
 
@@ -30,16 +34,18 @@ same-length c = search needs
 
 returns : tie.Need-returns
 returns c =
-    let a = c .before .before .before .before .before .before .before .before .before .before .args in
-    adds-none (a .dbm .now) (a .rate) (a .t0) (a .burst) (c .before .before .before .before .before .decode-within .result) (c .before .before .before .before .before .decode-within .ensures) (a .n) (a .events .now) _ (c .enum-told .given .1)
+    let decode-within = c .before .before .before .before .before in
+    let a = at-start decode-within .args in
+    adds-none (a .dbm .now) (a .rate) (a .t0) (a .burst) (decode-within .decode-within .result) (decode-within .decode-within .ensures) (a .n) (a .events .now) _ (c .enum-told .given .1)
 
 same-length-2 : tie.Need-same-length-2
 same-length-2 c = search needs
 
 returns-2 : tie.Need-returns-2
 returns-2 c =
-    let a = c .before .before .before .before .before .before .before .before .before .before .args in
-    adds-nothing (a .dbm .now) (a .rate) (a .t0) (a .burst) (c .before .before .before .before .before .decode-within .result) (c .before .before .before .before .before .decode-within .ensures) (a .n) (a .events .now) (c .enum-told2 .given .1)
+    let decode-within = c .before .before .before .before .before in
+    let a = at-start decode-within .args in
+    adds-nothing (a .dbm .now) (a .rate) (a .t0) (a .burst) (decode-within .decode-within .result) (decode-within .decode-within .ensures) (a .n) (a .events .now) (c .enum-told2 .given .1)
 
 same-length-3 : tie.Need-same-length-3
 same-length-3 c = search needs
@@ -49,8 +55,10 @@ same-length-4 c = search needs
 
 returns-3 : tie.Need-returns-3
 returns-3 c =
-    let a = c .before .before .before .before .before .before .before .before .before .before .before .before .before .before .args in
-    adds-one (a .dbm .now) (a .rate) (a .t0) (a .burst) (c .before .before .before .before .before .before .before .before .before .decode-within .result) (c .before .before .before .before .before .before .before .before .before .decode-within .ensures) (a .n) (a .events .now) _ (c .before .before .before .before .enum-told3 .given .1) (c .before .before .put-decoded .ensures)
+    let enum-told3 = c .before .before .before .before in
+    let decode-within = enum-told3 .before .before .before .before .before in
+    let a = at-start decode-within .args in
+    adds-one (a .dbm .now) (a .rate) (a .t0) (a .burst) (decode-within .decode-within .result) (decode-within .decode-within .ensures) (a .n) (a .events .now) _ (enum-told3 .enum-told3 .given .1) (c .before .before .put-decoded .ensures)
 
 pub capture-burst-spec : {M : Type 1} → statement M
 capture-burst-spec =

@@ -9,6 +9,22 @@ use borrow.Author.Needs.{needs}
 use Rattle.demod.proofs.decode_burst.Statement.{statement}
 use Rattle.demod.proofs.decode_burst.Tie as tie
 
+-- The places that are cited, each from a later one.
+abbrev at-else3 : tie.After-all-dbm → tie.Else3
+at-else3 c = c .before
+
+abbrev at-else2 : tie.After-all-dbm → tie.Else2
+at-else2 c = at-else3 c .before
+
+abbrev at-else1 : tie.Else2 → tie.Else1
+at-else1 c = c .before
+
+abbrev at-rate-ok : tie.Else2 → tie.After-rate-ok
+at-rate-ok c = at-else1 c .before
+
+abbrev at-start : tie.Else2 → tie.Start
+at-start c = at-rate-ok c .before .before .before .before
+
 rate-ok-requires : tie.Need-rate-ok-requires
 rate-ok-requires c κs = search needs
 
@@ -39,8 +55,9 @@ no-frame-requires-3 c κs = search needs
 
 returns-3 : tie.Need-returns-3
 returns-3 c =
-    let a = c .before .before .before .before .before .before .before .before .args in
-    answer-long (a .dbm .now) (a .rate) (a .burst) (a .t0) (a .scratch32 .now) (a .scratch64 .now) (c .no-frame3 .result) (sym (c .before .before .before .before .rate-ok .ensures) ∙ not-false (c .before .before .before .before .rate-ok .result) (c .before .before .before .if1 .left)) (c .before .before .if2 .left) (c .before .if3 .taken) (c .no-frame3 .ensures)
+    let else2 = c .before .before in
+    let a = at-start else2 .args in
+    answer-long (a .dbm .now) (a .rate) (a .burst) (a .t0) (a .scratch32 .now) (a .scratch64 .now) (c .no-frame3 .result) (sym (at-rate-ok else2 .rate-ok .ensures) ∙ not-false (at-rate-ok else2 .rate-ok .result) (at-else1 else2 .if1 .left)) (else2 .if2 .left) (c .before .if3 .taken) (c .no-frame3 .ensures)
 
 all-dbm-requires : tie.Need-all-dbm-requires
 all-dbm-requires c κs = search needs
@@ -50,9 +67,11 @@ no-frame-requires-4 c κs = search needs
 
 returns-4 : tie.Need-returns-4
 returns-4 c =
-    let a = c .before .before .before .before .before .before .before .before .before .before .args in
-    let v = c .before .before .all-dbm in
-    answer-invalid (a .dbm .now) (a .rate) (a .burst) (a .t0) (a .scratch32 .now) (a .scratch64 .now) (c .no-frame4 .result) (sym (c .before .before .before .before .before .before .rate-ok .ensures) ∙ not-false (c .before .before .before .before .before .before .rate-ok .result) (c .before .before .before .before .before .if1 .left)) (c .before .before .before .before .if2 .left) (c .before .before .before .if3 .left) (sym (v .ensures) ∙ not-true (v .result) (c .before .if4 .taken)) (c .no-frame4 .ensures)
+    let all-dbm = c .before .before in
+    let else2 = at-else2 all-dbm in
+    let a = at-start else2 .args in
+    let v = all-dbm .all-dbm in
+    answer-invalid (a .dbm .now) (a .rate) (a .burst) (a .t0) (a .scratch32 .now) (a .scratch64 .now) (c .no-frame4 .result) (sym (at-rate-ok else2 .rate-ok .ensures) ∙ not-false (at-rate-ok else2 .rate-ok .result) (at-else1 else2 .if1 .left)) (else2 .if2 .left) (at-else3 all-dbm .if3 .left) (sym (v .ensures) ∙ not-true (v .result) (c .before .if4 .taken)) (c .no-frame4 .ensures)
 
 burst-ok-requires : tie.Need-burst-ok-requires
 burst-ok-requires c κs = search needs
@@ -62,29 +81,35 @@ no-frame-requires-5 c κs = search needs
 
 returns-5 : tie.Need-returns-5
 returns-5 c =
-    let a = c .before .before .before .before .before .before .before .before .before .before .before .before .args in
-    let v = c .before .before .before .before .all-dbm in
+    let all-dbm = c .before .before .before .before in
+    let else2 = at-else2 all-dbm in
+    let a = at-start else2 .args in
+    let v = all-dbm .all-dbm in
     let o = c .before .before .burst-ok in
-    answer-bad (a .dbm .now) (a .rate) (a .burst) (a .t0) (a .scratch32 .now) (a .scratch64 .now) (c .no-frame5 .result) (sym (c .before .before .before .before .before .before .before .before .rate-ok .ensures) ∙ not-false (c .before .before .before .before .before .before .before .before .rate-ok .result) (c .before .before .before .before .before .before .before .if1 .left)) (c .before .before .before .before .before .before .if2 .left) (c .before .before .before .before .before .if3 .left) (sym (v .ensures) ∙ not-false (v .result) (c .before .before .before .if4 .left)) (sym (o .ensures) ∙ not-true (o .result) (c .before .if5 .taken)) (c .no-frame5 .ensures)
+    answer-bad (a .dbm .now) (a .rate) (a .burst) (a .t0) (a .scratch32 .now) (a .scratch64 .now) (c .no-frame5 .result) (sym (at-rate-ok else2 .rate-ok .ensures) ∙ not-false (at-rate-ok else2 .rate-ok .result) (at-else1 else2 .if1 .left)) (else2 .if2 .left) (at-else3 all-dbm .if3 .left) (sym (v .ensures) ∙ not-false (v .result) (c .before .before .before .if4 .left)) (sym (o .ensures) ∙ not-true (o .result) (c .before .if5 .taken)) (c .no-frame5 .ensures)
 
 decode-within-requires : tie.Need-decode-within-requires
 decode-within-requires c κs =
-    let a = c .before .before .before .before .before .before .before .before .before .before .before .before .args in
-    let v = c .before .before .before .before .all-dbm in
+    let all-dbm = c .before .before .before .before in
+    let else2 = at-else2 all-dbm in
+    let a = at-start else2 .args in
+    let v = all-dbm .all-dbm in
     let o = c .before .before .burst-ok in
-    let t = (sym (c .before .before .before .before .before .before .before .before .rate-ok .ensures) ∙ not-false (c .before .before .before .before .before .before .before .before .rate-ok .result) (c .before .before .before .before .before .before .before .if1 .left)) in
+    let t = (sym (at-rate-ok else2 .rate-ok .ensures) ∙ not-false (at-rate-ok else2 .rate-ok .result) (at-else1 else2 .if1 .left)) in
     let b = bound (a .dbm .now) (a .rate) (a .burst) (a .t0) (a .scratch32 .now) (a .scratch64 .now) (sym (o .ensures) ∙ not-false (o .result) (c .before .if5 .left)) in
-    (rate-low (a .rate) t, rate-high (a .rate) t, c .before .before .before .before .before .if3 .left, sym (v .ensures) ∙ not-false (v .result) (c .before .before .before .if4 .left), b .0, b .1, answer-room (a .dbm .now) (a .rate) (a .burst) (a .t0) (a .scratch32 .now) (a .scratch64 .now) (without Nothing) t (c .before .before .before .before .before .before .if2 .left))
+    (rate-low (a .rate) t, rate-high (a .rate) t, at-else3 all-dbm .if3 .left, sym (v .ensures) ∙ not-false (v .result) (c .before .before .before .if4 .left), b .0, b .1, answer-room (a .dbm .now) (a .rate) (a .burst) (a .t0) (a .scratch32 .now) (a .scratch64 .now) (without Nothing) t (else2 .if2 .left))
 
 same-length : tie.Need-same-length
 same-length c = search needs
 
 returns-6 : tie.Need-returns-6
 returns-6 c =
-    let a = c .before .before .before .before .before .before .before .before .before .before .before .before .before .before .before .args in
-    let v = c .before .before .before .before .before .before .before .all-dbm in
+    let all-dbm = c .before .before .before .before .before .before .before in
+    let else2 = at-else2 all-dbm in
+    let a = at-start else2 .args in
+    let v = all-dbm .all-dbm in
     let o = c .before .before .before .before .before .burst-ok in
-    answer-done (a .dbm .now) (a .rate) (a .burst) (a .t0) (a .scratch32 .now) (a .scratch64 .now) (c .before .before .decode-within .result) (sym (c .before .before .before .before .before .before .before .before .before .before .before .rate-ok .ensures) ∙ not-false (c .before .before .before .before .before .before .before .before .before .before .before .rate-ok .result) (c .before .before .before .before .before .before .before .before .before .before .if1 .left)) (c .before .before .before .before .before .before .before .before .before .if2 .left) (c .before .before .before .before .before .before .before .before .if3 .left) (sym (v .ensures) ∙ not-false (v .result) (c .before .before .before .before .before .before .if4 .left)) _ _ (sym (o .ensures) ∙ not-false (o .result) (c .before .before .before .before .if5 .left)) (c .before .before .decode-within .ensures)
+    answer-done (a .dbm .now) (a .rate) (a .burst) (a .t0) (a .scratch32 .now) (a .scratch64 .now) (c .before .before .decode-within .result) (sym (at-rate-ok else2 .rate-ok .ensures) ∙ not-false (at-rate-ok else2 .rate-ok .result) (at-else1 else2 .if1 .left)) (else2 .if2 .left) (at-else3 all-dbm .if3 .left) (sym (v .ensures) ∙ not-false (v .result) (c .before .before .before .before .before .before .if4 .left)) _ _ (sym (o .ensures) ∙ not-false (o .result) (c .before .before .before .before .if5 .left)) (c .before .before .decode-within .ensures)
 
 pub decode-burst-spec : {M : Type 1} → statement M
 decode-burst-spec =

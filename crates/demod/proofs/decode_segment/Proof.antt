@@ -6,6 +6,16 @@ use borrow.Author.Needs.{needs}
 use Rattle.demod.proofs.decode_segment.Statement.{statement}
 use Rattle.demod.proofs.decode_segment.Tie as tie
 
+-- The places that are cited, each from a later one.
+abbrev at-count : tie.After-least → tie.After-count
+at-count c = c .before .before
+
+abbrev at-bits-of : tie.After-least → tie.After-bits-of
+at-bits-of c = at-count c .before .before .before .before .before
+
+abbrev at-start : tie.After-bits-of → tie.Start
+at-start c = c .before .before .before .before .before
+
 slice-aggregate-bits-of : tie.Need-slice-aggregate-bits-of
 slice-aggregate-bits-of c = search needs
 
@@ -35,13 +45,17 @@ array-share-prefix-bits c = search needs
 
 slice-aggregate-decode-bits : tie.Need-slice-aggregate-decode-bits
 slice-aggregate-decode-bits c =
-    let a = c .before .before .before .before .before .before .before .before .before .before .before .before .before .args in
-    sent-length (a .seg .now) (a .rate) _ _ _ _ _ _ (sym (ap said (c .before .before .before .count .given .1)) ∙ c .before .before .before .before .before .before .before .before .bits-of .ensures .0) _ (c .before .before .before .before .before .before .before .before .bits-of .last .1 .1 .0) (c .before .before .before .before .before .before .before .before .bits-of .ensures .1) (c .before .least .result) (c .before .least .ensures)
+    let least = c .before in
+    let bits-of = at-bits-of least in
+    let a = at-start bits-of .args in
+    sent-length (a .seg .now) (a .rate) _ _ _ _ _ _ (sym (ap said (at-count least .count .given .1)) ∙ bits-of .bits-of .ensures .0) _ (bits-of .bits-of .last .1 .1 .0) (bits-of .bits-of .ensures .1) (least .least .result) (least .least .ensures)
 
 decode-bits-requires : tie.Need-decode-bits-requires
 decode-bits-requires c κs =
-    let a = c .before .before .before .before .before .before .before .before .before .before .before .before .before .args in
-    (sent-bits (a .seg .now) (a .rate) _ _ _ _ _ _ (sym (ap said (c .before .before .before .count .given .1)) ∙ c .before .before .before .before .before .before .before .before .bits-of .ensures .0) _ (c .before .before .before .before .before .before .before .before .bits-of .last .1 .1 .0) (c .before .before .before .before .before .before .before .before .bits-of .ensures .1) (c .before .least .result) (c .before .least .ensures), sent-short (a .seg .now) (a .rate) _ _ _ _ _ _ (sym (ap said (c .before .before .before .count .given .1)) ∙ c .before .before .before .before .before .before .before .before .bits-of .ensures .0) _ (c .before .before .before .before .before .before .before .before .bits-of .last .1 .1 .0) (c .before .before .before .before .before .before .before .before .bits-of .ensures .1) (c .before .least .result) (c .before .least .ensures))
+    let least = c .before in
+    let bits-of = at-bits-of least in
+    let a = at-start bits-of .args in
+    (sent-bits (a .seg .now) (a .rate) _ _ _ _ _ _ (sym (ap said (at-count least .count .given .1)) ∙ bits-of .bits-of .ensures .0) _ (bits-of .bits-of .last .1 .1 .0) (bits-of .bits-of .ensures .1) (least .least .result) (least .least .ensures), sent-short (a .seg .now) (a .rate) _ _ _ _ _ _ (sym (ap said (at-count least .count .given .1)) ∙ bits-of .bits-of .ensures .0) _ (bits-of .bits-of .last .1 .1 .0) (bits-of .bits-of .ensures .1) (least .least .result) (least .least .ensures))
 
 depth-byte-requires : tie.Need-depth-byte-requires
 depth-byte-requires c κs = search needs
@@ -54,16 +68,18 @@ same-length c = search needs
 
 returns : tie.Need-returns
 returns c =
-    let a = c .before .before .before .before .before .before .before .before .before .before .before .args in
-    c .no-frame .ensures ∙ never-refused _ _ (a .time) (a .end) (a .rssi) (sym (ap said (c .before .enum-told .given .1)) ∙ c .before .before .before .before .before .before .bits-of .ensures .0)
+    let bits-of = c .before .before .before .before .before .before in
+    let a = at-start bits-of .args in
+    c .no-frame .ensures ∙ never-refused _ _ (a .time) (a .end) (a .rssi) (sym (ap said (c .before .enum-told .given .1)) ∙ bits-of .bits-of .ensures .0)
 
 same-length-2 : tie.Need-same-length-2
 same-length-2 c = search needs
 
 returns-2 : tie.Need-returns-2
 returns-2 c =
-    let a = c .before .before .before .before .before .before .before .before .before .before .before .args in
-    c .no-frame2 .ensures ∙ told-nothing _ (a .time) (a .end) (a .rssi) (sym (ap said (c .before .enum-told2 .given .1)) ∙ c .before .before .before .before .before .before .bits-of .ensures .0)
+    let bits-of = c .before .before .before .before .before .before in
+    let a = at-start bits-of .args in
+    c .no-frame2 .ensures ∙ told-nothing _ (a .time) (a .end) (a .rssi) (sym (ap said (c .before .enum-told2 .given .1)) ∙ bits-of .bits-of .ensures .0)
 
 same-length-3 : tie.Need-same-length-3
 same-length-3 c = search needs

@@ -8,6 +8,22 @@ use borrow.Author.Needs.{needs}
 use Rattle.demod.proofs.decode_within.Statement.{statement}
 use Rattle.demod.proofs.decode_within.Tie as tie
 
+-- The places that are cited, each from a later one.
+abbrev at-least2 : tie.After-greatest → tie.After-least2
+at-least2 c = c .before
+
+abbrev at-least : tie.After-greatest → tie.After-least
+at-least c = at-least2 c .before .before
+
+abbrev at-back : tie.After-greatest → tie.After-back
+at-back c = at-least c .before
+
+abbrev at-margin : tie.After-greatest → tie.After-margin
+at-margin c = at-back c .before
+
+abbrev at-start : tie.After-greatest → tie.Start
+at-start c = at-margin c .before .before .before
+
 margin-requires : tie.Need-margin-requires
 margin-requires c κs = search needs
 
@@ -46,10 +62,11 @@ part-decode-segment-end c = search needs
 
 decode-segment-requires : tie.Need-decode-segment-requires
 decode-segment-requires c κs =
-    let s = c .before .before .before .before .before .before .before .before .before .before .before .before in
+    let greatest = c .before .before .before .before in
+    let s = at-start greatest in
     let l = s .args .dbm .now in
-    let from = c .before .before .before .before .before .before .before .least .result in
-    let n = c .before .before .before .before .greatest .result - from in
+    let from = at-least greatest .least .result in
+    let n = greatest .greatest .result - from in
     (s .pre .0, s .pre .1, omega (arith, length-take n (drop from l), length-drop from l, s .pre .2), all-take n (drop from l) (all-drop from l (s .pre .3)), s .pre .6)
 
 same-length : tie.Need-same-length
@@ -57,9 +74,10 @@ same-length c = search needs
 
 returns : tie.Need-returns
 returns c =
-    let a = c .before .before .before .before .before .before .before .before .before .before .before .before .before .before .before .args in
-    decode-is (a .dbm .now) (a .rate) (a .burst) (a .t0) (c .before .before .before .before .before .before .before .before .before .before .before .before .margin .result) (c .before .before .before .before .before .before .before .before .before .before .before .back .result) (c .before .before .before .before .before .before .before .before .before .before .least .result) (c .before .before .before .before .before .before .before .before .least2 .result) (c .before .before .before .before .before .before .before .greatest .result) (c .before .before .before .before .before .before .time-at .result) (c .before .before .before .before .before .time-at2 .result) (c .before .before .decode-segment .result)
-    (c .before .before .before .before .before .before .before .before .before .before .before .before .margin .ensures .0) (c .before .before .before .before .before .before .before .before .before .before .before .back .ensures) (c .before .before .before .before .before .before .before .before .before .before .least .ensures) (c .before .before .before .before .before .before .before .before .least2 .ensures) (c .before .before .before .before .before .before .before .greatest .ensures) (c .before .before .before .before .before .before .time-at .ensures) (c .before .before .before .before .before .time-at2 .ensures) (c .before .before .decode-segment .ensures)
+    let greatest = c .before .before .before .before .before .before .before in
+    let a = at-start greatest .args in
+    decode-is (a .dbm .now) (a .rate) (a .burst) (a .t0) (at-margin greatest .margin .result) (at-back greatest .back .result) (at-least greatest .least .result) (at-least2 greatest .least2 .result) (greatest .greatest .result) (c .before .before .before .before .before .before .time-at .result) (c .before .before .before .before .before .time-at2 .result) (c .before .before .decode-segment .result)
+    (at-margin greatest .margin .ensures .0) (at-back greatest .back .ensures) (at-least greatest .least .ensures) (at-least2 greatest .least2 .ensures) (greatest .greatest .ensures) (c .before .before .before .before .before .before .time-at .ensures) (c .before .before .before .before .before .time-at2 .ensures) (c .before .before .decode-segment .ensures)
 
 pub decode-within-spec : {M : Type 1} → statement M
 decode-within-spec =

@@ -47,12 +47,14 @@ loop-less c = search needs
 
 loop-again : tie.Need-loop-again Inv-loop μ-loop
 loop-again c =
-    let s = c .before .before .before .before .before .before .before .before in
+    let row-at = c .before .before .before .before in
+    let loop = row-at .before .before in
+    let s = loop .before .before in
     let a = s .args in
-    let l = c .before .before .before .before .before .before .loop in
+    let l = loop .loop in
     let n = c .before .put-nine in
     let e = ap length (n .ensures) ∙ length-sets (l .rows) (9 * l .p) (nine _ _) in
-    (omega arith, e ∙ l .inv .1, sheet-turn (l .p) (a .ids .now) (a .sums .now) (a .rows .now) (l .rows) (n .last .0) _ _ refl (c .before .before .before .before .row-at .ensures) (l .inv .2) (n .ensures))
+    (omega arith, e ∙ l .inv .1, sheet-turn (l .p) (a .ids .now) (a .sums .now) (a .rows .now) (l .rows) (n .last .0) _ _ refl (row-at .row-at .ensures) (l .inv .2) (n .ensures))
 
 same-length : tie.Need-same-length Inv-loop μ-loop
 same-length c = search needs

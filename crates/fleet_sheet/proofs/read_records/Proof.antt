@@ -25,6 +25,16 @@ Inv-loop t records ids₀ sums₀ hints₀ count whole ok₀ n₀ i₀ ids sums 
 abbrev μ-loop : tie.MeasureT-loop
 μ-loop t records ids₀ sums₀ hints₀ count whole ok₀ n₀ i₀ ids sums hints ok n i = count - i
 
+-- The places that are cited, each from a later one.
+abbrev at-record-ok : tie.Else1 Inv-loop μ-loop → tie.After-record-ok Inv-loop μ-loop
+at-record-ok c = c .before
+
+abbrev at-loop : tie.After-record-ok Inv-loop μ-loop → tie.At-loop Inv-loop μ-loop
+at-loop c = c .before .before .before
+
+abbrev at-start : tie.After-record-ok Inv-loop μ-loop → tie.Start Inv-loop μ-loop
+at-start c = at-loop c .before .before .before .before .before
+
 loop-holds : tie.Need-loop-holds Inv-loop μ-loop
 loop-holds c =
     let s = c .before .before .before .before in
@@ -65,16 +75,17 @@ loop-less c = search needs
 
 loop-again : tie.Need-loop-again Inv-loop μ-loop
 loop-again c =
-    let s = c .before .before .before .before .before .before .before .before .before in
+    let record-ok = c .before in
+    let s = at-start record-ok in
     let a = s .args in
-    let l = c .before .before .before .before .loop in
+    let l = at-loop record-ok .loop in
     let x = a .«records» .now in
     let es = eventsOf x in
-    let h : l .i < wholes x = omega (arith, c .before .before .before .loop-test) in
+    let h : l .i < wholes x = omega (arith, record-ok .before .before .loop-test) in
     let b : l .i < length es = omega (arith, length-records (wholes x) x) in (
       omega arith,
       l .inv .1,
-      ok-turn (l .ok) es (l .i) (c .before .record-ok .result) (a .t .ok && listOk x) b (c .before .record-ok .ensures ∙ ap recordOk (event-part x (l .i) h)) (l .inv .2),
+      ok-turn (l .ok) es (l .i) (record-ok .record-ok .result) (a .t .ok && listOk x) b (record-ok .record-ok .ensures ∙ ap recordOk (event-part x (l .i) h)) (l .inv .2),
       λ ms g. read-over ms es (l .i) b (l .ids) (l .sums) (l .n) (c .if1 .taken) (l .inv .3 ms g),
       l .inv .4,
       l .inv .5,
@@ -91,15 +102,17 @@ part-taken-end c = search needs
 
 taken-requires : tie.Need-taken-requires Inv-loop μ-loop
 taken-requires c κs =
-    let s = c .before .before .before .before .before .before .before .before .before .before .before .before .before in
+    let else1 = c .before .before .before .before in
+    let record-ok = at-record-ok else1 in
+    let s = at-start record-ok in
     let a = s .args in
-    let l = c .before .before .before .before .before .before .before .before .loop in
+    let l = at-loop record-ok .loop in
     let x = a .«records» .now in
     let es = eventsOf x in
-    let h : l .i < wholes x = omega (arith, c .before .before .before .before .before .before .before .loop-test) in
+    let h : l .i < wholes x = omega (arith, record-ok .before .before .loop-test) in
     let b : l .i < length es = omega (arith, length-records (wholes x) x) in
     let ms = s .pre .2 .messages in
-    let u : l .n ≤ 256 = omega (arith, c .before .before .before .before .if1 .left) in
+    let u : l .n ≤ 256 = omega (arith, else1 .if1 .left) in
     let st = l .inv .3 ms (s .pre .2 .held .gathered) .under u in
     let small = small-rows (l .ids) (l .sums) (l .n) (readTo ms es (l .i)) st [] (omega (arith, read-few ms es (l .i) (a .t .«records») (s .pre .2 .held .few) (omega arith), s .pre .0)) in
     (search needs, st .places, st .long, u, subst Rising (sym (st .named)) (rising-devices (readTo ms es (l .i))), small, l .inv .1)
@@ -112,18 +125,21 @@ loop-less-2 c = search needs
 
 loop-again-2 : tie.Need-loop-again-2 Inv-loop μ-loop
 loop-again-2 c =
-    let s = c .before .before .before .before .before .before .before .before .before .before .before .before .before .before .before .before .before .before .before in
+    let taken = c .before .before .before .before .before in
+    let else1 = taken .before .before .before .before .before in
+    let record-ok = at-record-ok else1 in
+    let s = at-start record-ok in
     let a = s .args in
-    let l = c .before .before .before .before .before .before .before .before .before .before .before .before .before .before .loop in
+    let l = at-loop record-ok .loop in
     let x = a .«records» .now in
     let es = eventsOf x in
-    let h : l .i < wholes x = omega (arith, c .before .before .before .before .before .before .before .before .before .before .before .before .before .loop-test) in
+    let h : l .i < wholes x = omega (arith, record-ok .before .before .loop-test) in
     let b : l .i < length es = omega (arith, length-records (wholes x) x) in
-    let w = c .before .before .before .before .before .taken in (
+    let w = taken .taken in (
       omega arith,
       w .ensures .3,
-      ok-turn (l .ok) es (l .i) (c .before .before .before .before .before .before .before .before .before .before .before .record-ok .result) (a .t .ok && listOk x) b (c .before .before .before .before .before .before .before .before .before .before .before .record-ok .ensures ∙ ap recordOk (event-part x (l .i) h)) (l .inv .2),
-      λ ms g. read-next ms es (l .i) b (l .ids) (l .sums) (l .n) (omega (arith, c .before .before .before .before .before .before .before .before .before .before .if1 .left)) (l .inv .3 ms g)
+      ok-turn (l .ok) es (l .i) (record-ok .record-ok .result) (a .t .ok && listOk x) b (record-ok .record-ok .ensures ∙ ap recordOk (event-part x (l .i) h)) (l .inv .2),
+      λ ms g. read-next ms es (l .i) b (l .ids) (l .sums) (l .n) (omega (arith, else1 .if1 .left)) (l .inv .3 ms g)
           (take (120 * l .i + 120 - 120 * l .i) (drop (120 * l .i) x)) (event-part x (l .i) h) (w .result) (w .last .0) (w .last .1 .0) (w .ensures .0, w .ensures .1, w .ensures .2),
       search needs,
       search needs,

@@ -7,6 +7,22 @@ use borrow.Author.Needs.{needs}
 use Rattle.frequency.proofs.cause_freq.Statement.{statement}
 use Rattle.frequency.proofs.cause_freq.Tie as tie
 
+-- The places that are cited, each from a later one.
+abbrev at-else2 : tie.After-floats-ok → tie.Else2
+at-else2 c = c .before
+
+abbrev at-tunings-in-order : tie.After-floats-ok → tie.After-tunings-in-order
+at-tunings-in-order c = at-else2 c .before
+
+abbrev at-else1 : tie.After-floats-ok → tie.Else1
+at-else1 c = at-tunings-in-order c .before
+
+abbrev at-rate-ok : tie.After-floats-ok → tie.After-rate-ok
+at-rate-ok c = at-else1 c .before
+
+abbrev at-start : tie.After-floats-ok → tie.Start
+at-start c = at-rate-ok c .before .before .before
+
 rate-ok-requires : tie.Need-rate-ok-requires
 rate-ok-requires c κs = search needs
 
@@ -26,11 +42,15 @@ floats-ok-requires c κs = search needs
 
 returns-3 : tie.Need-returns-3
 unfolding causeFreq
-returns-3 c = let a = c .before .before .before .before .before .before .before .before .args in sym (passed 1 _ (ap not (sym (c .before .before .before .before .before .rate-ok .ensures)) ∙ c .before .before .before .before .if1 .left) ∙ passed 5 _ (ap not (sym (c .before .before .before .tunings-in-order .ensures)) ∙ c .before .before .if2 .left) ∙ chosen 9 _ (ap not (sym (c .before .floats-ok .ensures)) ∙ c .if3 .taken))
+returns-3 c =
+    let floats-ok = c .before in
+    let a = at-start floats-ok .args in sym (passed 1 _ (ap not (sym (at-rate-ok floats-ok .rate-ok .ensures)) ∙ at-else1 floats-ok .if1 .left) ∙ passed 5 _ (ap not (sym (at-tunings-in-order floats-ok .tunings-in-order .ensures)) ∙ at-else2 floats-ok .if2 .left) ∙ chosen 9 _ (ap not (sym (floats-ok .floats-ok .ensures)) ∙ c .if3 .taken))
 
 returns-4 : tie.Need-returns-4
 unfolding causeFreq
-returns-4 c = let a = c .before .before .before .before .before .before .before .before .args in sym (passed 1 _ (ap not (sym (c .before .before .before .before .before .rate-ok .ensures)) ∙ c .before .before .before .before .if1 .left) ∙ passed 5 _ (ap not (sym (c .before .before .before .tunings-in-order .ensures)) ∙ c .before .before .if2 .left) ∙ passed 9 _ (ap not (sym (c .before .floats-ok .ensures)) ∙ c .if3 .left))
+returns-4 c =
+    let floats-ok = c .before in
+    let a = at-start floats-ok .args in sym (passed 1 _ (ap not (sym (at-rate-ok floats-ok .rate-ok .ensures)) ∙ at-else1 floats-ok .if1 .left) ∙ passed 5 _ (ap not (sym (at-tunings-in-order floats-ok .tunings-in-order .ensures)) ∙ at-else2 floats-ok .if2 .left) ∙ passed 9 _ (ap not (sym (floats-ok .floats-ok .ensures)) ∙ c .if3 .left))
 
 pub cause-freq-spec : {M : Type 1} → statement M
 cause-freq-spec =

@@ -9,6 +9,13 @@ use borrow.Author.Needs.{needs}
 use Rattle.frequency.proofs.readings_in_order.Statement.{statement}
 use Rattle.frequency.proofs.readings_in_order.Tie as tie
 
+-- The places that are cited, each from a later one.
+abbrev at-signal-ok : tie.Else1 → tie.After-signal-ok
+at-signal-ok c = c .before
+
+abbrev at-start : tie.Else1 → tie.Start
+at-start c = at-signal-ok c .before .before .before .before .before
+
 signal-ok-requires : tie.Need-signal-ok-requires
 signal-ok-requires c κs = search needs
 
@@ -25,14 +32,16 @@ returns-2 c = sym (holds _ (sym (c .before .before .before .signal-ok .ensures) 
 
 add-within : tie.Need-add-within
 add-within c =
-    let a = c .before .before .before .before .before .before .before .before .before .args in
-    let h = signals-of (a .t .«line_start») (a .t .signal) (sym (c .before .before .before .before .signal-ok .ensures) ∙ not-false _ (c .before .before .before .if1 .left)) .stream in
+    let else1 = c .before .before .before in
+    let a = at-start else1 .args in
+    let h = signals-of (a .t .«line_start») (a .t .signal) (sym (at-signal-ok else1 .signal-ok .ensures) ∙ not-false _ (else1 .if1 .left)) .stream in
     record { fits = omega arith }
 
 within-requires : tie.Need-within-requires
 within-requires c κs =
-    let a = c .before .before .before .before .before .before .before .before .before .args in
-    let h = signals-of (a .t .«line_start») (a .t .signal) (sym (c .before .before .before .before .signal-ok .ensures) ∙ not-false _ (c .before .before .before .if1 .left)) .stream in
+    let else1 = c .before .before .before in
+    let a = at-start else1 .args in
+    let h = signals-of (a .t .«line_start») (a .t .signal) (sym (at-signal-ok else1 .signal-ok .ensures) ∙ not-false _ (else1 .if1 .left)) .stream in
     (readings-of (a .t .readings) (a .at .now) (a .lo .now) (a .hz .now) (sym (c .before .before .fits-readings .ensures) ∙ not-false _ (c .before .if2 .left)) .ats, omega arith)
 
 returns-3 : tie.Need-returns-3

@@ -6,6 +6,10 @@ use borrow.Author.Needs.{needs}
 use Rattle.frequency.proofs.settled_step.Statement.{statement}
 use Rattle.frequency.proofs.settled_step.Tie as tie
 
+-- The places that are cited, each from a later one.
+abbrev at-start : tie.After-gather-late → tie.Start
+at-start c = c .before .before .before .before .before .before
+
 gather-late-requires : tie.Need-gather-late-requires
 gather-late-requires c κs = let s = c .before .before .before .before .before in (s .pre .steady .rates, index-up (s .args .t .signal .n) (s .args .t .signal .«frame_from») (s .pre .steady .stream) (s .pre .steady .from), s .pre .lined)
 
@@ -14,16 +18,18 @@ same-length c = search needs
 
 returns : tie.Need-returns
 returns c =
-    let s = c .before .before .before .before .before .before .before .before .before in
+    let gather-late = c .before .before .before in
+    let s = at-start gather-late in
     let a = s .args in
-    let g = c .before .before .before .gather-late in
+    let g = gather-late .gather-late in
     sym (too-few (a .t) (a .at .now) (a .hz .now) (a .out .now) (s .pre) (g .result) _ (g .ensures .0) (g .ensures .1) (c .if1 .taken))
 
 median-of-requires : tie.Need-median-of-requires
 median-of-requires c κs =
-    let s = c .before .before .before .before .before .before .before .before .before .before in
+    let gather-late = c .before .before .before .before in
+    let s = at-start gather-late in
     let a = s .args in
-    let g = c .before .before .before .before .gather-late in
+    let g = gather-late .gather-late in
     median-fits (a .t) (a .at .now) (a .hz .now) (a .out .now) (s .pre) (g .result) _ (g .ensures .0) (g .ensures .1) (omega (arith, c .before .if1 .left))
 
 round-hz-requires : tie.Need-round-hz-requires
@@ -34,9 +40,10 @@ same-length-2 c = search needs
 
 returns-2 : tie.Need-returns-2
 returns-2 c =
-    let s = c .before .before .before .before .before .before .before .before .before .before .before .before in
+    let gather-late = c .before .before .before .before .before .before in
+    let s = at-start gather-late in
     let a = s .args in
-    let g = c .before .before .before .before .before .before .gather-late in
+    let g = gather-late .gather-late in
     settled (a .t) (a .at .now) (a .hz .now) (a .out .now) (s .pre) (g .result) _ (g .ensures .0) (g .ensures .1) (omega (arith, c .before .before .before .if1 .left)) (c .before .median-of .result) (c .round-hz .result) (c .before .median-of .ensures) (c .round-hz .ensures)
 
 pub settled-step-spec : {M : Type 1} → statement M

@@ -77,26 +77,35 @@ put-reading-requires c κs =
     )
 
 add-k : tie.Need-add-k Inv-loop μ-loop
-add-k c = let s = c .before .before .before .before .before .before .before .before .before .before .before .before .before .before .before .before .before .before .before in let h = s .pre .3 in let t = c .before .before .before .before .before .before .before .before .before .before .before .before .before .loop-test .taken in record { fits = omega arith }
+add-k c =
+    let loop-test = c .before .before .before .before .before .before .before .before .before .before .before .before .before in
+    let start = loop-test .before .before .before .before .before .before in
+    let s = start in let h = s .pre .3 in let t = loop-test .loop-test .taken in record { fits = omega arith }
 
 loop-less : tie.Need-loop-less Inv-loop μ-loop
-loop-less c = let t = c .before .before .before .before .before .before .before .before .before .before .before .before .before .loop-test .taken in omega arith
+loop-less c =
+    let loop-test = c .before .before .before .before .before .before .before .before .before .before .before .before .before in
+    let t = loop-test .loop-test .taken in omega arith
 
 loop-again : tie.Need-loop-again Inv-loop μ-loop
 loop-again c =
-    let l = c .before .before .before .before .before .before .before .before .before .before .before .before .before .before in
+    let put-reading = c .before .before .before .before .before .before in
+    let is-settling = put-reading .before .before .before .before in
+    let reading-hz = is-settling .before in
+    let loop-test = reading-hz .before .before in
+    let l = loop-test .before in
     let s = l .before .before .before .before .before in
     let a = s .args in
     let i = l .loop .k in
-    let t = c .before .before .before .before .before .before .before .before .before .before .before .before .before .loop-test .taken in
-    let y = c .before .before .before .before .before .before .put-reading in
-    let st = c .before .before .before .before .before .before .before .before .before .before .is-settling .ensures in
-    let rh = c .before .before .before .before .before .before .before .before .before .before .before .reading-hz .ensures in
+    let t = loop-test .loop-test .taken in
+    let y = put-reading .put-reading in
+    let st = is-settling .is-settling .ensures in
+    let rh = reading-hz .reading-hz .ensures in
     let all = (readingsFrom (a .rate) (a .step) (a .more) (a .tuned-at) (a .f) (a .line) (a .raw .now)) in
     let yes : Bool = not (settling (a .rate) (a .tuned-at) (a .line + 8 * i) && a .more) in
     let here = subst (λ (z : List Reading). Left all z (a .count) (l .loop .w) (a .at .now) (a .lo .now) (a .hz .now) (l .loop .at) (l .loop .lo) (l .loop .hz)) (value-turn (a .rate) (a .step) (a .more) (a .tuned-at) (a .f) (a .line) (a .raw .now) i t) (l .loop .inv .2) in
     let q = subst (λ (b : Bool). PutReading b (l .loop .w) (a .line + 8 * i) (a .f) (Cfo.readingHz (a .f) (getD (a .raw .now) i 0) (a .step)) (l .loop .at) (l .loop .lo) (l .loop .hz) (y .result) (y .last .1 .1 .1 .1 .1 .0) (y .last .1 .1 .1 .1 .1 .1 .0) (y .last .1 .1 .1 .1 .1 .1 .1 .0)) (ap (λ (b : Bool). not (b && a .more)) st)
-    (subst (λ (h : Float). PutReading (not (c .before .before .before .before .before .before .before .before .before .before .is-settling .result && a .more)) (l .loop .w) (a .line + 8 * i) (a .f) h (l .loop .at) (l .loop .lo) (l .loop .hz) (y .result) (y .last .1 .1 .1 .1 .1 .0) (y .last .1 .1 .1 .1 .1 .1 .0) (y .last .1 .1 .1 .1 .1 .1 .1 .0)) rh (y .ensures)) in
+    (subst (λ (h : Float). PutReading (not (is-settling .is-settling .result && a .more)) (l .loop .w) (a .line + 8 * i) (a .f) h (l .loop .at) (l .loop .lo) (l .loop .hz) (y .result) (y .last .1 .1 .1 .1 .1 .0) (y .last .1 .1 .1 .1 .1 .1 .0) (y .last .1 .1 .1 .1 .1 .1 .1 .0)) rh (y .ensures)) in
     let u = next-upto yes (l .loop .w) (y .result) (q .next) in
     let v = l .loop .inv .1 in (
       omega arith,

@@ -67,16 +67,24 @@ mul-is-of-2 : tie.Need-mul-is-of-2 Inv-loop μ-loop
 mul-is-of-2 c = let s = c .before .before .before .before .before .before .before in let t = c .before .loop-test .taken in let h = s .pre .los in search needs
 
 shared-slice-read-is-of-2 : tie.Need-shared-slice-read-is-of-2 Inv-loop μ-loop
-shared-slice-read-is-of-2 c = let t = c .before .before .loop-test .taken in let h = c .before .before .before .before .before .before .before .before .pre .los in omega arith
+shared-slice-read-is-of-2 c =
+    let start = c .before .before .before .before .before .before .before .before in
+    let t = c .before .before .loop-test .taken in let h = start .pre .los in omega arith
 
 is-of-requires : tie.Need-is-of-requires Inv-loop μ-loop
 is-of-requires c κs = search needs
 
 mul-put-hz : tie.Need-mul-put-hz Inv-loop μ-loop
-mul-put-hz c = let s = c .before .before .before .before .before .before .before .before .before in let t = c .before .before .before .loop-test .taken in let h = s .pre .hzs in search needs
+mul-put-hz c =
+    let loop-test = c .before .before .before in
+    let start = loop-test .before .before .before .before .before .before in
+    let s = start in let t = loop-test .loop-test .taken in let h = s .pre .hzs in search needs
 
 shared-slice-read-put-hz : tie.Need-shared-slice-read-put-hz Inv-loop μ-loop
-shared-slice-read-put-hz c = let t = c .before .before .before .before .loop-test .taken in let h = c .before .before .before .before .before .before .before .before .before .before .pre .hzs in omega arith
+shared-slice-read-put-hz c =
+    let loop-test = c .before .before .before .before in
+    let start = loop-test .before .before .before .before .before .before in
+    let t = loop-test .loop-test .taken in let h = start .pre .hzs in omega arith
 
 put-hz-requires : tie.Need-put-hz-requires Inv-loop μ-loop
 put-hz-requires c κs =
@@ -88,20 +96,27 @@ put-hz-requires c κs =
     subst (λ (z : ℕ). l .loop .w < z) (sym (out-size l)) (omega arith)
 
 add-i : tie.Need-add-i Inv-loop μ-loop
-add-i c = let s = c .before .before .before .before .before .before .before .before .before .before .before .before .before .before in let t = c .before .before .before .before .before .before .before .before .loop-test .taken in let h = s .pre .ats in search needs
+add-i c =
+    let loop-test = c .before .before .before .before .before .before .before .before in
+    let start = loop-test .before .before .before .before .before .before in
+    let s = start in let t = loop-test .loop-test .taken in let h = s .pre .ats in search needs
 
 loop-less : tie.Need-loop-less Inv-loop μ-loop
-loop-less c = let t = c .before .before .before .before .before .before .before .before .loop-test .taken in omega arith
+loop-less c =
+    let loop-test = c .before .before .before .before .before .before .before .before in
+    let t = loop-test .loop-test .taken in omega arith
 
 loop-again : tie.Need-loop-again Inv-loop μ-loop
 unfolding bs
 loop-again c =
-    let l = c .before .before .before .before .before .before .before .before .before in
+    let is-of = c .before .before .before .before .before in
+    let loop-test = is-of .before .before .before in
+    let l = loop-test .before in
     let s = l .before .before .before .before .before in
     let a = s .args in
-    let t = c .before .before .before .before .before .before .before .before .loop-test .taken in
+    let t = loop-test .loop-test .taken in
     let k = c .before .before .put-hz in
-    let y = c .before .before .before .before .before .is-of in
+    let y = is-of .is-of in
     let as′ = map (inside (a .first) (a .past)) (take (a .count) (a .at .now)) in
     let cs = map (λ (x : ℕ). eqb x (a .last)) (take (a .count) (a .lo .now)) in
     let na = marks-size (inside (a .first) (a .past)) (a .count) (a .at .now) (s .pre .ats) in

@@ -77,7 +77,10 @@ mul-put-hz c =
     record { fits = omega arith }
 
 shared-slice-read-put-hz : tie.Need-shared-slice-read-put-hz Inv-loop μ-loop
-shared-slice-read-put-hz c = let t = c .before .before .before .loop-test .taken in let h = c .before .before .before .before .before .before .before .before .pre .2 .hzs in omega arith
+shared-slice-read-put-hz c =
+    let loop-test = c .before .before .before in
+    let start = loop-test .before .before .before .before .before in
+    let t = loop-test .loop-test .taken in let h = start .pre .2 .hzs in omega arith
 
 put-hz-requires : tie.Need-put-hz-requires Inv-loop μ-loop
 put-hz-requires c κs =
@@ -90,8 +93,9 @@ put-hz-requires c κs =
 
 add-i : tie.Need-add-i Inv-loop μ-loop
 add-i c =
-    let s = c .before .before .before .before .before .before .before .before .before .before .before .before in
-    let t = c .before .before .before .before .before .before .before .loop-test .taken in
+    let loop-test = c .before .before .before .before .before .before .before in
+    let s = loop-test .before .before .before .before .before in
+    let t = loop-test .loop-test .taken in
     let h = s .pre .2 .ats in
     let g = s .good .1 .1 .1 .0 .1 in
     record { fits = omega arith }
@@ -102,12 +106,14 @@ loop-less c = let t = c .before .before .before .before .before .before .before 
 loop-again : tie.Need-loop-again Inv-loop μ-loop
 unfolding bs
 loop-again c =
-    let l = c .before .before .before .before .before .before .before .before in
+    let is-late = c .before .before .before .before .before in
+    let loop-test = is-late .before .before in
+    let l = loop-test .before in
     let s = l .before .before .before .before in
     let a = s .args in
-    let t = c .before .before .before .before .before .before .before .loop-test .taken in
+    let t = loop-test .loop-test .taken in
     let k = c .before .before .put-hz in
-    let y = c .before .before .before .before .before .is-late in
+    let y = is-late .is-late in
     let na = length-take-le (a .count) (a .at .now) (s .pre .2 .ats) in
     let m : getD (map (late (a .rate) (a .from)) (take (a .count) (a .at .now))) (l .loop .i) false ≡ y .result =
     mark-at (late (a .rate) (a .from)) (take (a .count) (a .at .now)) (l .loop .i) 0 (subst (λ (z : ℕ). l .loop .i < z) (sym na) t)

@@ -110,24 +110,30 @@ keep-reading-requires c κs =
 
 add-i : tie.Need-add-i Inv-loop μ-loop
 add-i c =
-    let l = c .before .before .before .before .before .before .before .before .before .before .before .before .before in
+    let loop-test = c .before .before .before .before .before .before .before .before .before .before .before .before in
+    let l = loop-test .before in
     let s = l .before .before .before .before in
-    let t = c .before .before .before .before .before .before .before .before .before .before .before .before .loop-test .taken in
+    let t = loop-test .loop-test .taken in
     let h = s .pre .2 .ats in
     let g = s .good .1 .1 .1 .0 .1 in
     record { fits = omega arith }
 
 loop-less : tie.Need-loop-less Inv-loop μ-loop
-loop-less c = let t = c .before .before .before .before .before .before .before .before .before .before .before .before .loop-test .taken in omega arith
+loop-less c =
+    let loop-test = c .before .before .before .before .before .before .before .before .before .before .before .before in
+    let t = loop-test .loop-test .taken in omega arith
 
 loop-again : tie.Need-loop-again Inv-loop μ-loop
 unfolding bs
 loop-again c =
-    let l = c .before .before .before .before .before .before .before .before .before .before .before .before .before in
+    let keep-reading = c .before .before .before .before .before .before in
+    let is-kept = keep-reading .before .before .before .before in
+    let loop-test = is-kept .before .before in
+    let l = loop-test .before in
     let s = l .before .before .before .before in
-    let t = c .before .before .before .before .before .before .before .before .before .before .before .before .loop-test .taken in
-    let k = c .before .before .before .before .before .before .keep-reading in
-    let y = c .before .before .before .before .before .before .before .before .before .before .is-kept in
+    let t = loop-test .loop-test .taken in
+    let k = keep-reading .keep-reading in
+    let y = is-kept .is-kept in
     let a = s .args in
     let m : getD (map (kept (a .rate) (a .n)) (take (a .count) (a .at .now))) (l .loop .i) false ≡ y .result =
     mark-is (a .rate) (a .n) (a .count) (a .at .now) (a .lo .now) (a .hz .now) (s .pre .2) (l .loop .i) t

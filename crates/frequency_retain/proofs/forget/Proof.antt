@@ -23,7 +23,10 @@ same-length-3 : tie.Need-same-length-3
 same-length-3 c = search needs
 
 returns-2 : tie.Need-returns-2
-returns-2 c = moved-as (c .before .before .before .before .before .before .before .before .before .before .if2 .taken) (c .before .before .before .before .before .before .shift-readings .ensures)
+returns-2 c =
+    let shift-readings = c .before .before .before .before .before .before in
+    let then2 = shift-readings .before .before .before .before in
+    moved-as (then2 .if2 .taken) (shift-readings .shift-readings .ensures)
 
 shift-readings-requires-2 : tie.Need-shift-readings-requires-2
 shift-readings-requires-2 c κs = search needs

@@ -6,11 +6,17 @@ use borrow.Author.Needs.{needs}
 use Rattle.frequency_retain.proofs.retain_looked.Statement.{statement}
 use Rattle.frequency_retain.proofs.retain_looked.Tie as tie
 
+-- The places that are cited, each from a later one.
+abbrev at-start : tie.Then1 → tie.Start
+at-start c = c .before .before .before .before
+
 forget-requires : tie.Need-forget-requires
 forget-requires c κs = let s = c .before .before .before .before .before .before .before in (s .pre .3 (c .before .before .before .if1 .taken) .leads, s .pre .2)
 
 sub-result : tie.Need-sub-result
-sub-result c = let s = c .before .before .before .before .before .before .before .before .before .before .before .before .before .before in let h = s .pre .3 (c .before .before .before .before .before .before .before .before .before .before .if1 .taken) .leads in search needs
+sub-result c =
+    let then1 = c .before .before .before .before .before .before .before .before .before .before in
+    let s = at-start then1 in let h = s .pre .3 (then1 .if1 .taken) .leads in search needs
 
 same-length : tie.Need-same-length
 same-length c = search needs
@@ -23,10 +29,12 @@ same-length-3 c = search needs
 
 returns : tie.Need-returns
 returns c =
-    let s = c .before .before .before .before .before .before .before .before .before .before .before .before .before .before in
+    let forget = c .before .before .before .before .before .before in
+    let then1 = forget .before .before .before .before in
+    let s = at-start then1 in
     let a = s .args in
     front-goes (a .rate) (a .n) (a .count) (oldestOf (a .rate) (a .n)) (a .at .now) (a .lo .now) (a .hz .now) (s .pre .2) (λ b h. kept-from (a .rate) (s .pre .0) (a .n) b (s .pre .1) h) (a .look .lead)
-    (s .pre .3 (c .before .before .before .before .before .before .before .before .before .before .if1 .taken)) _ _ _ (c .before .before .before .before .before .before .forget .ensures)
+    (s .pre .3 (then1 .if1 .taken)) _ _ _ (forget .forget .ensures)
 
 retain-readings-requires : tie.Need-retain-readings-requires
 retain-readings-requires c κs = search needs

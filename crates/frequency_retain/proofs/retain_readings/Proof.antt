@@ -51,15 +51,20 @@ same-length-6 c = search needs
 
 returns-2 : tie.Need-returns-2
 returns-2 c =
-    let s = c .before .before .before .before .before .before .before .before .before .before .before .before .before .before .before .before .before .before .before in
+    let forget = c .before .before .before .before .before .before in
+    let else1 = forget .before .before .before .before in
+    let spread = else1 .before in
+    let leading = spread .before .before in
+    let oldest = leading .before .before in
+    let s = oldest .before .before .before .before in
     let a = s .args in
-    let o = c .before .before .before .before .before .before .before .before .before .before .before .before .before .before .before .oldest in
-    let l = c .before .before .before .before .before .before .before .before .before .before .before .before .before .leading in
-    let p = c .before .before .before .before .before .before .before .before .before .before .before .spread in
+    let o = oldest .oldest in
+    let l = leading .leading in
+    let p = spread .spread in
     let e = o .ensures in
     front-goes (a .rate) (a .n) (a .count) (oldestOf (a .rate) (a .n)) (a .at .now) (a .lo .now) (a .hz .now) (s .pre .2) (λ b h. kept-from (a .rate) (s .pre .0) (a .n) b (s .pre .1) h) (l .result)
-    (subst (λ (z : ℕ). Leads z (a .count) (l .result) (a .at .now)) e (leads-of (o .result) (a .count) (l .result) (p .result) (a .at .now) (l .ensures .0) (l .ensures .1) (p .ensures) (omega (arith, e, c .before .before .before .before .before .before .before .before .before .before .if1 .left))))
-    _ _ _ (c .before .before .before .before .before .before .forget .ensures)
+    (subst (λ (z : ℕ). Leads z (a .count) (l .result) (a .at .now)) e (leads-of (o .result) (a .count) (l .result) (p .result) (a .at .now) (l .ensures .0) (l .ensures .1) (p .ensures) (omega (arith, e, else1 .if1 .left))))
+    _ _ _ (forget .forget .ensures)
 
 pub retain-readings-spec : {M : Type 1} → statement M
 retain-readings-spec =

@@ -88,25 +88,31 @@ keep-tuning-requires c κs =
 
 add-i : tie.Need-add-i Inv-loop μ-loop
 add-i c =
-    let l = c .before .before .before .before .before .before .before .before .before .before in
+    let loop-test = c .before .before .before .before .before .before .before .before .before in
+    let l = loop-test .before in
     let s = l .before .before .before in
-    let t = c .before .before .before .before .before .before .before .before .before .loop-test .taken in
+    let t = loop-test .loop-test .taken in
     let h = s .pre .2 .tuneds in
     let g = s .good .1 .1 .1 .0 .0 in
     record { fits = omega arith }
 
 loop-less : tie.Need-loop-less Inv-loop μ-loop
-loop-less c = let t = c .before .before .before .before .before .before .before .before .before .loop-test .taken in omega arith
+loop-less c =
+    let loop-test = c .before .before .before .before .before .before .before .before .before in
+    let t = loop-test .loop-test .taken in omega arith
 
 loop-again : tie.Need-loop-again Inv-loop μ-loop
 unfolding bs
 loop-again c =
-    let l = c .before .before .before .before .before .before .before .before .before .before in
+    let keep-tuning = c .before .before .before .before in
+    let tuning-stays = keep-tuning .before .before .before in
+    let loop-test = tuning-stays .before .before in
+    let l = loop-test .before in
     let s = l .before .before .before in
     let a = s .args in
-    let t = c .before .before .before .before .before .before .before .before .before .loop-test .taken in
-    let k = c .before .before .before .before .keep-tuning in
-    let y = c .before .before .before .before .before .before .before .tuning-stays in
+    let t = loop-test .loop-test .taken in
+    let k = keep-tuning .keep-tuning in
+    let y = tuning-stays .tuning-stays in
     let m : getD (stays (a .rate) (a .n) (take (a .count) (a .tuned .now))) (l .loop .i) false ≡ y .result =
     stays-is (a .rate) (a .n) (a .count) (a .tuned .now) (a .freq .now) (s .pre .2) (l .loop .i) t
     ∙ ap (λ (z : ℕ). cond (eqb (l .loop .i + 1) (a .count)) true (kept (a .rate) (a .n) z)) (sym (tuned-ahead l)) ∙ sym (y .ensures) in (

@@ -42,12 +42,22 @@ find-bin-requires c κs =
     let s = c .before .before .before .before .before .shift-of in
     enough (key binary32) (b .args .xs .now) (b .args .r) (2 ^ s .result) (n .last .1 .1 .1 .1 .0) (n .ensures) (b .pre .0) (s .ensures .0)
 
+-- The places that are cited, each from a later one.
+abbrev at-count32 : tie.After-find-bin → tie.After-count32
+at-count32 c = c .before .before
+
+abbrev at-shift-of : tie.After-find-bin → tie.After-shift-of
+at-shift-of c = at-count32 c .before .before .before .before
+
+abbrev at-start : tie.After-find-bin → tie.Start
+at-start c = at-shift-of c .before .before
+
 part-of-requires : tie.Need-part-of-requires
 part-of-requires c κs =
     let f = c .find-bin in
-    let n = c .before .before .count32 in
-    let b = c .before .before .before .before .before .before .before .before in
-    let s = c .before .before .before .before .before .before .shift-of in (
+    let n = at-count32 c .count32 in
+    let b = at-start c in
+    let s = at-shift-of c .shift-of in (
       shift-lt (b .args .r .span) (s .result) 64 (s .ensures .1) (omega (arith, b .pre .0 .fits)),
       inside (key binary32) (b .args .xs .now) (b .args .r) (2 ^ s .result) (n .last .1 .1 .1 .1 .0) (n .ensures) (b .pre .0) (s .ensures .0) (f .result) (f .ensures .0)
           (f .ensures .1) (f .ensures .2),
@@ -56,10 +66,11 @@ part-of-requires c κs =
 
 returns : tie.Need-returns
 returns c =
-    let f = c .before .find-bin in
-    let n = c .before .before .before .count32 in
-    let b = c .before .before .before .before .before .before .before .before .before in
-    let s = c .before .before .before .before .before .before .before .shift-of in
+    let find-bin = c .before in
+    let f = find-bin .find-bin in
+    let n = at-count32 find-bin .count32 in
+    let b = at-start find-bin in
+    let s = at-shift-of find-bin .shift-of in
     let l = b .args .xs .now in
     let r = b .args .r in
     let w = 2 ^ s .result in

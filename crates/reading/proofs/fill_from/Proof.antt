@@ -49,9 +49,11 @@ loop-less c = search needs
 
 loop-again : tie.Need-loop-again Inv-loop μ-loop
 loop-again c =
-    let f = c .before .before .before .before .before .before .fetch-from in
+    let fetch-from = c .before .before .before .before .before .before in
+    let loop = fetch-from .before .before .before in
+    let f = fetch-from .fetch-from in
     let e = ap brought (c .before .before .fetched .given .1) in
-    let l = c .before .before .before .before .before .before .before .before .before .loop in
+    let l = loop .loop in
     (omega (arith, e, f .ensures, f .kept .1 .0), omega (arith, f .kept .1 .0, l .inv .1))
 
 same-length-3 : tie.Need-same-length-3 Inv-loop μ-loop

@@ -26,6 +26,13 @@ Entry = lts.Start (leaves-reads.Asked, leaves-reads.Learnt, finished-reads.Asked
 sized : (c : Entry) → length (messageRecord (markOf (c .args .shifts) (c .args .closed .now) (finished (c .args .p) .time)) (finished (c .args .p))) ≡ recordSize
 sized c = finished-size _ (c .args .p) (search needs) (search needs)
 
+-- The places that are cited, each from a later one.
+abbrev at-leaves : tie.Then1 → tie.After-leaves
+at-leaves c = c .before
+
+abbrev at-start : tie.Then1 → tie.Start
+at-start c = at-leaves c .before .before .before
+
 leaves-requires : tie.Need-leaves-requires
 leaves-requires c κs = search needs
 
@@ -49,9 +56,10 @@ put-message-requires c κs =
 
 add-result : tie.Need-add-result
 add-result c =
-    let s = c .before .before .before .before .before .before .before .before .before .before in
+    let then1 = c .before .before .before .before .before .before in
+    let s = at-start then1 in
     let h : recordSize * (s .args .count + 1) ≤ length (s .args .events .now) =
-    s .pre (sym (c .before .before .before .before .before .before .before .leaves .ensures) ∙ c .before .before .before .before .before .before .if1 .taken) in
+    s .pre (sym (at-leaves then1 .leaves .ensures) ∙ then1 .if1 .taken) in
     omega arith
 
 same-length : tie.Need-same-length
@@ -59,8 +67,9 @@ same-length c = search needs
 
 returns : tie.Need-returns
 returns c =
-    let s = c .before .before .before .before .before .before .before .before .before .before in
-    let e = sym (c .before .before .before .before .before .before .before .leaves .ensures) ∙ c .before .before .before .before .before .before .if1 .taken in
+    let then1 = c .before .before .before .before .before .before in
+    let s = at-start then1 in
+    let e = sym (at-leaves then1 .leaves .ensures) ∙ then1 .if1 .taken in
     (rw e refl, rw (e, ← c .before .before .before .before .before .finished .ensures, ← c .before .before .before .before .mark .ensures) (c .before .before .put-message .ensures), sized s)
 
 returns-2 : tie.Need-returns-2

@@ -43,9 +43,10 @@ loop-less c = search needs
 
 loop-again : tie.Need-loop-again Inv-loop μ-loop
 loop-again c =
-    let s = c .before .before .before .before .before .before .before .before .before in
+    let loop = c .before .before .before .before .before .before in
+    let s = loop .before .before .before in
     let a = s .args in
-    let l = c .before .before .before .before .before .before .loop in
+    let l = loop .loop in
     let w = c .before .before .write-message in
     let h : length (a .t1 .messages) ≡ openPlaces = search (needs, length-mapped) in
     written-turn (markOf (a .shifts) (a .closed .now)) (a .all) (a .time) (a .t1 .messages) (a .t1 .count) (a .count) (a .events .now) (l .i) (l .k) (l .events) (l .inv) outside-message (omega arith) (omega arith) (w .result) _ (w .ensures .2) (w .ensures .0) (w .ensures .1)

@@ -6,6 +6,16 @@ use Rattle.receiver_message.specs.Messages.{spanIn}
 use Rattle.receiver_message.proofs.lower.Statement.{statement}
 use Rattle.receiver_message.proofs.lower.Tie as tie
 
+-- The places that are cited, each from a later one.
+abbrev at-else2 : tie.After-rest → tie.Else2
+at-else2 c = c .before .before
+
+abbrev at-else1 : tie.After-rest → tie.Else1
+at-else1 c = at-else2 c .before .before
+
+abbrev at-start : tie.After-rest → tie.Start
+at-start c = at-else1 c .before .before
+
 returns : tie.Need-returns
 returns c = lower-zero (c .before .before .args .s) (spanIn (c .before .before .args .rest)) (c .if1 .taken)
 
@@ -17,14 +27,18 @@ enum-known-rest c = search needs
 
 returns-3 : tie.Need-returns-3
 unfolding spanIn
-returns-3 c = lower-other (c .before .before .before .before .before .before .before .before .before .before .args .s) (c .before .before .before .before .before .before .before .before .if1 .left) (c .before .before .before .before .before .before .if2 .left) (spanIn (c .before .before .before .before .before .before .before .before .before .before .args .rest)) (c .before .before .before .before .rest .given .0 .0) (ap spanIn (c .before .before .before .before .rest .given .1)) (c .if3 .taken)
+returns-3 c =
+    let rest = c .before .before .before .before in
+    lower-other (at-start rest .args .s) (at-else1 rest .if1 .left) (at-else2 rest .if2 .left) (spanIn (at-start rest .args .rest)) (rest .rest .given .0 .0) (ap spanIn (rest .rest .given .1)) (c .if3 .taken)
 
 enum-told : tie.Need-enum-told
 enum-told c = search needs
 
 returns-4 : tie.Need-returns-4
 unfolding spanIn
-returns-4 c = lower-this (c .before .before .before .before .before .before .before .before .before .before .args .s) (c .before .before .before .before .before .before .before .before .if1 .left) (c .before .before .before .before .before .before .if2 .left) (spanIn (c .before .before .before .before .before .before .before .before .before .before .args .rest)) (c .before .before .before .before .rest .given .0 .0) (ap spanIn (c .before .before .before .before .rest .given .1)) (c .if3 .left)
+returns-4 c =
+    let rest = c .before .before .before .before in
+    lower-this (at-start rest .args .s) (at-else1 rest .if1 .left) (at-else2 rest .if2 .left) (spanIn (at-start rest .args .rest)) (rest .rest .given .0 .0) (ap spanIn (rest .rest .given .1)) (c .if3 .left)
 
 returns-5 : tie.Need-returns-5
 unfolding spanIn

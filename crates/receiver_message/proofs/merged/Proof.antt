@@ -25,15 +25,19 @@ joined-requires : tie.Need-joined-requires
 joined-requires c κs = search needs
 
 returns : tie.Need-returns
-returns c = let s = c .before .before .before .before .before .before .before .before .before .before in
+returns c =
+    let end-after = c .before .before .before in
+    let meet = end-after .before in
+    let span-of = meet .before in
+    let s = span-of .before .before .before .before .before in
     let a = s .args in
     let z : toZ w32 (ofZ w32 (a .p .message .«clock_error_ppm»)) ≡ a .p .message .«clock_error_ppm» = toZ-ofZ w32 (a .p .message .«clock_error_ppm») (sfits-of (s .good .0 .1 .1 .0 .1 .1 .1 .1 .1 .1 .1 .1 .1 .1 .1 .1 .1 .1 .1 .0 .1)) in
-    let e = c .before .before .before .end-after in
+    let e = end-after .end-after in
     let x = c .before .before .louder in
-    let l = c .before .before .before .before .meet in
+    let l = meet .meet in
     c .joined .ensures
     ∙ merged-is (a .p) (a .f) (a .r) (e .result) (x .result) (l .result) (toZ w32 (ofZ w32 (a .p .message .«clock_error_ppm»)))
-    (e .ensures) (x .ensures) (l .ensures (frameOf (a .f) (a .r)) (c .before .before .before .before .before .span-of .ensures)) z
+    (e .ensures) (x .ensures) (l .ensures (frameOf (a .f) (a .r)) (span-of .span-of .ensures)) z
 
 pub merged-spec : {M : Type 1} → statement M
 merged-spec =

@@ -40,12 +40,19 @@ slice-aggregate-apart : tie.Need-slice-aggregate-apart
 slice-aggregate-apart c = search needs
 
 apart-requires : tie.Need-apart-requires
-apart-requires c κs = let h : length (c .before .before .before .before .before .before .before .before .before .args .s .at) ≡ 96 = search needs in
+apart-requires c κs =
+    let start = c .before .before .before .before .before .before .before .before .before in
+    let h : length (start .args .s .at) ≡ 96 = search needs in
     omega arith
 
 returns-2 : tie.Need-returns-2
-returns-2 c = let a = c .before .before .before .before .before .before .before .before .before .before .args in
-    rw (le-leb (a .s .count) mostStarts (omega (arith, c .before .before .before .before .before .before .before .before .before .if1 .left)), c .before .before .before .before .before .before .all-below .ensures, c .before .before .before .before .all-from .ensures, c .before .before .all-from2 .ensures, c .apart .ensures) refl
+returns-2 c =
+    let all-from = c .before .before .before .before in
+    let all-below = all-from .before .before in
+    let else1 = all-below .before .before .before in
+    let start = else1 .before in
+    let a = start .args in
+    rw (le-leb (a .s .count) mostStarts (omega (arith, else1 .if1 .left)), all-below .all-below .ensures, all-from .all-from .ensures, c .before .before .all-from2 .ensures, c .apart .ensures) refl
 
 pub in-order-spec : {M : Type 1} → statement M
 in-order-spec =

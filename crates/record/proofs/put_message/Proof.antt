@@ -54,10 +54,14 @@ slice-aggregate-put-front-2 : tie.Need-slice-aggregate-put-front-2
 slice-aggregate-put-front-2 c = search needs
 
 put-front-requires : tie.Need-put-front-requires
-put-front-requires c κs = let e = c .before .before .before .before .before .before .before .before .before .before .before in (omega (arith, e .pre), payload-is e, auth-is e)
+put-front-requires c κs =
+    let start = c .before .before .before .before .before .before .before .before .before .before .before in
+    let e = start in (omega (arith, e .pre), payload-is e, auth-is e)
 
 add-put-middle : tie.Need-add-put-middle
-add-put-middle c = let e = c .before .before .before .before .before .before .before .before .before .before .before .before .before .before .before in record { fits = omega (arith, e .pre, e .good .1 .1 .0 .0) }
+add-put-middle c =
+    let start = c .before .before .before .before .before .before .before .before .before .before .before .before .before .before .before in
+    let e = start in record { fits = omega (arith, e .pre, e .good .1 .1 .0 .0) }
 
 end-of-requires : tie.Need-end-of-requires
 end-of-requires c κs = search needs
@@ -66,13 +70,17 @@ put-middle-requires : tie.Need-put-middle-requires
 put-middle-requires c κs = search needs
 
 add-put-spans : tie.Need-add-put-spans
-add-put-spans c = let e = c .before .before .before .before .before .before .before .before .before .before .before .before .before .before .before .before .before .before .before .before in record { fits = omega (arith, e .pre, e .good .1 .1 .0 .0) }
+add-put-spans c =
+    let start = c .before .before .before .before .before .before .before .before .before .before .before .before .before .before .before .before .before .before .before .before in
+    let e = start in record { fits = omega (arith, e .pre, e .good .1 .1 .0 .0) }
 
 put-spans-requires : tie.Need-put-spans-requires
 put-spans-requires c κs = search needs
 
 add-put-u64 : tie.Need-add-put-u64
-add-put-u64 c = let e = c .before .before .before .before .before .before .before .before .before .before .before .before .before .before .before .before .before .before .before .before .before .before .before .before in record { fits = omega (arith, e .pre, e .good .1 .1 .0 .0) }
+add-put-u64 c =
+    let start = c .before .before .before .before .before .before .before .before .before .before .before .before .before .before .before .before .before .before .before .before .before .before .before .before in
+    let e = start in record { fits = omega (arith, e .pre, e .good .1 .1 .0 .0) }
 
 put-u64-requires : tie.Need-put-u64-requires
 put-u64-requires c κs =

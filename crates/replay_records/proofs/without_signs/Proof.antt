@@ -36,15 +36,23 @@ same-length c = search needs
 
 returns : tie.Need-returns
 returns c =
+    let unsign647 = c .before .before .before .before .before .before in
+    let unsign646 = unsign647 .before .before .before .before in
+    let unsign645 = unsign646 .before .before .before .before in
+    let unsign644 = unsign645 .before .before .before .before in
+    let unsign643 = unsign644 .before .before .before .before in
+    let unsign642 = unsign643 .before .before .before .before in
+    let unsign64 = unsign642 .before .before .before .before in
+    let unsign32 = unsign64 .before .before .before .before in
     signs-gone _
-    (c .before .before .before .before .before .before .before .before .before .before .before .before .before .before .before .before .before .before .before .before .before .before .before .before .before .before .before .before .before .before .before .before .before .before .unsign32 .ensures)
-    (c .before .before .before .before .before .before .before .before .before .before .before .before .before .before .before .before .before .before .before .before .before .before .before .before .before .before .before .before .before .before .unsign64 .ensures)
-    (c .before .before .before .before .before .before .before .before .before .before .before .before .before .before .before .before .before .before .before .before .before .before .before .before .before .before .unsign642 .ensures)
-    (c .before .before .before .before .before .before .before .before .before .before .before .before .before .before .before .before .before .before .before .before .before .before .unsign643 .ensures)
-    (c .before .before .before .before .before .before .before .before .before .before .before .before .before .before .before .before .before .before .unsign644 .ensures)
-    (c .before .before .before .before .before .before .before .before .before .before .before .before .before .before .unsign645 .ensures)
-    (c .before .before .before .before .before .before .before .before .before .before .unsign646 .ensures)
-    (c .before .before .before .before .before .before .unsign647 .ensures)
+    (unsign32 .unsign32 .ensures)
+    (unsign64 .unsign64 .ensures)
+    (unsign642 .unsign642 .ensures)
+    (unsign643 .unsign643 .ensures)
+    (unsign644 .unsign644 .ensures)
+    (unsign645 .unsign645 .ensures)
+    (unsign646 .unsign646 .ensures)
+    (unsign647 .unsign647 .ensures)
     (c .before .before .unsign648 .ensures)
 
 pub without-signs-spec : {M : Type 1} → statement M

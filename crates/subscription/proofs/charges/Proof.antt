@@ -45,18 +45,22 @@ total-requires c κs =
 
 returns-2 : tie.Need-returns-2
 returns-2 c =
-    let s = c .before .before .before .before .before .before .before .before .before in
+    let read-records = c .before .before .before in
+    let second-of = read-records .before .before in
+    let no-records = second-of .before in
+    let else1 = no-records .before in
+    let s = else1 .before .before in
     let a = s .args in
     let l = a .«records» .now in
-    let n = c .before .before .before .before .before .before .no-records .ensures in
+    let n = no-records .no-records .ensures in
     let q = toZ-ofZ w64 (a .month-start) (s .fits .month-start) in
-    let d = c .before .before .before .before .before .second-of .ensures .0 ∙ ap secondOf q in
-    let r = c .before .before .before .read-records in
+    let d = second-of .second-of .ensures .0 ∙ ap secondOf q in
+    let r = read-records .read-records in
     let ok : r .result .ok ≡ listOk l = r .ensures .1 ∙ ap (λ (b : Bool). b && listOk l) (n .1) in
     let within : r .result .within ≡ allInMonth (secondOf (a .month-start)) (messagesOf (eventsOf l)) =
-    r .ensures .2 ∙ ap (λ (b : Bool). b && allInMonth (c .before .before .before .before .before .second-of .result) (messagesOf (eventsOf l))) (n .2) ∙ ap (λ (k : ℕ). allInMonth k (messagesOf (eventsOf l))) d in
+    r .ensures .2 ∙ ap (λ (b : Bool). b && allInMonth (second-of .second-of .result) (messagesOf (eventsOf l))) (n .2) ∙ ap (λ (k : ℕ). allInMonth k (messagesOf (eventsOf l))) d in
     let counts = r .ensures .3 ∙ ap (λ (k : ℕ). tallied k (replicate days 0) (eventsOf l)) d in
-    c .total .ensures ∙ says-read l (a .plan) (a .month-start) (c .before .before .before .before .before .before .before .if1 .left) (r .result .ok) (r .result .within) _ ok within counts _ q
+    c .total .ensures ∙ says-read l (a .plan) (a .month-start) (else1 .if1 .left) (r .result .ok) (r .result .within) _ ok within counts _ q
 
 pub charges-spec : {M : Type 1} → statement M
 charges-spec =

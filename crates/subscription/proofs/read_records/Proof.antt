@@ -24,6 +24,10 @@ Inv-loop t records start counts₀ count whole ok₀ within₀ i₀ counts ok wi
 abbrev μ-loop : tie.MeasureT-loop
 μ-loop t records start counts₀ count whole ok₀ within₀ i₀ counts ok within i = count - i
 
+-- The places that are cited, each from a later one.
+abbrev at-start : tie.At-loop Inv-loop μ-loop → tie.Start Inv-loop μ-loop
+at-start c = c .before .before .before .before
+
 loop-holds : tie.Need-loop-holds Inv-loop μ-loop
 loop-holds c =
     let s = c .before .before .before in
@@ -60,9 +64,10 @@ part-counted-end c = search needs
 
 counted-requires : tie.Need-counted-requires Inv-loop μ-loop
 counted-requires c κs =
-    let s = c .before .before .before .before .before .before .before .before .before in
+    let loop = c .before .before .before .before .before in
+    let s = at-start loop in
     let a = s .args in
-    let l = c .before .before .before .before .before .loop in
+    let l = loop .loop in
     let f = l .inv .4 in
     (search needs, s .pre .1, record { size = f .size; under = λ j. omega (arith, f .under j, s .pre .0, c .before .before .before .before .loop-test .taken) })
 
@@ -74,18 +79,21 @@ loop-less c = search needs
 
 loop-again : tie.Need-loop-again Inv-loop μ-loop
 loop-again c =
-    let s = c .before .before .before .before .before .before .before .before .before .before .before .before in
+    let record-ok = c .before .before .before .before .before in
+    let loop-test = record-ok .before .before in
+    let loop = loop-test .before in
+    let s = at-start loop in
     let a = s .args in
-    let l = c .before .before .before .before .before .before .before .before .loop in
+    let l = loop .loop in
     let x = a .«records» .now in
     let es = eventsOf x in
-    let h : l .i < wholes x = omega (arith, c .before .before .before .before .before .before .before .loop-test .taken) in
+    let h : l .i < wholes x = omega (arith, loop-test .loop-test .taken) in
     let b : l .i < length es = omega (arith, length-records (wholes x) x) in
     let r = take (120 * l .i + 120 - 120 * l .i) (drop (120 * l .i) x) in
     let e = event-part x (l .i) h in
     let k = c .before .before .counted in (
       omega arith,
-      ok-turn (l .ok) es (l .i) (c .before .before .before .before .before .record-ok .result) (a .t .ok && listOk x) b (c .before .before .before .before .before .record-ok .ensures ∙ ap recordOk e) (l .inv .1),
+      ok-turn (l .ok) es (l .i) (record-ok .record-ok .result) (a .t .ok && listOk x) b (record-ok .record-ok .ensures ∙ ap recordOk e) (l .inv .1),
       within-turn (a .start) es (l .i) b r e (l .within) (k .result) (a .t .within && allInMonth (a .start) (messagesOf es)) (k .ensures .0) (l .inv .2),
       tallied-turn (a .start) es (l .i) b r e (l .counts) _ (tallied (a .start) (a .counts .now) es) (k .ensures .1) (l .inv .3),
       few-turn (a .start) (l .counts) r _ (a .t .«records») (l .i) (k .ensures .1) (l .inv .4),

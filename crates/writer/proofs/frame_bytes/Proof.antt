@@ -8,6 +8,13 @@ use borrow.Author.Needs.{needs}
 use Rattle.writer.proofs.frame_bytes.Statement.{statement}
 use Rattle.writer.proofs.frame_bytes.Tie as tie
 
+-- The places that are cited, each from a later one.
+abbrev at-write-header : tie.After-copy-into → tie.After-write-header
+at-write-header c = c .before .before .before
+
+abbrev at-start : tie.After-copy-into → tie.Start
+at-start c = at-write-header c .before .before .before .before
+
 slice-aggregate-write-header : tie.Need-slice-aggregate-write-header
 slice-aggregate-write-header c = search needs
 
@@ -34,8 +41,9 @@ array-share-prefix-bytes c = search needs
 
 slice-aggregate-crc16 : tie.Need-slice-aggregate-crc16
 slice-aggregate-crc16 c =
-    let a = c .before .before .before .before .before .before .before .before .before .args in
-    sym (length-take-le (6 + length (a .payload .now) + length (a .auth .now)) (c .before .before .copy-into .last .1 .1 .1 .0) (search needs))
+    let copy-into = c .before .before in
+    let a = at-start copy-into .args in
+    sym (length-take-le (6 + length (a .payload .now) + length (a .auth .now)) (copy-into .copy-into .last .1 .1 .1 .0) (search needs))
 
 crc16-requires : tie.Need-crc16-requires
 crc16-requires c κs = search needs
@@ -63,12 +71,15 @@ put-byte-requires-2 c κs = search needs
 
 returns : tie.Need-returns
 returns c =
-    let e = c .before .before .before .before .before .before .before .before .before .before .before .before .before .before .before .before in
+    let put-byte = c .before .before .before .before in
+    let crc16 = put-byte .before .before in
+    let copy-into = crc16 .before .before .before in
+    let e = at-start copy-into in
     let a = e .args in
-    let h = c .before .before .before .before .before .before .before .before .before .before .before .before .write-header in
-    let k = c .before .before .before .before .before .before .before .before .before .copy-into in
-    let r = c .before .before .before .before .before .before .crc16 in
-    let p = c .before .before .before .before .put-byte in
+    let h = at-write-header copy-into .write-header in
+    let k = copy-into .copy-into in
+    let r = crc16 .crc16 in
+    let p = put-byte .put-byte in
     let q = c .before .put-byte2 in
     let n = 6 + length (a .payload .now) + length (a .auth .now) in
     bytes-stored (a .fields) (a .payload .now) (a .auth .now) (e .pre .3) (k .last .1 .1 .1 .0) (p .last .0) (q .last .0) n (r .result)

@@ -21,9 +21,12 @@ same-length c = search needs
 
 returns : tie.Need-returns
 returns c =
-    let a = c .before .before .before .before .before .before .before .before .before .before .before .before .before .before .args in
-    let p = c .before .before .before .before .before .before .before .before .before .before .put-repetition in
-    let q = c .before .before .before .before .before .before .put-repetition2 in
+    let put-repetition2 = c .before .before .before .before .before .before in
+    let put-repetition = put-repetition2 .before .before .before .before in
+    let start = put-repetition .before .before .before .before in
+    let a = start .args in
+    let p = put-repetition .put-repetition in
+    let q = put-repetition2 .put-repetition2 in
     let r = c .before .before .put-repetition3 in
     all-stored (repeated (a .class) (map odd (a .body .now))) (a .out .now) (p .last .1 .1 .1 .0) (q .last .1 .1 .1 .0) (r .last .1 .1 .1 .0) (p .ensures) (q .ensures) (r .ensures)
 

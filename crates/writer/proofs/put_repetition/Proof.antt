@@ -48,11 +48,14 @@ same-length c = search needs
 
 returns : tie.Need-returns
 returns c =
-    let e = c .before .before .before .before .before .before .before .before .before .before .before .before .before .before .before in
+    let put-digits2 = c .before .before .before .before .before .before in
+    let type-of = put-digits2 .before in
+    let put-digits = type-of .before .before .before .before in
+    let e = put-digits .before .before .before .before in
     let a = e .args in
-    let p = c .before .before .before .before .before .before .before .before .before .before .before .put-digits in
-    let t = c .before .before .before .before .before .before .before .type-of in
-    let q = c .before .before .before .before .before .before .put-digits2 in
+    let p = put-digits .put-digits in
+    let t = type-of .type-of in
+    let q = put-digits2 .put-digits2 in
     let i = c .before .before .code-into in
     let at = 212 * a .rank in
     let v = map bitOf (convolved (a .rank) fresh (map odd (a .body .now))) in

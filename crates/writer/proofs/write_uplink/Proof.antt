@@ -10,37 +10,31 @@ use Rattle.writer.proofs.WriteLaws.{size-most, count-is, body-read-back
 use borrow.Author.Needs.{needs}
 use Rattle.writer.proofs.write_uplink.Statement.{statement}
 use Rattle.writer.proofs.write_uplink.Tie as tie
-use Rattle.writer.proofs.write_uplink.Reads as reads
-use Rattle.writer.proofs.write_uplink.Lts as lts
-use Rattle.frame.proofs.bodies.auth_size.Reads as auth-size-reads
-use Rattle.frame.proofs.header.layout_of.Reads as layout-of-reads
-use Rattle.writer.proofs.bit_and_payload.Reads as bit-and-payload-reads
-use Rattle.writer.proofs.frame_bytes.Reads as frame-bytes-reads
-use Rattle.writer.proofs.put_all.Reads as put-all-reads
-use Rattle.writer.proofs.put_bits.Reads as put-bits-reads
 
--- where nothing is refused
-abbrev There : Type 0
-There = lts.Else5 (
-  bit-and-payload-reads.Asked,
-  bit-and-payload-reads.Learnt,
-  layout-of-reads.Asked,
-  layout-of-reads.Learnt,
-  auth-size-reads.Asked,
-  auth-size-reads.Learnt,
-  frame-bytes-reads.Asked,
-  frame-bytes-reads.Learnt,
-  put-bits-reads.Asked,
-  put-bits-reads.Learnt,
-  put-all-reads.Asked,
-  put-all-reads.Learnt,
-) reads.Pre reads.Post
+-- The places that are cited, each from a later one; `Else5` is where nothing is refused.
+abbrev at-frame-bytes : tie.After-put-bits → tie.After-frame-bytes
+at-frame-bytes c = c .before .before .before
 
-sendable : (c : There) → let a = c .before .before .before .before .before .before .before .before .before .before .before .before .args in Sendable (a .fields) (a .payload .now) (a .auth .now)
+abbrev at-else5 : tie.After-frame-bytes → tie.Else5
+at-else5 c = c .before
+
+abbrev at-layout-of : tie.Else5 → tie.After-layout-of
+at-layout-of c = c .before .before
+
+abbrev at-else2 : tie.Else5 → tie.Else2
+at-else2 c = at-layout-of c .before .before .before .before .before
+
+abbrev at-else1 : tie.Else2 → tie.Else1
+at-else1 c = c .before
+
+abbrev at-start : tie.Else2 → tie.Start
+at-start c = at-else1 c .before .before .before .before
+
+sendable : (c : tie.Else5) → let a = at-start (at-else2 c) .args in Sendable (a .fields) (a .payload .now) (a .auth .now)
 sendable c =
-    let r = c .before .before .layout-of in
+    let r = at-layout-of c .layout-of in
     record {
-      short-payload = c .before .before .before .before .before .before .before .if2 .left;
+      short-payload = at-else2 c .if2 .left;
       one-of-both = sym (c .before .before .before .before .before .before .bit-and-payload .ensures) ∙ c .before .before .before .before .before .if3 .left;
       counter = c .before .before .before .if4 .left;
       auth-size = c .if5 .left ∙ c .before .auth-size .ensures ∙ ap₂ authSize (r .ensures .0) (r .ensures .1);
@@ -66,8 +60,9 @@ returns-3 c =
 
 returns-4 : tie.Need-returns-4
 returns-4 c =
-    let a = c .before .before .before .before .before .before .before .before .before .args in
-    refuses (a .fields) (a .payload .now) (a .auth .now) (a .out .now) 9 (cause-counter (a .fields) (a .payload .now) (a .auth .now) (a .out .now) (c .before .before .before .before .before .if1 .left) (c .before .before .before .before .if2 .left) (sym (c .before .before .before .bit-and-payload .ensures) ∙ c .before .before .if3 .left) (c .if4 .taken))
+    let else2 = c .before .before .before .before in
+    let a = at-start else2 .args in
+    refuses (a .fields) (a .payload .now) (a .auth .now) (a .out .now) 9 (cause-counter (a .fields) (a .payload .now) (a .auth .now) (a .out .now) (at-else1 else2 .if1 .left) (else2 .if2 .left) (sym (c .before .before .before .bit-and-payload .ensures) ∙ c .before .before .if3 .left) (c .if4 .taken))
 
 layout-of-requires : tie.Need-layout-of-requires
 layout-of-requires c κs = search needs
@@ -80,16 +75,18 @@ cast-called c = search needs
 
 returns-5 : tie.Need-returns-5
 returns-5 c =
-    let a = c .before .before .before .before .before .before .before .before .before .before .before .before .args in
+    let else2 = c .before .before .before .before .before .before .before in
+    let a = at-start else2 .args in
     let r = c .before .before .layout-of in
-    refuses (a .fields) (a .payload .now) (a .auth .now) (a .out .now) 9 (cause-auth (a .fields) (a .payload .now) (a .auth .now) (a .out .now) (c .before .before .before .before .before .before .before .before .if1 .left) (c .before .before .before .before .before .before .before .if2 .left) (sym (c .before .before .before .before .before .before .bit-and-payload .ensures) ∙ c .before .before .before .before .before .if3 .left) (c .before .before .before .if4 .left)
+    refuses (a .fields) (a .payload .now) (a .auth .now) (a .out .now) 9 (cause-auth (a .fields) (a .payload .now) (a .auth .now) (a .out .now) (at-else1 else2 .if1 .left) (else2 .if2 .left) (sym (c .before .before .before .before .before .before .bit-and-payload .ensures) ∙ c .before .before .before .before .before .if3 .left) (c .before .before .before .if4 .left)
     (λ e. c .if5 .taken (e ∙ sym (c .before .auth-size .ensures ∙ ap₂ authSize (r .ensures .0) (r .ensures .1)))))
 
 frame-bytes-requires : tie.Need-frame-bytes-requires
 frame-bytes-requires c κs =
-    let a = c .before .before .before .before .before .before .before .before .before .before .before .before .args in
+    let else2 = c .before .before .before .before .before .before .before in
+    let a = at-start else2 .args in
     let r = c .before .before .layout-of in
-    (r .ensures .1, r .ensures .3, c .before .before .before .before .before .before .before .if2 .left, size-most (a .fields) (a .payload .now) (a .auth .now) (sendable c))
+    (r .ensures .1, r .ensures .3, else2 .if2 .left, size-most (a .fields) (a .payload .now) (a .auth .now) (sendable c))
 
 add-size : tie.Need-add-size
 add-size c = search needs
@@ -102,47 +99,59 @@ add-size-3 c = search needs
 
 array-share-prefix-bytes : tie.Need-array-share-prefix-bytes
 array-share-prefix-bytes c =
-    let a = c .before .before .before .before .before .before .before .before .before .before .before .before .before .args in
-    omega (arith, size-most (a .fields) (a .payload .now) (a .auth .now) (sendable (c .before)))
+    let else5 = at-else5 c in
+    let a = at-start (at-else2 else5) .args in
+    omega (arith, size-most (a .fields) (a .payload .now) (a .auth .now) (sendable else5))
 
 slice-aggregate-put-bits : tie.Need-slice-aggregate-put-bits
 slice-aggregate-put-bits c =
-    let a = c .before .before .before .before .before .before .before .before .before .before .before .before .before .before .args in
-    sym (length-take-le (6 + length (a .payload .now) + length (a .auth .now) + 2) (c .before .frame-bytes .result) (omega (arith, size-most (a .fields) (a .payload .now) (a .auth .now) (sendable (c .before .before)))))
+    let frame-bytes = c .before in
+    let else5 = at-else5 frame-bytes in
+    let a = at-start (at-else2 else5) .args in
+    sym (length-take-le (6 + length (a .payload .now) + length (a .auth .now) + 2) (frame-bytes .frame-bytes .result) (omega (arith, size-most (a .fields) (a .payload .now) (a .auth .now) (sendable else5))))
 
 slice-aggregate-put-bits-2 : tie.Need-slice-aggregate-put-bits-2
 slice-aggregate-put-bits-2 c = search needs
 
 put-bits-requires : tie.Need-put-bits-requires
 put-bits-requires c κs =
-    let a = c .before .before .before .before .before .before .before .before .before .before .before .before .before .before .before .args in
-    let m = size-most (a .fields) (a .payload .now) (a .auth .now) (sendable (c .before .before .before)) in
-    omega (arith, length-take-le (6 + length (a .payload .now) + length (a .auth .now) + 2) (c .before .before .frame-bytes .result) (omega arith))
+    let frame-bytes = c .before .before in
+    let else5 = at-else5 frame-bytes in
+    let a = at-start (at-else2 else5) .args in
+    let m = size-most (a .fields) (a .payload .now) (a .auth .now) (sendable else5) in
+    omega (arith, length-take-le (6 + length (a .payload .now) + length (a .auth .now) + 2) (frame-bytes .frame-bytes .result) (omega arith))
 
 mul-n : tie.Need-mul-n
 mul-n c = search needs
 
 array-share-prefix-body : tie.Need-array-share-prefix-body
 array-share-prefix-body c =
-    let a = c .before .before .before .before .before .before .before .before .before .before .before .before .before .before .before .before .before .args in
-    omega (arith, size-most (a .fields) (a .payload .now) (a .auth .now) (sendable (c .before .before .before .before .before)))
+    let else5 = c .before .before .before .before .before in
+    let a = at-start (at-else2 else5) .args in
+    omega (arith, size-most (a .fields) (a .payload .now) (a .auth .now) (sendable else5))
 
 slice-aggregate-put-all : tie.Need-slice-aggregate-put-all
 slice-aggregate-put-all c =
-    let a = c .before .before .before .before .before .before .before .before .before .before .before .before .before .before .before .before .before .before .args in
-    sym (length-take-le (8 * (6 + length (a .payload .now) + length (a .auth .now) + 2)) (c .before .before .put-bits .last .1 .0) (omega (arith, size-most (a .fields) (a .payload .now) (a .auth .now) (sendable (c .before .before .before .before .before .before)))))
+    let put-bits = c .before .before in
+    let frame-bytes = at-frame-bytes put-bits in
+    let else5 = at-else5 frame-bytes in
+    let a = at-start (at-else2 else5) .args in
+    sym (length-take-le (8 * (6 + length (a .payload .now) + length (a .auth .now) + 2)) (put-bits .put-bits .last .1 .0) (omega (arith, size-most (a .fields) (a .payload .now) (a .auth .now) (sendable else5))))
 
 put-all-requires : tie.Need-put-all-requires
 put-all-requires c κs =
-    let a = c .before .before .before .before .before .before .before .before .before .before .before .before .before .before .before .before .before .before .before .args in
-    let s = sendable (c .before .before .before .before .before .before .before) in
-    let p = c .before .before .before .put-bits in
+    let put-bits = c .before .before .before in
+    let frame-bytes = at-frame-bytes put-bits in
+    let else5 = at-else5 frame-bytes in
+    let a = at-start (at-else2 else5) .args in
+    let s = sendable else5 in
+    let p = put-bits .put-bits in
     let m = size-most (a .fields) (a .payload .now) (a .auth .now) s in
-    let w = body-read-back (a .fields) (a .payload .now) (a .auth .now) s (c .before .before .before .before .before .before .frame-bytes .result) (p .last .1 .0) (c .before .before .before .before .before .before .frame-bytes .ensures) (p .ensures) in (
-      c .before .before .before .before .before .before .before .before .before .layout-of .ensures .2,
+    let w = body-read-back (a .fields) (a .payload .now) (a .auth .now) s (frame-bytes .frame-bytes .result) (p .last .1 .0) (frame-bytes .frame-bytes .ensures) (p .ensures) in (
+      at-layout-of else5 .layout-of .ensures .2,
       body-are (a .fields) (a .payload .now) (a .auth .now) s _ w,
       omega (arith, length-take-le (8 * (6 + length (a .payload .now) + length (a .auth .now) + 2)) (p .last .1 .0) (omega arith)),
-      c .before .before .before .before .before .before .before .before .before .before .before .before .before .before .before .if1 .left,
+      at-else1 (at-else2 else5) .if1 .left,
     )
 
 add-count : tie.Need-add-count
@@ -159,14 +168,17 @@ same-length c = search needs
 
 returns-6 : tie.Need-returns-6
 returns-6 c =
-    let a = c .before .before .before .before .before .before .before .before .before .before .before .before .before .before .before .before .before .before .before .before .before .before .args in
-    let s = sendable (c .before .before .before .before .before .before .before .before .before .before) in
-    let p = c .before .before .before .before .before .before .put-bits in
+    let put-bits = c .before .before .before .before .before .before in
+    let frame-bytes = at-frame-bytes put-bits in
+    let else5 = at-else5 frame-bytes in
+    let a = at-start (at-else2 else5) .args in
+    let s = sendable else5 in
+    let p = put-bits .put-bits in
     let o = c .before .before .put-all in
-    let h = c .before .before .before .before .before .before .before .before .before .before .before .before .before .before .before .before .before .before .if1 .left in
-    let w = body-read-back (a .fields) (a .payload .now) (a .auth .now) s (c .before .before .before .before .before .before .before .before .before .frame-bytes .result) (p .last .1 .0) (c .before .before .before .before .before .before .before .before .before .frame-bytes .ensures) (p .ensures) in
+    let h = at-else1 (at-else2 else5) .if1 .left in
+    let w = body-read-back (a .fields) (a .payload .now) (a .auth .now) s (frame-bytes .frame-bytes .result) (p .last .1 .0) (frame-bytes .frame-bytes .ensures) (p .ensures) in
     writes (a .fields) (a .payload .now) (a .auth .now) (a .out .now) (no-cause (a .fields) (a .payload .now) (a .auth .now) (a .out .now) h s) _ (o .last .1 .1 .0) (count-is (a .fields) (a .payload .now) (a .auth .now) s)
-    (body-odd (a .fields) (a .payload .now) (a .auth .now) s _ (c .before .before .before .before .before .before .before .before .before .before .before .before .layout-of .result .class) (a .out .now) (o .last .1 .1 .0) w (c .before .before .before .before .before .before .before .before .before .before .before .before .layout-of .ensures .0) (o .ensures))
+    (body-odd (a .fields) (a .payload .now) (a .auth .now) s _ (at-layout-of else5 .layout-of .result .class) (a .out .now) (o .last .1 .1 .0) w (at-layout-of else5 .layout-of .ensures .0) (o .ensures))
 
 pub write-uplink-spec : {M : Type 1} → statement M
 write-uplink-spec =

@@ -15,6 +15,25 @@ use borrow.Author.Needs.{needs}
 use Rattle.fleet_sheet.proofs.table.taken.Statement.{statement}
 use Rattle.fleet_sheet.proofs.table.taken.Tie as tie
 
+-- The places that are cited, each from a later one.
+abbrev at-single : tie.After-is-there → tie.After-single
+at-single c = c .before .before
+
+abbrev at-place : tie.After-is-there → tie.After-place
+at-place c = at-single c .before .before .before
+
+abbrev at-device-of : tie.After-is-there → tie.After-device-of
+at-device-of c = at-place c .before .before .before
+
+abbrev at-else1 : tie.After-is-there → tie.Else1
+at-else1 c = at-device-of c .before
+
+abbrev at-is-message : tie.After-is-there → tie.After-is-message
+at-is-message c = at-else1 c .before
+
+abbrev at-start : tie.After-is-there → tie.Start
+at-start c = at-is-message c .before .before .before .before
+
 is-message-requires : tie.Need-is-message-requires
 is-message-requires c κs = search needs
 
@@ -42,45 +61,48 @@ is-there-requires c κs = search needs
 
 row-at-requires : tie.Need-row-at-requires
 row-at-requires c κs =
-    let s = c .before .before .before .before .before .before .before .before .before .before .before .before .before .before .before .before in
+    let is-there = c .before .before in
+    let s = at-start is-there in
     let a = s .args in
-    let d = c .before .before .before .before .before .before .before .before .before .before .device-of .result in
-    let p = c .before .before .before .before .before .before .before .place .result in
+    let d = at-device-of is-there .device-of .result in
+    let p = at-place is-there .place .result in
     let f : Found (a .r .now) (a .n) (a .ids .now) d p true = record {
-      message = sym (c .before .before .before .before .before .before .before .before .before .before .before .before .is-message .ensures) ∙ not-false _ (c .before .before .before .before .before .before .before .before .before .before .before .if1 .left);
-      device = c .before .before .before .before .before .before .before .before .before .before .device-of .ensures;
-      place = c .before .before .before .before .before .before .before .place .ensures .0;
-      there = sym (c .before .before .is-there .ensures) ∙ c .before .if2 .taken;
+      message = sym (at-is-message is-there .is-message .ensures) ∙ not-false _ (at-else1 is-there .if1 .left);
+      device = at-device-of is-there .device-of .ensures;
+      place = at-place is-there .place .ensures .0;
+      there = sym (is-there .is-there .ensures) ∙ c .before .if2 .taken;
     } in
     let i = inside (a .r .now) (a .n) (a .ids .now) (a .table .now) d p f in
     omega (arith, s .pre .2, s .pre .3)
 
 merge-requires : tie.Need-merge-requires
 merge-requires c κs =
-    let s = c .before .before .before .before .before .before .before .before .before .before .before .before .before .before .before .before .before in
+    let is-there = c .before .before .before in
+    let s = at-start is-there in
     let a = s .args in
-    let d = c .before .before .before .before .before .before .before .before .before .before .before .device-of .result in
-    let p = c .before .before .before .before .before .before .before .before .place .result in
+    let d = at-device-of is-there .device-of .result in
+    let p = at-place is-there .place .result in
     let f : Found (a .r .now) (a .n) (a .ids .now) d p true = record {
-      message = sym (c .before .before .before .before .before .before .before .before .before .before .before .before .before .is-message .ensures) ∙ not-false _ (c .before .before .before .before .before .before .before .before .before .before .before .before .if1 .left);
-      device = c .before .before .before .before .before .before .before .before .before .before .before .device-of .ensures;
-      place = c .before .before .before .before .before .before .before .before .place .ensures .0;
-      there = sym (c .before .before .before .is-there .ensures) ∙ c .before .before .if2 .taken;
+      message = sym (at-is-message is-there .is-message .ensures) ∙ not-false _ (at-else1 is-there .if1 .left);
+      device = at-device-of is-there .device-of .ensures;
+      place = at-place is-there .place .ensures .0;
+      there = sym (is-there .is-there .ensures) ∙ c .before .before .if2 .taken;
     } in
     let i = inside (a .r .now) (a .n) (a .ids .now) (a .table .now) d p f in
-    (subst Small (sym (c .row-at .ensures)) (s .pre .5 p i), subst Small (sym (c .before .before .before .before .before .single .ensures)) (single-small (a .r .now)))
+    (subst Small (sym (c .row-at .ensures)) (s .pre .5 p i), subst Small (sym (at-single is-there .single .ensures)) (single-small (a .r .now)))
 
 put-row-requires : tie.Need-put-row-requires
 put-row-requires c κs =
-    let s = c .before .before .before .before .before .before .before .before .before .before .before .before .before .before .before .before .before .before .before in
+    let is-there = c .before .before .before .before .before in
+    let s = at-start is-there in
     let a = s .args in
-    let d = c .before .before .before .before .before .before .before .before .before .before .before .before .before .device-of .result in
-    let p = c .before .before .before .before .before .before .before .before .before .before .place .result in
+    let d = at-device-of is-there .device-of .result in
+    let p = at-place is-there .place .result in
     let f : Found (a .r .now) (a .n) (a .ids .now) d p true = record {
-      message = sym (c .before .before .before .before .before .before .before .before .before .before .before .before .before .before .before .is-message .ensures) ∙ not-false _ (c .before .before .before .before .before .before .before .before .before .before .before .before .before .before .if1 .left);
-      device = c .before .before .before .before .before .before .before .before .before .before .before .before .before .device-of .ensures;
-      place = c .before .before .before .before .before .before .before .before .before .before .place .ensures .0;
-      there = sym (c .before .before .before .before .before .is-there .ensures) ∙ c .before .before .before .before .if2 .taken;
+      message = sym (at-is-message is-there .is-message .ensures) ∙ not-false _ (at-else1 is-there .if1 .left);
+      device = at-device-of is-there .device-of .ensures;
+      place = at-place is-there .place .ensures .0;
+      there = sym (is-there .is-there .ensures) ∙ c .before .before .before .before .if2 .taken;
     } in
     let i = inside (a .r .now) (a .n) (a .ids .now) (a .table .now) d p f in
     omega (arith, s .pre .2, s .pre .3)
@@ -96,20 +118,21 @@ same-length-3 c = search needs
 
 returns-2 : tie.Need-returns-2
 returns-2 c =
-    let s = c .before .before .before .before .before .before .before .before .before .before .before .before .before .before .before .before .before .before .before .before .before in
+    let is-there = c .before .before .before .before .before .before .before in
+    let s = at-start is-there in
     let a = s .args in
-    let d = c .before .before .before .before .before .before .before .before .before .before .before .before .before .before .before .device-of .result in
-    let p = c .before .before .before .before .before .before .before .before .before .before .before .before .place .result in
+    let d = at-device-of is-there .device-of .result in
+    let p = at-place is-there .place .result in
     let f : Found (a .r .now) (a .n) (a .ids .now) d p true = record {
-      message = sym (c .before .before .before .before .before .before .before .before .before .before .before .before .before .before .before .before .before .is-message .ensures) ∙ not-false _ (c .before .before .before .before .before .before .before .before .before .before .before .before .before .before .before .before .if1 .left);
-      device = c .before .before .before .before .before .before .before .before .before .before .before .before .before .before .before .device-of .ensures;
-      place = c .before .before .before .before .before .before .before .before .before .before .before .before .place .ensures .0;
-      there = sym (c .before .before .before .before .before .before .before .is-there .ensures) ∙ c .before .before .before .before .before .before .if2 .taken;
+      message = sym (at-is-message is-there .is-message .ensures) ∙ not-false _ (at-else1 is-there .if1 .left);
+      device = at-device-of is-there .device-of .ensures;
+      place = at-place is-there .place .ensures .0;
+      there = sym (is-there .is-there .ensures) ∙ c .before .before .before .before .before .before .if2 .taken;
     } in
     let w = joins (a .r .now) (a .n) (a .ids .now) (a .table .now) d p f (c .before .put-row .last .0)
     (c .before .put-row .ensures
-    ∙ ap (λ (r : Row). sets (a .table .now) (7 * p) (numbers r)) (c .before .before .before .merge .ensures ∙ cc (c .before .before .before .before .row-at .ensures, c .before .before .before .before .before .before .before .before .before .single .ensures))) in
-    (w .0, w .1, w .2, c .before .before .before .before .before .before .before .before .before .before .before .before .place .ensures .2)
+    ∙ ap (λ (r : Row). sets (a .table .now) (7 * p) (numbers r)) (c .before .before .before .merge .ensures ∙ cc (c .before .before .before .before .row-at .ensures, at-single is-there .single .ensures))) in
+    (w .0, w .1, w .2, at-place is-there .place .ensures .2)
 
 add-result : tie.Need-add-result
 add-result c = search needs
@@ -122,18 +145,19 @@ same-length-5 c = search needs
 
 returns-3 : tie.Need-returns-3
 returns-3 c =
-    let s = c .before .before .before .before .before .before .before .before .before .before .before .before .before .before .before .before in
+    let is-there = c .before .before in
+    let s = at-start is-there in
     let a = s .args in
-    let d = c .before .before .before .before .before .before .before .before .before .before .device-of .result in
-    let p = c .before .before .before .before .before .before .before .place .result in
+    let d = at-device-of is-there .device-of .result in
+    let p = at-place is-there .place .result in
     let f : Found (a .r .now) (a .n) (a .ids .now) d p false = record {
-      message = sym (c .before .before .before .before .before .before .before .before .before .before .before .before .is-message .ensures) ∙ not-false _ (c .before .before .before .before .before .before .before .before .before .before .before .if1 .left);
-      device = c .before .before .before .before .before .before .before .before .before .before .device-of .ensures;
-      place = c .before .before .before .before .before .before .before .place .ensures .0;
-      there = sym (c .before .before .is-there .ensures) ∙ c .before .if2 .left;
+      message = sym (at-is-message is-there .is-message .ensures) ∙ not-false _ (at-else1 is-there .if1 .left);
+      device = at-device-of is-there .device-of .ensures;
+      place = at-place is-there .place .ensures .0;
+      there = sym (is-there .is-there .ensures) ∙ c .before .if2 .left;
     } in
     let w = refuses (a .r .now) (a .n) (a .ids .now) (a .table .now) d p f (omega (arith, c .if3 .taken)) in
-    (w .0, w .1, w .2, c .before .before .before .before .before .before .before .place .ensures .2)
+    (w .0, w .1, w .2, at-place is-there .place .ensures .2)
 
 shift-ids-requires : tie.Need-shift-ids-requires
 shift-ids-requires c κs = search needs
@@ -167,20 +191,25 @@ same-length-8 c = search needs
 
 returns-4 : tie.Need-returns-4
 returns-4 c =
-    let s = c .before .before .before .before .before .before .before .before .before .before .before .before .before .before .before .before .before .before .before .before .before .before .before .before .before .before in
+    let shift-rows = c .before .before .before .before in
+    let shift-ids = shift-rows .before .before .before .before in
+    let else3 = shift-ids .before .before in
+    let else2 = else3 .before in
+    let is-there = else2 .before in
+    let s = at-start is-there in
     let a = s .args in
-    let d = c .before .before .before .before .before .before .before .before .before .before .before .before .before .before .before .before .before .before .before .before .device-of .result in
-    let p = c .before .before .before .before .before .before .before .before .before .before .before .before .before .before .before .before .before .place .result in
+    let d = at-device-of is-there .device-of .result in
+    let p = at-place is-there .place .result in
     let f : Found (a .r .now) (a .n) (a .ids .now) d p false = record {
-      message = sym (c .before .before .before .before .before .before .before .before .before .before .before .before .before .before .before .before .before .before .before .before .before .before .is-message .ensures) ∙ not-false _ (c .before .before .before .before .before .before .before .before .before .before .before .before .before .before .before .before .before .before .before .before .before .if1 .left);
-      device = c .before .before .before .before .before .before .before .before .before .before .before .before .before .before .before .before .before .before .before .before .device-of .ensures;
-      place = c .before .before .before .before .before .before .before .before .before .before .before .before .before .before .before .before .before .place .ensures .0;
-      there = sym (c .before .before .before .before .before .before .before .before .before .before .before .before .is-there .ensures) ∙ c .before .before .before .before .before .before .before .before .before .before .before .if2 .left;
+      message = sym (at-is-message is-there .is-message .ensures) ∙ not-false _ (at-else1 is-there .if1 .left);
+      device = at-device-of is-there .device-of .ensures;
+      place = at-place is-there .place .ensures .0;
+      there = sym (is-there .is-there .ensures) ∙ else2 .if2 .left;
     } in
-    let w = opens (a .r .now) (a .n) (a .ids .now) (a .table .now) d p f (omega (arith, c .before .before .before .before .before .before .before .before .before .before .if3 .left)) (set (c .before .before .before .before .before .before .before .before .shift-ids .last .0) p d) (c .before .put-row2 .last .0)
-    (ap (λ (l : List ℕ). set l p d) (c .before .before .before .before .before .before .before .before .shift-ids .ensures))
-    (c .before .put-row2 .ensures ∙ cc (c .before .before .before .before .shift-rows .ensures, c .before .before .before .before .before .before .before .before .before .before .before .before .before .before .single .ensures)) in
-    (w .0, w .1, w .2, c .before .before .before .before .before .before .before .before .before .before .before .before .before .before .before .before .before .place .ensures .2)
+    let w = opens (a .r .now) (a .n) (a .ids .now) (a .table .now) d p f (omega (arith, else3 .if3 .left)) (set (shift-ids .shift-ids .last .0) p d) (c .before .put-row2 .last .0)
+    (ap (λ (l : List ℕ). set l p d) (shift-ids .shift-ids .ensures))
+    (c .before .put-row2 .ensures ∙ cc (shift-rows .shift-rows .ensures, at-single is-there .single .ensures)) in
+    (w .0, w .1, w .2, at-place is-there .place .ensures .2)
 
 pub taken-spec : {M : Type 1} → statement M
 taken-spec =

@@ -13,6 +13,13 @@ use borrow.Author.Needs.{needs}
 use Rattle.frequency.proofs.FrequencyTracker.cfo.Statement.{statement}
 use Rattle.frequency.proofs.FrequencyTracker.cfo.Tie as tie
 
+-- The places that are cited, each from a later one.
+abbrev at-cause-cfo : tie.Else1 → tie.After-cause-cfo
+at-cause-cfo c = c .before
+
+abbrev at-start : tie.Else1 → tie.Start
+at-start c = at-cause-cfo c .before .before .before .before .before .before .before .before .before .before
+
 cause-cfo-requires : tie.Need-cause-cfo-requires
 cause-cfo-requires c κs = search needs
 
@@ -31,15 +38,20 @@ returns c =
     record { refusal = c .before .cause-cfo .ensures; state = λ e. absurd (t e); lists = λ e. absurd (t e); same-state = λ e. refl; same-lists = λ e. refl }
 
 last-freq-requires : tie.Need-last-freq-requires
-last-freq-requires c κs = let a = c .before .before .before .before .before .before .before .before .before .before .before .before .args in fine (a .self) (lists (a .at .now) (a .lo .now) (a .hz .now) (a .tuned .now) (a .freq .now)) (a .raw .now) (sym (c .before .before .cause-cfo .ensures) ∙ c .before .if1 .left) .ordered .t .places .freqs
+last-freq-requires c κs =
+    let else1 = c .before in
+    let a = at-start else1 .args in fine (a .self) (lists (a .at .now) (a .lo .now) (a .hz .now) (a .tuned .now) (a .freq .now)) (a .raw .now) (sym (at-cause-cfo else1 .cause-cfo .ensures) ∙ else1 .if1 .left) .ordered .t .places .freqs
 
 last-tuned-requires : tie.Need-last-tuned-requires
-last-tuned-requires c κs = let a = c .before .before .before .before .before .before .before .before .before .before .before .before .before .args in fine (a .self) (lists (a .at .now) (a .lo .now) (a .hz .now) (a .tuned .now) (a .freq .now)) (a .raw .now) (sym (c .before .before .before .cause-cfo .ensures) ∙ c .before .before .if1 .left) .ordered .t .places .tuneds
+last-tuned-requires c κs =
+    let else1 = c .before .before in
+    let a = at-start else1 .args in fine (a .self) (lists (a .at .now) (a .lo .now) (a .hz .now) (a .tuned .now) (a .freq .now)) (a .raw .now) (sym (at-cause-cfo else1 .cause-cfo .ensures) ∙ else1 .if1 .left) .ordered .t .places .tuneds
 
 read-values-requires : tie.Need-read-values-requires
 read-values-requires c κs =
-    let a = c .before .before .before .before .before .before .before .before .before .before .before .before .before .before .before .before .before .args in
-    let f = fine (a .self) (lists (a .at .now) (a .lo .now) (a .hz .now) (a .tuned .now) (a .freq .now)) (a .raw .now) (sym (c .before .before .before .before .before .before .before .cause-cfo .ensures) ∙ c .before .before .before .before .before .before .if1 .left) in
+    let else1 = c .before .before .before .before .before .before in
+    let a = at-start else1 .args in
+    let f = fine (a .self) (lists (a .at .now) (a .lo .now) (a .hz .now) (a .tuned .now) (a .freq .now)) (a .raw .now) (sym (at-cause-cfo else1 .cause-cfo .ensures) ∙ else1 .if1 .left) in
     let h = f .ordered .t .signals .upto in
     let m = f .ordered .t .signals .stream in
     (f .rate, subst (λ (z : ℕ). z ≤ longestStream) (sym (c .before .before .before .last-tuned .ensures)) (last-upto (a .self) (lists (a .at .now) (a .lo .now) (a .hz .now) (a .tuned .now) (a .freq .now)) (f .ordered)), omega arith, f .few, f .places .ats, f .places .los, f .places .hzs)
@@ -55,17 +67,21 @@ same-length-6 c = search needs
 
 returns-2 : tie.Need-returns-2
 returns-2 c =
-    let a = c .before .before .before .before .before .before .before .before .before .before .before .before .before .before .before .before .before .before .before .before .before .before .before .before .args in
+    let read-values = c .before .before .before .before .before .before in
+    let last-tuned = read-values .before .before .before .before in
+    let last-freq = last-tuned .before in
+    let else1 = last-freq .before .before in
+    let a = at-start else1 .args in
     let s = a .self in
-    let f = fine (a .self) (lists (a .at .now) (a .lo .now) (a .hz .now) (a .tuned .now) (a .freq .now)) (a .raw .now) (sym (c .before .before .before .before .before .before .before .before .before .before .before .before .before .before .cause-cfo .ensures) ∙ c .before .before .before .before .before .before .before .before .before .before .before .before .before .if1 .left) in
-    let y = c .before .before .before .before .before .before .read-values in
+    let f = fine (a .self) (lists (a .at .now) (a .lo .now) (a .hz .now) (a .tuned .now) (a .freq .now)) (a .raw .now) (sym (at-cause-cfo else1 .cause-cfo .ensures) ∙ else1 .if1 .left) in
+    let y = read-values .read-values in
     let at′ = y .last .1 .1 .1 .1 .1 .1 .1 .1 .0 in
     let lo′ = y .last .1 .1 .1 .1 .1 .1 .1 .1 .1 .0 in
     let hz′ = y .last .1 .1 .1 .1 .1 .1 .1 .1 .1 .1 .0 in
-    let q = subst (λ (z : ℕ). Appended (readingsFrom (s .rate) (s .«step_hz») (ltb 1 (s .tunings)) z (lastOr (s .«base_freq») (take (s .tunings) (a .freq .now))) (s .«line_start») (a .raw .now)) (s .readings) (a .at .now) (a .lo .now) (a .hz .now) (y .result) at′ lo′ hz′) (c .before .before .before .before .before .before .before .before .before .before .last-tuned .ensures)
-    (subst (λ (z : ℕ). Appended (readingsFrom (s .rate) (s .«step_hz») (ltb 1 (s .tunings)) (c .before .before .before .before .before .before .before .before .before .before .last-tuned .result) z (s .«line_start») (a .raw .now)) (s .readings) (a .at .now) (a .lo .now) (a .hz .now) (y .result) at′ lo′ hz′) (c .before .before .before .before .before .before .before .before .before .before .before .last-freq .ensures) (y .ensures)) in
+    let q = subst (λ (z : ℕ). Appended (readingsFrom (s .rate) (s .«step_hz») (ltb 1 (s .tunings)) z (lastOr (s .«base_freq») (take (s .tunings) (a .freq .now))) (s .«line_start») (a .raw .now)) (s .readings) (a .at .now) (a .lo .now) (a .hz .now) (y .result) at′ lo′ hz′) (last-tuned .last-tuned .ensures)
+    (subst (λ (z : ℕ). Appended (readingsFrom (s .rate) (s .«step_hz») (ltb 1 (s .tunings)) (last-tuned .last-tuned .result) z (s .«line_start») (a .raw .now)) (s .readings) (a .at .now) (a .lo .now) (a .hz .now) (y .result) at′ lo′ hz′) (last-freq .last-freq .ensures) (y .ensures)) in
     record {
-      refusal = sym (c .before .before .before .before .before .before .before .before .before .before .before .before .before .if1 .left) ∙ c .before .before .before .before .before .before .before .before .before .before .before .before .before .before .cause-cfo .ensures;
+      refusal = sym (else1 .if1 .left) ∙ at-cause-cfo else1 .cause-cfo .ensures;
       state = λ z. cfo-state s (lists (a .at .now) (a .lo .now) (a .hz .now) (a .tuned .now) (a .freq .now)) (a .raw .now) f (y .result) at′ lo′ hz′ q _ refl;
       lists = λ z. cfo-lists s (lists (a .at .now) (a .lo .now) (a .hz .now) (a .tuned .now) (a .freq .now)) (a .raw .now) f (y .result) at′ lo′ hz′ q;
       same-state = λ z. absurd (z refl);

@@ -10,6 +10,19 @@ use borrow.Author.Needs.{needs}
 use Rattle.frequency.proofs.FrequencyTracker.tuned.Statement.{statement}
 use Rattle.frequency.proofs.FrequencyTracker.tuned.Tie as tie
 
+-- The places that are cited, each from a later one.
+abbrev at-answer : tie.After-is-due → tie.After-answer
+at-answer c = c .before .before
+
+abbrev at-else1 : tie.After-is-due → tie.Else1
+at-else1 c = at-answer c .before .before
+
+abbrev at-cause-tuned : tie.Else1 → tie.After-cause-tuned
+at-cause-tuned c = c .before
+
+abbrev at-start : tie.Else1 → tie.Start
+at-start c = at-cause-tuned c .before .before .before .before .before
+
 cause-tuned-requires : tie.Need-cause-tuned-requires
 cause-tuned-requires c κs = search needs
 
@@ -28,14 +41,18 @@ answer-requires : tie.Need-answer-requires
 answer-requires c κs = search needs
 
 is-due-requires : tie.Need-is-due-requires
-is-due-requires c κs = let a = c .before .before .before .before .before .before .before .before .before .args in fine (a .self) (a .tuned .now) (a .freq .now) (a .hz) (sym (c .before .before .before .before .cause-tuned .ensures) ∙ c .before .before .before .if1 .left) .ordered .places .freqs
+is-due-requires c κs =
+    let else1 = c .before .before .before in
+    let a = at-start else1 .args in fine (a .self) (a .tuned .now) (a .freq .now) (a .hz) (sym (at-cause-tuned else1 .cause-tuned .ensures) ∙ else1 .if1 .left) .ordered .places .freqs
 
 put-tuning-requires : tie.Need-put-tuning-requires
 unfolding dueOf
 put-tuning-requires c κs =
-    let a = c .before .before .before .before .before .before .before .before .before .before .before .before .args in
+    let is-due = c .before .before in
+    let else1 = at-else1 is-due in
+    let a = at-start else1 .args in
     λ e.
-    let f = fine (a .self) (a .tuned .now) (a .freq .now) (a .hz) (sym (c .before .before .before .before .before .before .before .cause-tuned .ensures) ∙ c .before .before .before .before .before .before .if1 .left) .free (sym (c .before .before .is-due .ensures) ∙ e) in
+    let f = fine (a .self) (a .tuned .now) (a .freq .now) (a .hz) (sym (at-cause-tuned else1 .cause-tuned .ensures) ∙ else1 .if1 .left) .free (sym (is-due .is-due .ensures) ∙ e) in
     (omega (arith, f .tuneds), omega (arith, f .freqs))
 
 same-length-3 : tie.Need-same-length-3
@@ -47,14 +64,16 @@ same-length-4 c = search needs
 returns-2 : tie.Need-returns-2
 unfolding dueOf
 returns-2 c =
-    let a = c .before .before .before .before .before .before .before .before .before .before .before .before .before .before .before .before .before .args in
-    let f = fine (a .self) (a .tuned .now) (a .freq .now) (a .hz) (sym (c .before .before .before .before .before .before .before .before .before .before .before .before .cause-tuned .ensures) ∙ c .before .before .before .before .before .before .before .before .before .before .before .if1 .left) in
+    let is-due = c .before .before .before .before .before .before .before in
+    let else1 = at-else1 is-due in
+    let a = at-start else1 .args in
+    let f = fine (a .self) (a .tuned .now) (a .freq .now) (a .hz) (sym (at-cause-tuned else1 .cause-tuned .ensures) ∙ else1 .if1 .left) in
     let y = c .before .before .before .before .put-tuning in
     let q : PutTuning (dueOf (a .self) (a .freq .now) (a .hz)) (a .self .tunings) (a .self .signal .n) (a .hz) (a .tuned .now) (a .freq .now) (y .result) (y .last .1 .1 .1 .1 .0) (y .last .1 .1 .1 .1 .1 .0) =
-    subst (λ (b : Bool). PutTuning b (a .self .tunings) (a .self .signal .n) (a .hz) (a .tuned .now) (a .freq .now) (y .result) (y .last .1 .1 .1 .1 .0) (y .last .1 .1 .1 .1 .1 .0)) (c .before .before .before .before .before .before .before .is-due .ensures) (y .ensures) in
+    subst (λ (b : Bool). PutTuning b (a .self .tunings) (a .self .signal .n) (a .hz) (a .tuned .now) (a .freq .now) (y .result) (y .last .1 .1 .1 .1 .0) (y .last .1 .1 .1 .1 .1 .0)) (is-due .is-due .ensures) (y .ensures) in
     record {
-      refusal = sym (c .before .before .before .before .before .before .before .before .before .before .before .if1 .left) ∙ c .before .before .before .before .before .before .before .before .before .before .before .before .cause-tuned .ensures;
-      state = λ z at lo hz b. tuned-state (a .self) (a .tuned .now) (a .freq .now) (a .hz) f at lo hz b (y .result) _ _ q _ (ap (λ (g : Frequency). made (a .self) (y .result) g) (c .before .before .before .before .before .before .before .before .before .answer .ensures));
+      refusal = sym (else1 .if1 .left) ∙ at-cause-tuned else1 .cause-tuned .ensures;
+      state = λ z at lo hz b. tuned-state (a .self) (a .tuned .now) (a .freq .now) (a .hz) f at lo hz b (y .result) _ _ q _ (ap (λ (g : Frequency). made (a .self) (y .result) g) (at-answer is-due .answer .ensures));
       lent = λ z at lo hz b. tuned-lists (a .self) (a .tuned .now) (a .freq .now) (a .hz) f at lo hz b (y .result) _ _ q;
       same-state = λ z. absurd (z refl);
       same-lent = λ z. absurd (z refl);

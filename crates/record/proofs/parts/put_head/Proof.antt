@@ -57,16 +57,17 @@ same-length c = search needs
 
 returns : tie.Need-returns
 unfolding headBytes
-returns c = let e = c .before .before .before .before .before .before .before .before .before .before .before .before .before .before .before .before .before .before .before .before .before .before .before .before .before .before .before .before .before .before in
+returns c =
+    let s5 = c .before .before .before .before .before .before .before in
+    let s4 = s5 .before .before .before .before in
+    let s3 = s4 .before .before .before .before in
+    let s2 = s3 .before .before .before .before in
+    let s1 = s2 .before .before .before .before in
+    let s0 = s1 .before .before .before .before in
+    let e = s0 .before .before .before in
     let l = e .args .out .now in
     let at = e .args .at in
     let h = e .args .h in
-    let s0 = c .before .before .before .before .before .before .before .before .before .before .before .before .before .before .before .before .before .before .before .before .before .before .before .before .before .before .before in
-    let s1 = c .before .before .before .before .before .before .before .before .before .before .before .before .before .before .before .before .before .before .before .before .before .before .before in
-    let s2 = c .before .before .before .before .before .before .before .before .before .before .before .before .before .before .before .before .before .before .before in
-    let s3 = c .before .before .before .before .before .before .before .before .before .before .before .before .before .before .before in
-    let s4 = c .before .before .before .before .before .before .before .before .before .before .before in
-    let s5 = c .before .before .before .before .before .before .before in
     let s6 = c .before .before in
     let f0 : s0 .put-byte .last .0 ≡ sets l at (h .kind ∷ []) = s0 .put-byte .ensures in
     let f1 : s1 .put-byte2 .last .0 ≡ sets l at (h .kind ∷ h .rank ∷ []) =

@@ -35,12 +35,13 @@ same-length c = search needs
 
 returns : tie.Need-returns
 unfolding rankBytes
-returns c = let e = c .before .before .before .before .before .before .before .before .before .before .before .before .before .before .before .before .before in
+returns c =
+    let s2 = c .before .before .before .before .before .before in
+    let s1 = s2 .before .before .before .before in
+    let s0 = s1 .before .before .before .before in
+    let e = s0 .before .before .before in
     let l = e .args .out .now in
     let at = e .args .at in
-    let s0 = c .before .before .before .before .before .before .before .before .before .before .before .before .before .before in
-    let s1 = c .before .before .before .before .before .before .before .before .before .before in
-    let s2 = c .before .before .before .before .before .before in
     let s3 = c .before .before in
     let f0 : s0 .put-byte .last .0 ≡ sets l at (e .args .a ∷ []) = s0 .put-byte .ensures in
     let f1 : s1 .put-byte2 .last .0 ≡ sets l at (e .args .a ∷ e .args .b ∷ []) =
