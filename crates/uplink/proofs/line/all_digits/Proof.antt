@@ -14,6 +14,16 @@ Inv-loop line from base i₀ i = (i ≤ length line) × (areDigits base (word (d
 abbrev μ-loop : tie.MeasureT-loop
 μ-loop line from base i₀ i = length line - i
 
+-- The places that are cited, each from a later one.
+abbrev at-else1 : tie.After-digit-of Inv-loop μ-loop → tie.Else1 Inv-loop μ-loop
+at-else1 c = c .before .before
+
+abbrev at-loop : tie.After-digit-of Inv-loop μ-loop → tie.At-loop Inv-loop μ-loop
+at-loop c = at-else1 c .before .before .before
+
+abbrev at-start : tie.After-digit-of Inv-loop μ-loop → tie.Start Inv-loop μ-loop
+at-start c = at-loop c .before .before
+
 loop-holds : tie.Need-loop-holds Inv-loop μ-loop
 loop-holds c = (search needs, refl)
 
@@ -30,7 +40,9 @@ digit-of-requires : tie.Need-digit-of-requires Inv-loop μ-loop
 digit-of-requires c κs = search needs
 
 returns-2 : tie.Need-returns-2 Inv-loop μ-loop
-returns-2 c = let l = c .before .before .before .before .before .before .loop in let a = c .before .before .before .before .before .before .before .before .args in digits-stop (a .line .now) (l .i) (a .base) (c .before .digit-of .result) _ (c .before .before .before .before .before .loop-test .taken) (c .before .before .before .if1 .left) (c .before .digit-of .ensures .0) (c .if2 .taken) (l .inv .1)
+returns-2 c =
+    let digit-of = c .before in
+    let l = at-loop digit-of .loop in let a = at-start digit-of .args in digits-stop (a .line .now) (l .i) (a .base) (digit-of .digit-of .result) _ (at-else1 digit-of .before .before .loop-test .taken) (at-else1 digit-of .if1 .left) (digit-of .digit-of .ensures .0) (c .if2 .taken) (l .inv .1)
 
 add-i : tie.Need-add-i Inv-loop μ-loop
 add-i c = search needs
@@ -39,7 +51,9 @@ loop-less : tie.Need-loop-less Inv-loop μ-loop
 loop-less c = search needs
 
 loop-again : tie.Need-loop-again Inv-loop μ-loop
-loop-again c = let l = c .before .before .before .before .before .before .loop in let a = c .before .before .before .before .before .before .before .before .args in (search needs, digits-turn (a .line .now) (l .i) (a .base) (c .before .digit-of .result) _ (c .before .before .before .before .before .loop-test .taken) (c .before .before .before .if1 .left) (c .before .digit-of .ensures .0) (c .if2 .left) (l .inv .1))
+loop-again c =
+    let digit-of = c .before in
+    let l = at-loop digit-of .loop in let a = at-start digit-of .args in (search needs, digits-turn (a .line .now) (l .i) (a .base) (digit-of .digit-of .result) _ (at-else1 digit-of .before .before .loop-test .taken) (at-else1 digit-of .if1 .left) (digit-of .digit-of .ensures .0) (c .if2 .left) (l .inv .1))
 
 returns-3 : tie.Need-returns-3 Inv-loop μ-loop
 returns-3 c = let l = c .before .loop in let a = c .before .before .before .args in digits-past (a .line .now) (l .i) (a .base) _ (c .loop-test .left) (l .inv .1)

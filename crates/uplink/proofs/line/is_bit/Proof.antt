@@ -38,7 +38,11 @@ digit-of-requires : tie.Need-digit-of-requires
 digit-of-requires c κs = search needs
 
 returns-2 : tie.Need-returns-2
-returns-2 c = let a = c .before .before .before .before .before .before .before .before .args in bit-is (a .line .now) (a .from) (c .before .before .before .before .before .before .word-end .result) (c .before .before .before .before .before .before .word-end .ensures .0) (c .before .before .before .before .before .if1 .left) (c .digit-of .result) (c .digit-of .ensures .0)
+returns-2 c =
+    let else1 = c .before .before .before .before .before in
+    let word-end = else1 .before in
+    let start = word-end .before .before in
+    let a = start .args in bit-is (a .line .now) (a .from) (word-end .word-end .result) (word-end .word-end .ensures .0) (else1 .if1 .left) (c .digit-of .result) (c .digit-of .ensures .0)
 
 pub is-bit-spec : {M : Type 1} → statement M
 is-bit-spec =

@@ -49,7 +49,12 @@ loop-less : tie.Need-loop-less Inv-loop μ-loop
 loop-less c = search needs
 
 loop-again : tie.Need-loop-again Inv-loop μ-loop
-loop-again c = let l = c .before .before .before .before .before .before .loop in let a = c .before .before .before .before .before .before .before .before .args in (search needs, c .least .ensures .1, number-turn (a .line .now) (l .i) (a .base) (a .most) (l .n) _ (c .before .digit-of .result) (l .n * a .base + c .before .digit-of .result) (c .least .result) (c .before .before .before .before .before .loop-test .taken) (c .before .before .before .if1 .left) (c .before .digit-of .ensures .0) refl (c .least .ensures .0) (l .inv .2))
+loop-again c =
+    let else1 = c .before .before .before in
+    let loop-test = else1 .before .before in
+    let loop = loop-test .before in
+    let start = loop .before .before in
+    let l = loop .loop in let a = start .args in (search needs, c .least .ensures .1, number-turn (a .line .now) (l .i) (a .base) (a .most) (l .n) _ (c .before .digit-of .result) (l .n * a .base + c .before .digit-of .result) (c .least .result) (loop-test .loop-test .taken) (else1 .if1 .left) (c .before .digit-of .ensures .0) refl (c .least .ensures .0) (l .inv .2))
 
 returns-2 : tie.Need-returns-2 Inv-loop μ-loop
 returns-2 c = let l = c .before .loop in let a = c .before .before .before .args in (number-past (a .line .now) (l .i) (a .base) (a .most) (l .n) _ (c .loop-test .left) (l .inv .2), search needs)

@@ -14,6 +14,13 @@ Inv-loop line from out₀ n₀ i₀ out n i = (i ≤ length line) × (2 * n ≤ 
 abbrev μ-loop : tie.MeasureT-loop
 μ-loop line from out₀ n₀ i₀ out n i = length line - i
 
+-- The places that are cited, each from a later one.
+abbrev at-loop : tie.Else1 Inv-loop μ-loop → tie.At-loop Inv-loop μ-loop
+at-loop c = c .before .before .before
+
+abbrev at-start : tie.Else1 Inv-loop μ-loop → tie.Start Inv-loop μ-loop
+at-start c = at-loop c .before .before .before
+
 loop-holds : tie.Need-loop-holds Inv-loop μ-loop
 loop-holds c = let a = c .before .before .args in (search needs, search needs, refl, stored-start (a .line .now) (a .out .now) (a .from))
 
@@ -39,7 +46,9 @@ same-length-2 : tie.Need-same-length-2 Inv-loop μ-loop
 same-length-2 c = c .before .before .before .before .before .loop .inv .2
 
 returns-2 : tie.Need-returns-2 Inv-loop μ-loop
-returns-2 c = let l = c .before .before .before .before .before .loop in let a = c .before .before .before .before .before .before .before .before .args in stored-end (a .line .now) (a .out .now) (a .from) (l .out) (l .n) (l .i) (none-next (a .line .now) (l .i) (c .before .before .before .before .loop-test .taken) (c .before .before .if1 .left) (c .if2 .taken)) (l .inv .3)
+returns-2 c =
+    let else1 = c .before .before in
+    let l = at-loop else1 .loop in let a = at-start else1 .args in stored-end (a .line .now) (a .out .now) (a .from) (l .out) (l .n) (l .i) (none-next (a .line .now) (l .i) (else1 .before .before .loop-test .taken) (else1 .if1 .left) (c .if2 .taken)) (l .inv .3)
 
 shared-slice-read-byte-of : tie.Need-shared-slice-read-byte-of Inv-loop μ-loop
 shared-slice-read-byte-of c = search needs
@@ -54,7 +63,11 @@ byte-of-requires : tie.Need-byte-of-requires Inv-loop μ-loop
 byte-of-requires c κs = search needs
 
 slice-write-out : tie.Need-slice-write-out Inv-loop μ-loop
-slice-write-out c = let l = c .before .before .before .before .before .before .before .before .loop in omega (arith, l .inv .1, l .inv .2, c .before .before .before .before .before .before .before .before .before .before .before .pre .1, c .before .before .before .before .before .before .before .loop-test .taken)
+slice-write-out c =
+    let loop-test = c .before .before .before .before .before .before .before in
+    let loop = loop-test .before in
+    let start = loop .before .before .before in
+    let l = loop .loop in omega (arith, l .inv .1, l .inv .2, start .pre .1, loop-test .loop-test .taken)
 
 add-n : tie.Need-add-n Inv-loop μ-loop
 add-n c = search needs
@@ -66,7 +79,9 @@ loop-less : tie.Need-loop-less Inv-loop μ-loop
 loop-less c = search needs
 
 loop-again : tie.Need-loop-again Inv-loop μ-loop
-loop-again c = let l = c .before .before .before .before .before .before .before .before .loop in let a = c .before .before .before .before .before .before .before .before .before .before .before .args in let h = c .before .before .before .before .before .before .before .loop-test .taken in (omega arith, omega (arith, l .inv .1), simp length-set (l .inv .2), stored-turn (a .line .now) (a .out .now) (a .from) (l .out) (l .n) (l .i) (c .byte-of .result) (two-more (a .line .now) (l .i) h (c .before .before .before .before .before .if1 .left) (c .before .before .before .if2 .left) (c .byte-of .result) (c .byte-of .ensures)) (l .inv .3))
+loop-again c =
+    let else1 = c .before .before .before .before .before in
+    let l = at-loop else1 .loop in let a = at-start else1 .args in let h = else1 .before .before .loop-test .taken in (omega arith, omega (arith, l .inv .1), simp length-set (l .inv .2), stored-turn (a .line .now) (a .out .now) (a .from) (l .out) (l .n) (l .i) (c .byte-of .result) (two-more (a .line .now) (l .i) h (else1 .if1 .left) (c .before .before .before .if2 .left) (c .byte-of .result) (c .byte-of .ensures)) (l .inv .3))
 
 same-length-3 : tie.Need-same-length-3 Inv-loop μ-loop
 same-length-3 c = c .before .loop .inv .2

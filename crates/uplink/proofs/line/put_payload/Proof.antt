@@ -31,10 +31,14 @@ same-length c = search needs
 
 returns-3 : tie.Need-returns-3
 returns-3 c =
-    let e = c .before .before .before .before .before .before .before .before .before .before in
+    let else2 = c .before .before .before .before in
+    let is-none = else2 .before in
+    let else1 = is-none .before in
+    let is-bit = else1 .before in
+    let e = is-bit .before .before .before in
     let a = e .args in
     let p = c .before .before .put-bytes in
-    payload-read (a .line .now) (a .out .now) _ (a .from) (p .result) (e .pre .1) (sym (c .before .before .before .before .before .before .before .is-bit .ensures) ∙ c .before .before .before .before .before .before .if1 .left) (sym (c .before .before .before .before .before .is-none .ensures) ∙ c .before .before .before .before .if2 .left) (p .ensures .0) (p .ensures .1)
+    payload-read (a .line .now) (a .out .now) _ (a .from) (p .result) (e .pre .1) (sym (is-bit .is-bit .ensures) ∙ else1 .if1 .left) (sym (is-none .is-none .ensures) ∙ else2 .if2 .left) (p .ensures .0) (p .ensures .1)
 
 pub put-payload-spec : {M : Type 1} → statement M
 put-payload-spec =
