@@ -48,7 +48,7 @@ fn push_chunk(
     let closed = [0u32; 0];
     let mut at: usize = 0;
     while at < raw.len() {
-        let n = dips::least(step, raw.len() - at);
+        let n = whole::least(step, raw.len() - at);
         let end = at + n;
         if receiver.adds_raw(
             &raw[at..end],

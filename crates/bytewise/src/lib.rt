@@ -5,7 +5,6 @@ ghost use mathlib.Core.Bool.{true};
 ghost use mathlib.Core.List.{_++_};
 ghost use Prim.Native.Nat.{_≤_, _<_};
 ghost use lib.ListN.{length, drop};
-ghost use Rattle.coding.specs.Bits.{bitOf};
 ghost use Rattle.coding.specs.Convolution.{numbered};
 ghost use Rattle.conv_tables.specs.Tables.{decodedByte, nextState, decodedTable, nextTable};
 ghost use Rattle.bytewise.specs.Steps.{byBytes, stateBytes};
@@ -34,16 +33,10 @@ struct Step {
     state: u8,
 }
 
-fn one_if(b: bool) -> u8
-    ensures { λ r. ⌜ r ≡ bitOf b ⌝ }
-{
-    if b { 1 } else { 0 }
-}
-
 fn number_of(s: ConvState) -> u8
     ensures { λ r. ⌜ (numbered r ≡ stateIs s) × (r < 4) ⌝ }
 {
-    2 * one_if(s.last) + one_if(s.second)
+    2 * whole::one_if8(s.last) + whole::one_if8(s.second)
 }
 
 fn state_of(n: u8) -> ConvState

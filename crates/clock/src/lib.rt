@@ -1,8 +1,8 @@
 // The bit clock, recovered from the dips of a burst, and the bits between them (demod.rs `burst_bits`).
 ghost use mathlib.Core.Path.{_≡_};
-ghost use mathlib.Core.Bool.{true, false, cond};
+ghost use mathlib.Core.Bool.{true, false};
 ghost use mathlib.Core.List.{_∷_, _++_};
-ghost use Prim.Native.Nat.{_<_, _≤_, _-_, _*_, _/_, max};
+ghost use Prim.Native.Nat.{_<_, _≤_, _-_, _*_, _/_};
 ghost use lib.ListN.{length, take, drop, getD};
 ghost use lib.Ieee.{nan, lt, toUnsigned, binary64};
 ghost use Rattle.order.specs.Order.{kth, Numbers};
@@ -91,7 +91,7 @@ fn anchor_of(dips: &[f64], n: usize, nominal: f64) -> f64
     ensures { λ r. ⌜ r ≡ anchor nominal (getD (now (dips .entry)) 0 nan) (take n (now (dips .entry))) ⌝ }
 {
     let d0 = dips[0];
-    let end = dips::least(n, ANCHORS);
+    let end = whole::least(n, ANCHORS);
     let mut s = 0.0;
     let mut c = 0.0;
     let mut i: usize = 0;
@@ -184,12 +184,6 @@ fn refit_clock(c: Clock) -> Clock
     c
 }
 
-fn pick_place(t: bool, a: usize, b: usize) -> usize
-    ensures { λ r. ⌜ r ≡ cond t a b ⌝ }
-{
-    if t { a } else { b }
-}
-
 // A point more.
 fn sum_point(c: Clock, d: f64, k: f64) -> Clock
     requires { ⌜ (c .count < scratch64) × (lost k ≡ false) ⌝ }
@@ -204,7 +198,7 @@ fn sum_point(c: Clock, d: f64, k: f64) -> Clock
         skk: c.skk + k * k,
         skd: c.skd + k * d,
         count: c.count + 1,
-        first: pick_place(c.count == 0, p, c.first),
+        first: whole::pick(c.count == 0, p, c.first),
         last: p,
     }
 }
@@ -342,12 +336,6 @@ fn level_of(seg: &[f32]) -> f32
     order::select32(seg, LEVEL_TENTHS * seg.len() / 10)
 }
 
-fn greatest(a: usize, b: usize) -> usize
-    ensures { λ r. ⌜ r ≡ max a b ⌝ }
-{
-    if a < b { b } else { a }
-}
-
 // The median of the depths of n points' dips: index n / 2 of their order (02, request 05).
 fn median_depth(points: &[f64], n: usize) -> f64
     requires { ⌜ (0 < n) × (n ≤ depthsAt) × (scratch64 ≤ length (now points)) × Numbers (take n (drop depthsAt (now points))) ⌝ }
@@ -379,9 +367,9 @@ fn clocked_bits(
         return BurstBits::Nothing;
     }
     let first = c.first;
-    let end = greatest(c.last, place_of(k));
+    let end = whole::greatest(c.last, place_of(k));
     let count = end - first + 2;
-    let len = dips::least(count, limits::MOST_BITS);
+    let len = whole::least(count, limits::MOST_BITS);
     write_bits(points, n, first, len, bits);
     BurstBits::Bits(
         count,

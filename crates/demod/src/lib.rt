@@ -2,7 +2,7 @@
 ghost use mathlib.Core.Path.{_≡_};
 ghost use mathlib.Core.Bool.{true};
 ghost use mathlib.Core.List.{_++_};
-ghost use Prim.Native.Nat.{_≤_, _+_, _*_, max};
+ghost use Prim.Native.Nat.{_≤_, _+_, _*_};
 ghost use lib.ListN.{length, drop};
 ghost use lib.Seq.{sets};
 ghost use Rattle.limits.specs.Limits.{lowestRate, highestRate, bufferS, scratch64, mostSamples, longestStream, recordSize, eventsSize};
@@ -70,7 +70,7 @@ const MOST_DEPTH: usize = 255;
 fn depth_byte(depth: f64) -> u8
     ensures { λ r. ⌜ r ≡ depthByte depth ⌝ }
 {
-    dips::least(
+    whole::least(
         MOST_DEPTH,
         floats::to_usize_saturating(floats::floor64(depth * 2.0)),
     ) as u8
@@ -116,7 +116,7 @@ fn decode_segment(
         clock::BurstBits::Refused(_) => no_frame(frame::Outcome::Nothing),
         clock::BurstBits::Nothing => no_frame(frame::Outcome::Nothing),
         clock::BurstBits::Bits(count, _, ppm, _, _, depth) => {
-            let len = dips::least(count, limits::MOST_BITS);
+            let len = whole::least(count, limits::MOST_BITS);
             heard(
                 frame::decode_bits(&bits[..len]),
                 time,
@@ -140,12 +140,6 @@ fn margin(rate: u32) -> usize
     ((rate + PAD_PART / 2) / PAD_PART) as usize
 }
 
-fn greatest(a: usize, b: usize) -> usize
-    ensures { λ r. ⌜ r ≡ max a b ⌝ }
-{
-    if a < b { b } else { a }
-}
-
 // t0 + i / rate
 fn time_at(t0: f64, rate: u32, i: usize) -> f64
     requires { ⌜ i ≤ longestStream ⌝ }
@@ -166,8 +160,8 @@ pub fn decode_within(
     ensures { λ r. ⌜ r ≡ shown (accepted (decodeBurst (now (dbm .entry)) rate burst t0)) ⌝ }
 {
     let pad = margin(rate);
-    let from = dips::least(dips::back(burst.start, pad), dbm.len());
-    let to = greatest(from, dips::least(burst.end + pad, dbm.len()));
+    let from = whole::least(dips::back(burst.start, pad), dbm.len());
+    let to = whole::greatest(from, whole::least(burst.end + pad, dbm.len()));
     let time = time_at(t0, rate, burst.start);
     let end = time_at(t0, rate, burst.end);
     decode_segment(&dbm[from..to], rate, scratch, time, end, burst.peak_dbm)

@@ -1,7 +1,7 @@
 // The dips of a burst's envelope, at the phase reversals (demod.rs `find_dips`).
 ghost use mathlib.Core.Path.{_≡_};
 ghost use mathlib.Core.Bool.{true, not, _||_};
-ghost use Prim.Native.Nat.{_<_, _≤_, _+_, _-_, _*_, min};
+ghost use Prim.Native.Nat.{_<_, _≤_, _+_, _-_, _*_};
 ghost use lib.ListN.{length, getD};
 ghost use lib.Seq.{slice};
 ghost use lib.Ieee.{nan, lt, le};
@@ -55,13 +55,6 @@ pub fn back(i: usize, n: usize) -> usize
     if n < i { i - n } else { 0 }
 }
 
-// The lesser of two, where a window ends at the last sample.
-pub fn least(a: usize, b: usize) -> usize
-    ensures { λ r. ⌜ r ≡ min a b ⌝ }
-{
-    if a < b { a } else { b }
-}
-
 // A side level of sample i, which passed its neighbours: the highest sample from an index to another, that one not in.
 fn side_level(seg: &[f32], half: usize, i: usize, from: usize, to: usize) -> f32
     requires { ⌜ (neighbours half (now seg) i ≡ true) × (from ≤ to) × (to ≤ length (now seg)) ⌝ }
@@ -86,7 +79,7 @@ fn sides_high(seg: &[f32], win: usize, half: usize, level: f64, i: usize) -> Tes
     let v = std::num::f32_to_f64_with_nan(seg[i]);
     let l = side_level(seg, half, i, back(i, win), i);
     let left = std::num::f32_to_f64_with_nan(l);
-    let r = side_level(seg, half, i, i + 1, least(i + 1 + win, seg.len()));
+    let r = side_level(seg, half, i, i + 1, whole::least(i + 1 + win, seg.len()));
     let right = std::num::f32_to_f64_with_nan(r);
     let lower = floats::pick64(right < left, right, left);
     let higher = floats::pick64(left < right, right, left);
@@ -125,7 +118,7 @@ fn neighbours_higher(seg: &[f32], half: usize, i: usize) -> bool
     ensures { λ r. ⌜ r ≡ neighbours half (now (seg .entry)) i ⌝ }
 {
     let v = seg[i];
-    let end = least(i + half + 1, seg.len());
+    let end = whole::least(i + half + 1, seg.len());
     let mut k = back(i, half);
     while k < end {
         if speaks_against(v, i, k, seg[k]) {

@@ -1,12 +1,12 @@
 -- Laws of a list of event records: the record at each place, the tests of a list that goes on, and of one in another order. Assumes nothing.
 use mathlib.Core.Path.{_≡_, refl, sym, ap, _∙_}
 use mathlib.Core.Bool.{Bool, true, false, _&&_}
-use mathlib.Core.List.{List, [], _∷_, List·Permᴰ, List·Permᴰ·nil, List·Permᴰ·cons, List·Permᴰ·swap, List·Permᴰ·trans}
-use Prim.Native.Nat.{ℕ, zero, suc, _+_, _-_, _*_, _^_, _≤_, _<_}
+use mathlib.Core.List.{List, [], _∷_, _++_, List·Permᴰ, List·Permᴰ·nil, List·Permᴰ·cons, List·Permᴰ·swap, List·Permᴰ·trans}
+use Prim.Native.Nat.{ℕ, zero, suc, _+_, _-_, _*_, _%_, _^_, _≤_, _<_}
 use native.Mathlib.Omega.{arith}
 use native.Mathlib.Numerals.{add-one}
-use lib.ListN.{length, getD, take, drop}
-use lib.Seq.{drop-cons, drop-drop, drop-length}
+use lib.ListN.{length, getD, take, drop, length-append, length-drop}
+use lib.Seq.{drop-cons, drop-drop, drop-length, take-append-le, drop-append-le}
 use Rattle.limits.specs.Limits.{recordSize, mostRecordBytes}
 use Rattle.limits.proofs.Samples.{and-assoc, and-true}
 use Rattle.event_list.specs.Events.{recordsOf, wholes, eventsOf, recordOk, allOk, listOk, Reordered}
@@ -44,6 +44,29 @@ event-part l i h = ap (λ (k : ℕ). take k (drop (120 * i) l)) (size i) ∙ sym
 pub events-few : (l : List ℕ) → length l ≤ mostRecordBytes → length (eventsOf l) ≤ 2 ^ 20
 events-few l h = omega (arith, length-records (wholes l) l)
 
+-- ---- a list that goes on
+
+records-append : (m n : ℕ) (l k : List ℕ) → length l ≡ recordSize * m → recordsOf (m + n) (l ++ k) ≡ recordsOf m l ++ recordsOf n k
+unfolding recordsOf
+records-append zero n [] k h = ap (λ (i : ℕ). recordsOf i k) (none n)
+  where
+    none : (n : ℕ) → 0 + n ≡ n
+    none n = omega arith
+records-append zero n (x ∷ l) k h = absurd (omega (arith, h))
+records-append (suc m) n l k h =
+    ap (λ (i : ℕ). recordsOf i (l ++ k)) (more m n)
+    ∙ cc (
+      take-append-le recordSize l k (omega (arith, h)),
+      ap (recordsOf (m + n)) (drop-append-le recordSize l k (omega (arith, h))) ∙ records-append m n (drop recordSize l) k (omega (arith, h, length-drop recordSize l)),
+    )
+  where
+    more : (m n : ℕ) → suc m + n ≡ suc (m + n)
+    more m n = omega arith
+
+pub events-append : (l k : List ℕ) → length l % recordSize ≡ 0 → eventsOf (l ++ k) ≡ eventsOf l ++ eventsOf k
+events-append l k h =
+    ap (λ (n : ℕ). recordsOf n (l ++ k)) (omega (arith, h, length-append l k)) ∙ records-append (wholes l) (wholes k) l k (omega (arith, h))
+
 -- ---- the test
 
 -- one more record looked at
@@ -63,6 +86,11 @@ ok-end ok es i w e p =
     sym (and-true ok)
     ∙ ap (λ (d : List (List ℕ)). ok && allOk d) (sym (drop-length es) ∙ ap (λ (j : ℕ). drop j es) (sym e))
     ∙ p
+
+pub ok-append : (a b : List (List ℕ)) → allOk (a ++ b) ≡ (allOk a && allOk b)
+unfolding allOk
+ok-append [] b = refl
+ok-append (r ∷ a) b = ap (λ (t : Bool). recordOk r && t) (ok-append a b) ∙ sym (and-assoc (recordOk r) (allOk a) (allOk b))
 
 -- ---- another order
 

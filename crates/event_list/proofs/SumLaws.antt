@@ -41,6 +41,14 @@ module _ {A : Type 0} where
       go true m h = omega arith
       go false m h = omega arith
 
+  pub count-append : (p : A → Bool) (a b : List A) → count p (a ++ b) ≡ count p a + count p b
+  unfolding count
+  count-append p [] b = sym (none (count p b))
+    where
+      none : (n : ℕ) → 0 + n ≡ n
+      none n = omega arith
+  count-append p (x ∷ a) b = let e = count-append p a b in omega (arith, e)
+
   pub sum-append : (f : A → ℤ) (a b : List A) → sumOf f (a ++ b) ≡ sumOf f a +ℤ sumOf f b
   unfolding sumOf
   sum-append f [] b = sym (+ℤ-idl (sumOf f b))

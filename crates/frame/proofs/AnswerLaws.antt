@@ -2,11 +2,11 @@
 use mathlib.Core.Path.{_≡_, refl, sym, ap, _∙_, subst}
 use mathlib.Core.Bool.{Bool, true, false, cond}
 use mathlib.Core.List.{List, map}
-use Prim.Native.Nat.{ℕ, zero, suc, _+_, _-_, _*_, _≤_}
+use Prim.Native.Nat.{ℕ, zero, suc, _+_, _-_, _*_, _≤_, min}
 use native.Mathlib.Omega.{arith}
 use lib.Dec.{leb, ltb}
 use lib.ListN.{length, take, drop, replicate, length-append, length-replicate}
-use borrow.Author.Tests.{lt-ltb, ltb-true, leb-true}
+use borrow.Author.Tests.{lt-ltb, ltb-true}
 use Rattle.limits.specs.Limits.{mostBits, long, badNumber}
 use Rattle.coding.specs.Bits.{odd, value, toBytes, areBits}
 use Rattle.coding.specs.Convolution.{fresh, deconvolved}
@@ -93,24 +93,14 @@ module _ (kind : FrameKind) (hr : kind .rank ≤ highestRank) (hc : kind .class 
   unfolding decodeBody placed
   decode-ok l = go (passes kind l Unchanged) refl
     where
-      end : ℕ
-      end = cond (leb (length l) (total kind)) (length l) (total kind)
-
-      end-le : cond (leb (length l) (total kind)) (length l) (total kind) ≤ total kind
-      end-le = least (leb (length l) (total kind)) (leb-true (length l) (total kind))
-        where
-          least : (b : Bool) → (b ≡ true → length l ≤ total kind) → cond b (length l) (total kind) ≤ total kind
-          least true f = f refl
-          least false f = omega arith
-
       go : (t : Bool) → passes kind l Unchanged ≡ t → AnswerOk (parseBody kind (cond (passes kind l Unchanged) Unchanged (firstRepair kind l)) l)
       go true e = subst (λ (t : Bool). AnswerOk (parseBody kind (cond t Unchanged (firstRepair kind l)) l)) (sym e) (parse-ok Unchanged l refl)
       go false e =
-          let k = cond (leb (length l) (total kind)) (length l) (total kind) in
+          let k = min (length l) (total kind) in
           subst (λ (t : Bool). AnswerOk (parseBody kind (cond t Unchanged (firstRepair kind l)) l)) (sym e)
           (parse-ok (firstRepair kind l) l
           (placed-up (firstRepair kind l) k mostBodyBits (ap (λ (h : Repair). placed h k) (first-least kind l e k refl) ∙ first-below (passes kind l) k)
-          (omega (arith, end-le, body-most (kind .class) hc))))
+          (omega (arith, body-most (kind .class) hc))))
 
 search-ok : (n start : ℕ) (l : List Bool) → AnswerOk (searchFrom n start l)
 unfolding searchFrom

@@ -2,7 +2,7 @@
 use mathlib.Core.Path.{_≡_, refl, sym, ap, ap₂, _∙_}
 use mathlib.Core.Bool.{Bool, true, false, not, cond}
 use mathlib.Core.List.{List, [], _∷_, _++_}
-use Prim.Native.Nat.{ℕ, zero, suc, _+_, _-_, _*_, _≤_, _<_}
+use Prim.Native.Nat.{ℕ, zero, suc, _+_, _-_, _*_, _≤_, _<_, min}
 use native.Mathlib.Omega.{arith}
 use lib.Dec.{leb, ltb}
 use lib.ListN.{length, take, drop, getD, length-drop}
@@ -64,12 +64,13 @@ module _ (kind : FrameKind) where
         ∙ first-few (passes kind l) total (length l - total) 0 (later a)
 
     -- the places that the code tries
-    pub first-least : (end : ℕ) → end ≡ cond (leb (length l) total) (length l) total → firstRepair kind l ≡ firstOf (passes kind l) (repairs end 0)
-    first-least end f = go (leb (length l) total) (leb-false (length l) total) f
+    pub first-least : (end : ℕ) → end ≡ min (length l) total → firstRepair kind l ≡ firstOf (passes kind l) (repairs end 0)
+    unfolding firstRepair
+    first-least end f = go (leb (length l) total) (leb-true (length l) total) (leb-false (length l) total)
       where
-        go : (b : Bool) → (b ≡ false → total < length l) → end ≡ cond b (length l) total → firstRepair kind l ≡ firstOf (passes kind l) (repairs end 0)
-        go true g f = unfold firstRepair in ap (λ (n : ℕ). firstOf (passes kind l) (repairs n 0)) (sym f)
-        go false g f = let h = g refl in first-within (omega arith) ∙ ap (λ (n : ℕ). firstOf (passes kind l) (repairs n 0)) (sym f)
+        go : (b : Bool) → (b ≡ true → length l ≤ total) → (b ≡ false → total < length l) → firstRepair kind l ≡ firstOf (passes kind l) (repairs end 0)
+        go true g h = let k = g refl in ap (λ (n : ℕ). firstOf (passes kind l) (repairs n 0)) (let e : length l ≡ end = omega arith in e)
+        go false g h = let k = h refl in first-within (omega arith) ∙ ap (λ (n : ℕ). firstOf (passes kind l) (repairs n 0)) (let e : total ≡ end = omega arith in e)
 
   -- ---- a body and its first n bits
 

@@ -11,7 +11,6 @@ use crate::bodies::MOST_PAYLOAD;
 use crate::bodies::auth_size;
 use crate::bodies::copy_into;
 use crate::bodies::put_byte;
-use crate::splices::one_if;
 
 // The fields that an uplink carries besides its payload.
 pub struct UplinkFields {
@@ -74,7 +73,7 @@ pub fn write_header(f: UplinkFields, li: u8, payload: &[u8], out: &mut [u8])
     put_byte(
         out,
         0,
-        li * 64 + one_if(f.downlink) * 32 + (f.counter / 256 % 16) as u8,
+        li * 64 + whole::one_if8(f.downlink) * 32 + (f.counter / 256 % 16) as u8,
     );
     put_byte(out, 1, (f.counter % 256) as u8);
     endian::put_u32(out, 2, f.device_id);

@@ -1,9 +1,8 @@
 // Sigfox uplink frames (frame.rs): the frame type is searched, the body parsed as it is and after single-bit repairs. Bits are bytes 0 or 1.
 ghost use mathlib.Core.Path.{_≡_};
-ghost use mathlib.Core.Bool.{true, false, cond};
+ghost use mathlib.Core.Bool.{true, false};
 ghost use mathlib.Core.List.{map};
 ghost use Prim.Native.Nat.{_+_, _*_, _≤_};
-ghost use lib.Dec.{leb};
 ghost use lib.ListN.{length};
 ghost use Rattle.coding.specs.Bits.{odd, areBits};
 ghost use Rattle.limits.specs.Limits.{mostBits};
@@ -144,7 +143,7 @@ fn first_repair(body: &[u8], kind: FrameKind) -> Repair
     ensures { λ r. ⌜ r ≡ firstRepair kind (map odd (now (body .entry))) ⌝ }
 {
     let n = body_bytes(kind.class);
-    let end = least(body.len(), 8 * n);
+    let end = whole::least(body.len(), 8 * n);
     let mut front = Prefix {
         bytes: 0,
         crc: 0,
@@ -168,12 +167,6 @@ fn first_repair(body: &[u8], kind: FrameKind) -> Repair
         i += 1;
     }
     Repair::Unchanged
-}
-
-fn least(a: usize, b: usize) -> usize
-    ensures { λ r. ⌜ (r ≤ a) × (r ≤ b) × (r ≡ cond (leb a b) a b) ⌝ }
-{
-    if a <= b { a } else { b }
 }
 
 // The frame of a kind from its body: as it is, else by the first repair that passes, else as it is with a wrong CRC.

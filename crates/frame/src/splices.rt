@@ -31,13 +31,6 @@ pub fn spliced_bit(body: &[u8], s: Splice, j: usize) -> u8
     body[j - s.put + s.skip]
 }
 
-// A bit as a number.
-pub fn one_if(b: bool) -> u8
-    ensures { λ r. ⌜ (r ≡ bitOf b) × (r < 2) ⌝ }
-{
-    if b { 1 } else { 0 }
-}
-
 // The splice that changes nothing, and those of an insertion, a deletion and a flip of a bit.
 pub fn unchanged() -> Splice
     ensures { λ r. ⌜ r ≡ keeping ⌝ }
@@ -94,7 +87,7 @@ pub fn splice_of(body: &[u8], how: Repair) -> Splice
 {
     match how {
         Repair::Unchanged => unchanged(),
-        Repair::Inserted(b, i) => insert(i, one_if(b)),
+        Repair::Inserted(b, i) => insert(i, whole::one_if8(b)),
         Repair::Deleted(i) => delete(i),
         Repair::Flipped(i) => flip(i, body[i]),
     }

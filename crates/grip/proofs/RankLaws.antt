@@ -5,7 +5,7 @@ use Prim.Native.Nat.{ℕ, _≤_, _<_}
 use native.Mathlib.Omega.{arith}
 use borrow.Author.Tests.{ltb-true, ltb-false, lt-ltb, le-ltb, eqb-true, eq-eqb}
 use lib.Dec.{ltb, eqb}
-use Rattle.grip.proofs.OrderLaws.{cases, clash}
+use Rattle.grip.proofs.OrderLaws.{cases, clash, three}
 
 abbrev pub ahead : ℕ → ℕ → ℕ → ℕ → ℕ → ℕ → Bool
 ahead a b i a′ b′ i′ = ltb a a′ || (eqb a a′ && (ltb b b′ || (eqb b b′ && ltb i i′)))
@@ -31,14 +31,6 @@ module _ (a b i a′ b′ i′ : ℕ) where
       go false q true r′ false s′ true t′ false u′ p = clash false p refl
       go false q true r′ false s′ false t′ u u′ p = clash false p refl
       go false q false r′ s s′ t t′ u u′ p = clash false p refl
-
-pub three : {X : Type 0} (a b : ℕ) → (a < b → X) → (a ≡ b → X) → (b < a → X) → X
-three a b f g h =
-    cases (ltb a b) (λ p. f (ltb-true a b p))
-    (λ p. cases (ltb b a) (λ q. h (ltb-true b a q)) (λ q. g (same (ltb-false a b p) (ltb-false b a q))))
-  where
-    same : b ≤ a → a ≤ b → a ≡ b
-    same u v = omega arith
 
 -- one is ahead of the other, or their thirds are equal
 pub ahead-total : (a b i a′ b′ i′ : ℕ) → ahead a b i a′ b′ i′ ≡ false → ahead a′ b′ i′ a b i ≡ false → i ≡ i′

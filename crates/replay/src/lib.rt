@@ -63,12 +63,6 @@ fn fetch(bytes: &mut [u8], n: usize) -> usize
     io::read_full(STDIN_FILENO, &mut bytes[..n])
 }
 
-fn least(a: usize, b: usize) -> usize
-    ensures { λ r. ⌜ (r ≤ a) × (r ≤ b) × ((0 < a → 0 < b → 0 < r)) ⌝ }
-{
-    if a < b { a } else { b }
-}
-
 // The floats of a chunk's first 4·n bytes, at a place of `out`; those that have no place are passed over.
 fn store_f32s(bytes: &[u8], n: usize, out: &mut [f32], at: usize)
     requires { ⌜ (4 * n ≤ length (now bytes)) × (at ≤ 0x100000000) × (n ≤ 1024) ⌝ }
@@ -106,7 +100,7 @@ fn read_n_f32s(end: usize, out: &mut [f32]) -> Kept
 {
     let mut at: usize = 0;
     while at < end {
-        let n = least(end - at, 1024);
+        let n = whole::least(end - at, 1024);
         if !read_chunk(n, out, at) {
             return Kept {
                 whole: false,
@@ -117,7 +111,7 @@ fn read_n_f32s(end: usize, out: &mut [f32]) -> Kept
     }
     Kept {
         whole: true,
-        count: least(end, out.len()),
+        count: whole::least(end, out.len()),
     }
 }
 
@@ -125,7 +119,7 @@ fn read_n_f32s(end: usize, out: &mut [f32]) -> Kept
 pub fn read_n_bytes(end: usize, out: &mut [u8]) -> Kept
     ensures { λ r. ⌜ Front (r .count) (now (out .exit)) ⌝ }
 {
-    let kept = least(end, out.len());
+    let kept = whole::least(end, out.len());
     if fetch(out, kept) < kept {
         return Kept {
             whole: false,
@@ -188,7 +182,7 @@ fn read_n_u16s(end: usize, out: &mut [u16]) -> Kept
     }
     Kept {
         whole: true,
-        count: least(end, out.len()),
+        count: whole::least(end, out.len()),
     }
 }
 
@@ -241,7 +235,7 @@ fn skip(n: usize) -> bool {
     let mut left = n;
     while left > 0 {
         let mut bytes = [0u8; 4096];
-        let size = least(left, 4096);
+        let size = whole::least(left, 4096);
         if fetch(&mut bytes, size) < size {
             return false;
         }
@@ -347,7 +341,7 @@ pub fn print_front(text: &[u8], n: usize)
 // Bits as digits 0 and 1, 1,024 at most, as many as `n` says.
 pub fn print_digits(bits: &[u8], n: usize) {
     let mut text = [0u8; 1024];
-    let end = least(least(n, bits.len()), 1024);
+    let end = whole::least(whole::least(n, bits.len()), 1024);
     let mut i: usize = 0;
     while i < end {
         text[i] = 48 + bits[i] % 2;
@@ -359,7 +353,7 @@ pub fn print_digits(bits: &[u8], n: usize) {
 // Bytes as hexadecimal digits, 120 at most, as many as `n` says.
 pub fn print_bytes(bytes: &[u8], n: usize) {
     let mut text = [0u8; 240];
-    let end = least(least(n, bytes.len()), 120);
+    let end = whole::least(whole::least(n, bytes.len()), 120);
     hex_text(&bytes[..end], &mut text);
     print_front(&text, 2 * end);
 }

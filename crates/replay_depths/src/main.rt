@@ -9,7 +9,7 @@ const MOST_SCRATCH: usize = 6001;
 fn print_dips(dips: &[f64; limits::SCRATCH64], n: usize) -> bool {
     replay::print(b"D ");
     replay::print_number(n as u64);
-    let end = dips::least(n, dips::DEPTHS);
+    let end = whole::least(n, dips::DEPTHS);
     let mut i: usize = 0;
     while i < end {
         replay::print(b" ");
@@ -64,7 +64,7 @@ fn bits_row() -> bool {
     }
     let n = kept.count;
     let rate = endian::get_u32(&head, 0);
-    let room = dips::least(endian::get_u16(&head, 4) as usize, MOST_SCRATCH);
+    let room = whole::least(endian::get_u16(&head, 4) as usize, MOST_SCRATCH);
     match clock::burst_bits(
         &seg[..n],
         rate,

@@ -5,7 +5,7 @@ use replay::Head;
 fn print_dips(dips: &[f64], n: usize) -> bool {
     replay::print(b"D ");
     replay::print_number(n as u64);
-    let end = dips::least(n, dips.len());
+    let end = whole::least(n, dips.len());
     let mut i: usize = 0;
     while i < end {
         replay::print(b" ");

@@ -68,16 +68,10 @@ fn report_into(records: &[u8], rows: &mut [i64], places: usize, fill: i64) -> bo
             replay::print_number(n as u64);
             replay::print_end();
             print_rows(rows, n);
-            let from = least(n, fleet_sheet::MOST_DEVICES);
+            let from = whole::least(n, fleet_sheet::MOST_DEVICES);
             print_kept(rows, NUMBERS * from, places, fill)
         }
     }
-}
-
-fn least(a: usize, b: usize) -> usize
-    ensures { λ r. ⌜ r ≤ b ⌝ }
-{
-    if a < b { a } else { b }
 }
 
 fn case(head: &[u8; 10]) -> bool {
@@ -89,7 +83,7 @@ fn case(head: &[u8; 10]) -> bool {
     let n = k.count;
     let fill = replay::signed64(endian::get_u64(head, 2));
     let mut rows = [fill; 2400];
-    let places = least(endian::get_u16(head, 0) as usize, MOST_PLACES);
+    let places = whole::least(endian::get_u16(head, 0) as usize, MOST_PLACES);
     report_into(&records[..n], &mut rows, places, fill)
 }
 

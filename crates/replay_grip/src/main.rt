@@ -96,12 +96,6 @@ fn hear_into(records: &[u8], instant: f64, numbers: &mut [u32], places: usize, f
     }
 }
 
-fn least(a: usize, b: usize) -> usize
-    ensures { λ r. ⌜ r ≤ b ⌝ }
-{
-    if a < b { a } else { b }
-}
-
 fn on_air() -> bool {
     let mut head = [0u8; 14];
     if !replay::read_part(&mut head) {
@@ -116,7 +110,7 @@ fn on_air() -> bool {
     let instant = endian::get_f64(&head, 0);
     let fill = endian::get_u32(&head, 10);
     let mut numbers = [fill; 1000];
-    let places = least(endian::get_u16(&head, 8) as usize, MOST_PLACES);
+    let places = whole::least(endian::get_u16(&head, 8) as usize, MOST_PLACES);
     hear_into(&records[..n], instant, &mut numbers, places, fill)
 }
 

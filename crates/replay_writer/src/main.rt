@@ -42,12 +42,6 @@ fn write_into(
     replay::print_end()
 }
 
-fn least(a: usize, b: usize) -> usize
-    ensures { λ r. ⌜ r ≤ b ⌝ }
-{
-    if a < b { a } else { b }
-}
-
 fn case(head: &[u8; 8]) -> bool {
     let mut payload = [0u8; 13];
     let p = replay::read_bytes(&mut payload);
@@ -64,7 +58,7 @@ fn case(head: &[u8; 8]) -> bool {
         return replay::print_short();
     }
     let mut out = [lent[2]; 700];
-    let room = least(endian::get_u16(&lent, 0) as usize, MOST_ROOM);
+    let room = whole::least(endian::get_u16(&lent, 0) as usize, MOST_ROOM);
     let n = p.count;
     let m = a.count;
     write_into(

@@ -8,17 +8,16 @@ use native.Mathlib.Nat.{eq-or-lt-of-le}
 use native.Mathlib.Omega.{arith}
 use borrow.Author.Tests.{leb-true, leb-false, eqb-true, eqb-false, eq-eqb, ne-eqb}
 use lib.Dec.{leb, ltb, eqb}
-use lib.ListN.{length, take, drop, length-append, length-drop}
-use lib.Seq.{take-append-le, drop-append-le}
+use lib.ListN.{length, length-append}
 use lib.IntN.{ℤ, natAbs}
 use Rattle.limits.specs.Limits.{recordSize, mostRecordBytes, long}
 use Rattle.limits.specs.Answer.{answer, number, accepted}
 use Rattle.limits.proofs.Samples.{and-assoc, and-left, and-right}
 use Rattle.record.specs.Readers.{timeOf}
-use Rattle.event_list.specs.Events.{recordsOf, eventsOf, wholes, isMessage, messagesOf, recordOk, allOk, listOk}
+use Rattle.event_list.specs.Events.{eventsOf, isMessage, messagesOf, allOk, listOk}
 use Rattle.event_list.specs.Sums.{those, count}
-use Rattle.event_list.proofs.SumLaws.{those-append, those-perm, count-perm}
-use Rattle.event_list.proofs.EventLaws.{ok-reordered}
+use Rattle.event_list.proofs.SumLaws.{those-append, count-append, those-perm, count-perm}
+use Rattle.event_list.proofs.EventLaws.{events-append, ok-append, ok-reordered}
 use Rattle.subscription.specs.declared.Plan.{Plan}
 use Rattle.subscription.specs.declared.Charge.{Charge}
 use Rattle.subscription.specs.Charges.{sumTo, days, dearest, latestStart, inDay, inMonth, allInMonth, priceOf, stepOf, dayCost, planOk, startOk, roundedUp, costOf, centsOf, onDay, monthCause, chargeCause}
@@ -26,7 +25,6 @@ use Rattle.subscription.specs.Counting.{stepped, tallied}
 use Rattle.subscription.specs.Claims.{numberCost, messageCost, listCost, Sum, EverySum, AnyOrder}
 use Rattle.subscription.specs.Parts.{PartsAdd}
 use Rattle.subscription.proofs.DayLaws.{only-day, day-under, second-is}
-use Rattle.subscription.proofs.CountLaws.{count-append}
 use Rattle.subscription.proofs.PriceLaws.{Sound, sound, extraPrice, extras-le}
 use Rattle.subscription.proofs.ChargeLaws.{sum-same, cents-same}
 
@@ -224,32 +222,6 @@ any-order l k plan z r r′ o c c′ =
     c .answered ∙ cc (o .size, u, n, v) ∙ sym (c′ .answered)
 
 -- ---- parts
-
-records-append : (m n : ℕ) (l k : List ℕ) → length l ≡ recordSize * m → recordsOf (m + n) (l ++ k) ≡ recordsOf m l ++ recordsOf n k
-unfolding recordsOf
-records-append zero n [] k h = ap (λ (i : ℕ). recordsOf i k) (none n)
-  where
-    none : (n : ℕ) → 0 + n ≡ n
-    none n = omega arith
-records-append zero n (x ∷ l) k h = absurd (omega (arith, h))
-records-append (suc m) n l k h =
-    ap (λ (i : ℕ). recordsOf i (l ++ k)) (more m n)
-    ∙ cc (
-      take-append-le recordSize l k (omega (arith, h)),
-      ap (recordsOf (m + n)) (drop-append-le recordSize l k (omega (arith, h))) ∙ records-append m n (drop recordSize l) k (omega (arith, h, length-drop recordSize l)),
-    )
-  where
-    more : (m n : ℕ) → suc m + n ≡ suc (m + n)
-    more m n = omega arith
-
-events-append : (l k : List ℕ) → length l % recordSize ≡ 0 → eventsOf (l ++ k) ≡ eventsOf l ++ eventsOf k
-events-append l k h =
-    ap (λ (n : ℕ). recordsOf n (l ++ k)) (omega (arith, h, length-append l k)) ∙ records-append (wholes l) (wholes k) l k (omega (arith, h))
-
-ok-append : (a b : List (List ℕ)) → allOk (a ++ b) ≡ (allOk a && allOk b)
-unfolding allOk
-ok-append [] b = refl
-ok-append (r ∷ a) b = ap (λ (t : Bool). recordOk r && t) (ok-append a b) ∙ sym (and-assoc (recordOk r) (allOk a) (allOk b))
 
 in-append : (start : ℕ) (a b : List (List ℕ)) → allInMonth start (a ++ b) ≡ (allInMonth start a && allInMonth start b)
 unfolding allInMonth

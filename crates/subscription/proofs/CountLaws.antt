@@ -13,18 +13,10 @@ use Rattle.limits.proofs.Samples.{and-assoc, and-left, and-right, and-true}
 use Rattle.record.specs.Readers.{timeOf}
 use Rattle.event_list.specs.Events.{isMessage, messagesOf}
 use Rattle.event_list.specs.Sums.{those, count}
-use Rattle.event_list.proofs.SumLaws.{those-append}
+use Rattle.event_list.proofs.SumLaws.{those-append, count-append}
 use Rattle.subscription.specs.Charges.{days, inDay, inMonth, allInMonth, onDay, latestStart}
 use Rattle.subscription.specs.Counting.{dayAt, raised, stepped, inside, tallied, Few}
 use Rattle.subscription.proofs.DayLaws.{only-day, day-under, none-outside, some-inside}
-
-pub count-append : {A : Type 0} (p : A → Bool) (a b : List A) → count p (a ++ b) ≡ count p a + count p b
-unfolding count
-count-append p [] b = sym (none (count p b))
-  where
-    none : (n : ℕ) → 0 + n ≡ n
-    none n = omega arith
-count-append p (x ∷ a) b = let e = count-append p a b in omega (arith, e)
 
 -- ---- counts that are raised
 

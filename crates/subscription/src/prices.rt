@@ -1,7 +1,7 @@
 // A plan: whether it is one, and what it takes for a day and for a month.
 ghost use mathlib.Core.Path.{_≡_};
-ghost use mathlib.Core.Bool.{true, cond};
-ghost use Prim.Native.Nat.{suc, _-_, _*_, _≤_, _<_, min};
+ghost use mathlib.Core.Bool.{true};
+ghost use Prim.Native.Nat.{suc, _-_, _*_, _≤_, _<_};
 ghost use lib.Dec.{leb, ltb};
 ghost use lib.ListN.{getD};
 ghost use Rattle.subscription.specs.Charges.{days, mostSteps, dearest, upperOf, priceOf, allTo, dayCost, planOk, costOf, centsOf};
@@ -16,19 +16,6 @@ const DEAREST: u32 = 1_000_000;
 
 // Thousandths of a cent.
 const CENT: u64 = 1000;
-
-fn least(a: u32, b: u32) -> u32
-    ensures { λ r. ⌜ r ≡ min a b ⌝ }
-{
-    if a < b { a } else { b }
-}
-
-// a where t holds, else b.
-fn pick(t: bool, a: u32, b: u32) -> u32
-    ensures { λ r. ⌜ r ≡ cond t a b ⌝ }
-{
-    if t { a } else { b }
-}
 
 // a - b, or 0.
 fn over(a: u32, b: u32) -> u32
@@ -104,7 +91,7 @@ fn reach(plan: Plan, x: u32, j: usize) -> u32
     ensures { λ r. ⌜ r ≡ reached plan x (suc j) ⌝ }
 {
     let uppers = plan.uppers;
-    pick(j + 1 == plan.steps, x, least(x, uppers[j]))
+    whole::pick32(j + 1 == plan.steps, x, whole::least32(x, uppers[j]))
 }
 
 // What n extra messages in step j take.

@@ -2,7 +2,7 @@
 use mathlib.Core.Path.{_≡_, refl, sym, ap, ap₂, _∙_}
 use mathlib.Core.Bool.{Bool, true, false, cond, _&&_}
 use mathlib.Core.List.{List, [], _∷_}
-use Prim.Native.Nat.{ℕ, zero, suc, _+_, _-_, _*_, _%_, _≤_, _<_}
+use Prim.Native.Nat.{ℕ, zero, suc, _+_, _-_, _*_, _%_, _≤_, _<_, min}
 use native.Mathlib.Omega.{arith}
 use native.Mathlib.Nat.{mul-le-mul-left}
 use native.Mathlib.Numerals.{add-one}
@@ -111,7 +111,7 @@ pub number-none : (base most n : ℕ) → numberFrom base most n [] ≡ n
 unfolding numberFrom
 number-none base most n = refl
 
-pub number-more : (base most n c x : ℕ) (l : List ℕ) → x ≡ cond (ltb most (n * base + digitOf c)) most (n * base + digitOf c)
+pub number-more : (base most n c x : ℕ) (l : List ℕ) → x ≡ min (n * base + digitOf c) most
     → numberFrom base most x l ≡ numberFrom base most n (c ∷ l)
 unfolding numberFrom
 number-more base most n c x l e = ap (λ (y : ℕ). numberFrom base most y l) e
@@ -190,20 +190,14 @@ module _ (l : List ℕ) (i : ℕ) where
     pub number-past : length l ≤ i → numberFrom base most n (word (drop i l)) ≡ t → n ≡ t
     number-past h k = sym (ap (numberFrom base most n) (word-past l i h) ∙ number-none base most n) ∙ k
 
-    pub number-turn : (d x y : ℕ) → i < length l → (getD l i 0 ≡ space → ⊥) → d ≡ digitOf (getD l i 0) → x ≡ n * base + d → y ≡ cond (ltb most x) most x
+    pub number-turn : (d x y : ℕ) → i < length l → (getD l i 0 ≡ space → ⊥) → d ≡ digitOf (getD l i 0) → x ≡ n * base + d → y ≡ min x most
         → numberFrom base most n (word (drop i l)) ≡ t → numberFrom base most y (word (drop (i + 1) l)) ≡ t
     number-turn d x y h e v u m k =
-        number-more base most n (getD l i 0) y (word (drop (i + 1) l)) (m ∙ ap (λ (z : ℕ). cond (ltb most z) most z) (u ∙ ap (λ (z : ℕ). n * base + z) v))
+        number-more base most n (getD l i 0) y (word (drop (i + 1) l)) (m ∙ ap (λ (z : ℕ). min z most) (u ∙ ap (λ (z : ℕ). n * base + z) v))
         ∙ ap (numberFrom base most n) (sym (word-more l i h e)) ∙ k
 
 pub spaces-start : (l : List ℕ) → 0 + spaces (drop 0 l) ≡ spaces l
 spaces-start l = omega arith
-
-pub least-most : (x most : ℕ) → most < x → most ≡ cond (ltb most x) most x
-least-most x most h = ap (λ (b : Bool). cond b most x) (sym (lt-ltb most x h))
-
-pub least-itself : (x most : ℕ) → x ≤ most → x ≡ cond (ltb most x) most x
-least-itself x most h = ap (λ (b : Bool). cond b most x) (sym (le-ltb most x h))
 
 pub product-fits : (n base most : ℕ) → n ≤ most → most < 4294967296 → base ≤ 16 → n * base ≤ 68719476720
 product-fits n base most h k j = let m : n * base ≤ n * 16 = mul-le-mul-left n j in omega arith

@@ -1,5 +1,5 @@
 -- What a line of `uplink`'s input means (README.md, 'Test frames'): five words with a space between each, in characters' numbers. Assumes nothing.
-use Prim.Native.Nat.{ℕ, suc, _+_, _-_, _*_, _%_}
+use Prim.Native.Nat.{ℕ, suc, _+_, _-_, _*_, _%_, min}
 use mathlib.Core.Bool.{Bool, true, cond, _&&_, _||_}
 use mathlib.Core.List.{List, [], _∷_}
 use lib.Dec.{ltb, leb, eqb}
@@ -43,7 +43,7 @@ areDigits base (c ∷ l) = ltb (digitOf c) base && areDigits base l
 unfoldable pub numberFrom : ℕ → ℕ → ℕ → List ℕ → ℕ
 unfolding digitOf
 numberFrom base most n [] = n
-numberFrom base most n (c ∷ l) = numberFrom base most (cond (ltb most (n * base + digitOf c)) most (n * base + digitOf c)) l
+numberFrom base most n (c ∷ l) = numberFrom base most (min (n * base + digitOf c) most) l
 
 -- two hexadecimal digits a byte
 unfoldable pub bytesIn : List ℕ → List ℕ

@@ -1,7 +1,6 @@
 // What a line of text means: device, counter, payload or single bit, downlink flag and authentication.
 ghost use mathlib.Core.Path.{_≡_};
-ghost use mathlib.Core.Bool.{false, cond};
-ghost use lib.Dec.{ltb};
+ghost use mathlib.Core.Bool.{false};
 ghost use Prim.Native.Nat.{_+_, _*_, _%_, _≤_, _<_};
 ghost use lib.ListN.{length, take, drop};
 ghost use lib.Seq.{sets};
@@ -108,12 +107,6 @@ fn all_digits(line: &[u8], from: usize, base: u8) -> bool
     true
 }
 
-fn least(x: u64, most: u64) -> u64
-    ensures { λ r. ⌜ (r ≡ cond (ltb most x) most x) × (r ≤ most) ⌝ }
-{
-    if most < x { most } else { x }
-}
-
 // The number that a word's digits make.
 fn number(line: &[u8], from: usize, base: u64, most: u64) -> u64
     requires { ⌜ (from ≤ length (now line)) × (base ≤ 16) × (most < 0x100000000) ⌝ }
@@ -126,7 +119,7 @@ fn number(line: &[u8], from: usize, base: u64, most: u64) -> u64
             return n;
         }
         let x = n * base + (digit_of(line[i]) as u64);
-        n = least(x, most);
+        n = whole::least64(x, most);
         i += 1;
     }
     n

@@ -10,12 +10,12 @@ place-of-requires c κs = search needs
 add-t11 : tie.Need-add-t11
 add-t11 c = search needs
 
-pick-place-requires : tie.Need-pick-place-requires
-pick-place-requires c κs = search needs
+pick-requires : tie.Need-pick-requires
+pick-requires c κs = search needs
 
 returns : tie.Need-returns
 unfolding summed
-returns c = rw (c .pick-place .ensures, c .before .before .before .before .before .before .before .place-of .ensures .0)
+returns c = rw (c .pick .ensures, c .before .before .before .before .before .before .before .place-of .ensures .0)
 
 pub sum-point-spec : {M : Type 1} → statement M
-sum-point-spec = tie.close (tie.spec place-of-requires add-t11 pick-place-requires returns)
+sum-point-spec = tie.close (tie.spec place-of-requires add-t11 pick-requires returns)

@@ -1,12 +1,11 @@
 -- `frame::first_repair` meets its contract. The invariant: the places left have the answer, and some bytes before them have been passed. Assumes nothing.
 use borrow.Author.Needs.{needs}
 use mathlib.Core.Path.{_≡_, refl, sym, ap, ap₂, _∙_}
-use mathlib.Core.Bool.{true, false, cond}
+use mathlib.Core.Bool.{true, false}
 use mathlib.Core.List.{map}
-use Prim.Native.Nat.{ℕ, suc, _+_, _-_, _*_, _≤_, _<_}
+use Prim.Native.Nat.{ℕ, suc, _+_, _-_, _*_, _≤_, _<_, min}
 use native.Mathlib.Nat.{sub-zero}
 use native.Mathlib.Omega.{arith}
-use lib.Dec.{leb}
 use lib.ListN.{length}
 use Rattle.coding.specs.Bits.{odd}
 use Rattle.coding.proofs.BitLaws.{bit-at, length-map-odd}
@@ -47,7 +46,7 @@ loop-holds c = let b = c .before in
       omega arith,
       ap (λ (m : ℕ). firstOf (passes (e .args .kind) l) (repairs m 0)) (sub-zero (c .least .result))
           ∙ sym (first-least (e .args .kind) l (e .pre .1) (c .least .result)
-          (c .least .ensures .2 ∙ ap₂ (λ (x y : ℕ). cond (leb x y) x y) (sym (length-map-odd (e .args .body .now))) n)),
+          (c .least .ensures ∙ ap₂ min (sym (length-map-odd (e .args .body .now))) n)),
       passed-none (e .args .kind .rank) l,
       omega arith,
       omega (arith, b .body-bytes .ensures .1),
@@ -57,7 +56,7 @@ front-at-requires : tie.Need-front-at-requires Inv-loop μ-loop
 front-at-requires c κs = let l = c .before in
     let b = l .before .before in
     let e = b .before .before in
-    (e .pre .0 .bits, omega (arith, c .loop-test .taken, l .before .least .ensures .0), b .body-bytes .ensures .2, l .loop .inv .2, l .loop .inv .3, l .loop .inv .4)
+    (e .pre .0 .bits, omega (arith, c .loop-test .taken, l .before .least .ensures), b .body-bytes .ensures .2, l .loop .inv .2, l .loop .inv .3, l .loop .inv .4)
 
 insert-requires : tie.Need-insert-requires Inv-loop μ-loop
 insert-requires c κs = search needs
@@ -70,7 +69,7 @@ splice-right-requires c κs = let f = c .before .front-at .ensures in
     let e = b .before .before in
     let body = e .args .body .now in
     let i = l .loop .i in
-    let h : i < length body = omega (arith, q .loop-test .taken, l .before .least .ensures .0) in
+    let h : i < length body = omega (arith, q .loop-test .taken, l .before .least .ensures) in
     let m = insert-makes body i h (c .insert .result) true 1 refl (c .insert .ensures) in
     (e .pre .0 .bits, m .ok, e .pre .0 .few, b .body-bytes .ensures .2, f .0, omega (arith, f .1, ap (λ (x : Splice). x .at) (c .insert .ensures)), f .2)
 
@@ -83,7 +82,7 @@ returns c = let q = c .before .before .before .before in
     let body = e .args .body .now in
     let i = l .loop .i in
     let end = l .before .least .result in
-    let h : i < length body = omega (arith, q .loop-test .taken, l .before .least .ensures .0) in
+    let h : i < length body = omega (arith, q .loop-test .taken, l .before .least .ensures) in
     let f = passes kind (map odd body) in
     let n = b .body-bytes in
     let r1 = c .before .splice-right in
@@ -105,7 +104,7 @@ splice-right-requires-2 c κs = let f = c .before .before .before .before .front
     let e = b .before .before in
     let body = e .args .body .now in
     let i = l .loop .i in
-    let h : i < length body = omega (arith, q .loop-test .taken, l .before .least .ensures .0) in
+    let h : i < length body = omega (arith, q .loop-test .taken, l .before .least .ensures) in
     let m = insert-makes body i h (c .insert2 .result) false 0 refl (c .insert2 .ensures) in
     (e .pre .0 .bits, m .ok, e .pre .0 .few, b .body-bytes .ensures .2, f .0, omega (arith, f .1, ap (λ (x : Splice). x .at) (c .insert2 .ensures)), f .2)
 
@@ -119,7 +118,7 @@ returns-2 c = let t1 = c .before .before .before in
     let body = e .args .body .now in
     let i = l .loop .i in
     let end = l .before .least .result in
-    let h : i < length body = omega (arith, q .loop-test .taken, l .before .least .ensures .0) in
+    let h : i < length body = omega (arith, q .loop-test .taken, l .before .least .ensures) in
     let f = passes kind (map odd body) in
     let n = b .body-bytes in
     let r1 = t1 .before .splice-right in
@@ -145,7 +144,7 @@ splice-right-requires-3 c κs = let f = c .before .before .before .before .befor
     let e = b .before .before in
     let body = e .args .body .now in
     let i = l .loop .i in
-    let h : i < length body = omega (arith, q .loop-test .taken, l .before .least .ensures .0) in
+    let h : i < length body = omega (arith, q .loop-test .taken, l .before .least .ensures) in
     let m = delete-makes body i h (c .delete .result) (c .delete .ensures) in
     (e .pre .0 .bits, m .ok, e .pre .0 .few, b .body-bytes .ensures .2, f .0, omega (arith, f .1, ap (λ (x : Splice). x .at) (c .delete .ensures)), f .2)
 
@@ -160,7 +159,7 @@ returns-3 c = let t2 = c .before .before .before in
     let body = e .args .body .now in
     let i = l .loop .i in
     let end = l .before .least .result in
-    let h : i < length body = omega (arith, q .loop-test .taken, l .before .least .ensures .0) in
+    let h : i < length body = omega (arith, q .loop-test .taken, l .before .least .ensures) in
     let f = passes kind (map odd body) in
     let n = b .body-bytes in
     let r1 = t1 .before .splice-right in
@@ -181,7 +180,7 @@ returns-3 c = let t2 = c .before .before .before in
 
 shared-slice-read-flip : tie.Need-shared-slice-read-flip Inv-loop μ-loop
 shared-slice-read-flip c = let q = c .before .before .before .before .before .before .before .before .before .before .before in
-    let l = q .before in omega (arith, q .loop-test .taken, l .before .least .ensures .0)
+    let l = q .before in omega (arith, q .loop-test .taken, l .before .least .ensures)
 
 flip-requires : tie.Need-flip-requires Inv-loop μ-loop
 flip-requires c κs = let l = c .before .before .before .before .before .before .before .before .before .before .before .before in
@@ -196,7 +195,7 @@ splice-right-requires-4 c κs = let f = c .before .before .before .before .befor
     let e = b .before .before in
     let body = e .args .body .now in
     let i = l .loop .i in
-    let h : i < length body = omega (arith, q .loop-test .taken, l .before .least .ensures .0) in
+    let h : i < length body = omega (arith, q .loop-test .taken, l .before .least .ensures) in
     let m = flip-makes body i h (c .flip .result) (e .pre .0 .bits) (c .flip .ensures) in
     (e .pre .0 .bits, m .ok, e .pre .0 .few, b .body-bytes .ensures .2, f .0, omega (arith, f .1, ap (λ (x : Splice). x .at) (c .flip .ensures)), f .2)
 
@@ -212,7 +211,7 @@ returns-4 c = let t3 = c .before .before .before .before in
     let body = e .args .body .now in
     let i = l .loop .i in
     let end = l .before .least .result in
-    let h : i < length body = omega (arith, q .loop-test .taken, l .before .least .ensures .0) in
+    let h : i < length body = omega (arith, q .loop-test .taken, l .before .least .ensures) in
     let f = passes kind (map odd body) in
     let n = b .body-bytes in
     let r1 = t1 .before .splice-right in
@@ -236,7 +235,7 @@ returns-4 c = let t3 = c .before .before .before .before in
     first-flipped f k i (p1 ∙ t1 .if1 .left) (p2 ∙ t2 .if2 .left) (p3 ∙ t3 .if3 .left) (p4 ∙ c .if4 .taken) ∙ more
 
 add-i : tie.Need-add-i Inv-loop μ-loop
-add-i c = let l = c .before .before .before .before .before .before .before .before .before .before .before .before .before .before .before in omega (arith, l .before .least .ensures .1)
+add-i c = let l = c .before .before .before .before .before .before .before .before .before .before .before .before .before .before .before in omega (arith, l .before .least .ensures)
 
 loop-less : tie.Need-loop-less Inv-loop μ-loop
 loop-less c = omega arith
@@ -254,7 +253,7 @@ loop-again c = let t3 = c .before .before .before .before in
     let body = e .args .body .now in
     let i = l .loop .i in
     let end = l .before .least .result in
-    let h : i < length body = omega (arith, q .loop-test .taken, l .before .least .ensures .0) in
+    let h : i < length body = omega (arith, q .loop-test .taken, l .before .least .ensures) in
     let f = passes kind (map odd body) in
     let n = b .body-bytes in
     let r1 = t1 .before .splice-right in

@@ -36,7 +36,7 @@ add-at : tie.Need-add-at Inv-loop μ-loop
 add-at c = search needs
 
 loop-less : tie.Need-loop-less Inv-loop μ-loop
-loop-less c = omega (arith, c .before .before .before .before .before .least .ensures .2 (omega arith) (omega arith))
+loop-less c = omega (arith, c .before .before .before .before .before .least .ensures)
 
 loop-again : tie.Need-loop-again Inv-loop μ-loop
 loop-again c = search needs

@@ -30,7 +30,7 @@ sub-left : tie.Need-sub-left Inv-loop μ-loop
 sub-left c = search needs
 
 loop-less : tie.Need-loop-less Inv-loop μ-loop
-loop-less c = omega (arith, c .before .before .before .before .least .ensures .2 (omega arith) (omega arith))
+loop-less c = omega (arith, c .before .before .before .before .least .ensures)
 
 loop-again : tie.Need-loop-again Inv-loop μ-loop
 loop-again c = search needs

@@ -9,8 +9,8 @@ use Rattle.frame.proofs.header.write_header.Tie as tie
 mul-put-byte : tie.Need-mul-put-byte
 mul-put-byte c = search needs
 
-one-if-requires : tie.Need-one-if-requires
-one-if-requires c κs = search needs
+one-if8-requires : tie.Need-one-if8-requires
+one-if8-requires c κs = search needs
 
 mul-put-byte-2 : tie.Need-mul-put-byte-2
 mul-put-byte-2 c = search needs
@@ -51,16 +51,16 @@ returns c = let d = c .before .before in
     let e = o .before .before .before .before in
     let f = e .args .f in
     written (e .args .out .now) (a .put-byte .last .0) (b .put-byte2 .last .0) (t .put-u32 .last .0) (d .copy-into .last .1 .1 .1 .0) f (e .args .payload .now)
-    (e .args .li * 64 + o .one-if .result * 32 + f .counter / 256 % 16) (f .counter % 256)
+    (e .args .li * 64 + o .one-if8 .result * 32 + f .counter / 256 % 16) (f .counter % 256)
     (a .put-byte .ensures) (b .put-byte2 .ensures) (t .put-u32 .ensures) (d .copy-into .ensures)
-    (ap₂ (λ (x y : ℕ). x * 64 + y * 32 + f .counter / 256 % 16) (e .pre .0) (o .one-if .ensures .0)) refl
+    (ap₂ (λ (x y : ℕ). x * 64 + y * 32 + f .counter / 256 % 16) (e .pre .0) (o .one-if8 .ensures .0)) refl
 
 pub write-header-spec : {M : Type 1} → statement M
 write-header-spec =
     tie.close
     (tie.spec
     mul-put-byte
-    one-if-requires
+    one-if8-requires
     mul-put-byte-2
     add-put-byte
     cast-put-byte

@@ -16,8 +16,8 @@ unchanged-requires c κs = search needs
 enum-known-how : tie.Need-enum-known-how
 enum-known-how c = search needs
 
-one-if-requires : tie.Need-one-if-requires
-one-if-requires c κs = search needs
+one-if8-requires : tie.Need-one-if8-requires
+one-if8-requires c κs = search needs
 
 insert-requires : tie.Need-insert-requires
 insert-requires c κs = search needs
@@ -50,7 +50,7 @@ returns-2 c = let e = c .before .before .before .before .before .before in
     let body = e .args .body .now in
     let g = c .before .before .before .how .given in
     let h = inserted-in (e .args .how) (length body) (e .pre .1) (g .0 .0) (g .0 .1 .0) (g .1) in
-    let o = c .before .one-if in
+    let o = c .before .one-if8 in
     makes-it (e .args .how) body (c .insert .result) (Inserted (g .0 .0) (g .0 .1 .0)) (g .1)
     (insert-makes body (g .0 .1 .0) h (c .insert .result) (g .0 .0) (o .result) (o .ensures .0) (c .insert .ensures))
 
@@ -76,7 +76,7 @@ splice-of-spec =
     enum-told
     unchanged-requires
     enum-known-how
-    one-if-requires
+    one-if8-requires
     insert-requires
     enum-known-how-2
     delete-requires

@@ -5,24 +5,24 @@ use borrow.Author.Needs.{needs}
 use Rattle.subscription.proofs.prices.reach.Statement.{statement}
 use Rattle.subscription.proofs.prices.reach.Tie as tie
 
-add-pick : tie.Need-add-pick
-add-pick c = search needs
+add-pick32 : tie.Need-add-pick32
+add-pick32 c = search needs
 
-mul-least : tie.Need-mul-least
-mul-least c = search needs
+mul-least32 : tie.Need-mul-least32
+mul-least32 c = search needs
 
-array-read-least : tie.Need-array-read-least
-array-read-least c = search needs
+array-read-least32 : tie.Need-array-read-least32
+array-read-least32 c = search needs
 
-least-requires : tie.Need-least-requires
-least-requires c κs = search needs
+least32-requires : tie.Need-least32-requires
+least32-requires c κs = search needs
 
-pick-requires : tie.Need-pick-requires
-pick-requires c κs = search needs
+pick32-requires : tie.Need-pick32-requires
+pick32-requires c κs = search needs
 
 returns : tie.Need-returns
-returns c = c .pick .ensures ∙ cc (c .before .least .ensures, add-one (c .before .before .before .before .args .j))
+returns c = c .pick32 .ensures ∙ cc (c .before .least32 .ensures, add-one (c .before .before .before .before .args .j))
 
 pub reach-spec : {M : Type 1} → statement M
 reach-spec =
-    tie.close (tie.spec add-pick mul-least array-read-least least-requires pick-requires returns)
+    tie.close (tie.spec add-pick32 mul-least32 array-read-least32 least32-requires pick32-requires returns)

@@ -39,8 +39,8 @@ cast-x c = search needs
 add-x : tie.Need-add-x Inv-loop μ-loop
 add-x c = let e = c .before .before .before .before .before .before .before in omega (arith, c .digit-of .ensures .1, product-fits (c .before .before .before .before .before .loop .n) (e .args .base) (e .args .most) (c .before .before .before .before .before .loop .inv .1) (e .pre .2) (e .pre .1))
 
-least-requires : tie.Need-least-requires Inv-loop μ-loop
-least-requires c κs = search needs
+least64-requires : tie.Need-least64-requires Inv-loop μ-loop
+least64-requires c κs = search needs
 
 add-i : tie.Need-add-i Inv-loop μ-loop
 add-i c = search needs
@@ -54,7 +54,7 @@ loop-again c =
     let loop-test = else1 .before .before in
     let loop = loop-test .before in
     let start = loop .before .before in
-    let l = loop .loop in let a = start .args in (search needs, c .least .ensures .1, number-turn (a .line .now) (l .i) (a .base) (a .most) (l .n) _ (c .before .digit-of .result) (l .n * a .base + c .before .digit-of .result) (c .least .result) (loop-test .loop-test .taken) (else1 .if1 .left) (c .before .digit-of .ensures .0) refl (c .least .ensures .0) (l .inv .2))
+    let l = loop .loop in let a = start .args in (search needs, omega (arith, c .least64 .ensures), number-turn (a .line .now) (l .i) (a .base) (a .most) (l .n) _ (c .before .digit-of .result) (l .n * a .base + c .before .digit-of .result) (c .least64 .result) (loop-test .loop-test .taken) (else1 .if1 .left) (c .before .digit-of .ensures .0) refl (c .least64 .ensures) (l .inv .2))
 
 returns-2 : tie.Need-returns-2 Inv-loop μ-loop
 returns-2 c = let l = c .before .loop in let a = c .before .before .before .args in (number-past (a .line .now) (l .i) (a .base) (a .most) (l .n) _ (c .loop-test .left) (l .inv .2), search needs)
@@ -73,7 +73,7 @@ number-spec =
     digit-of-requires
     cast-x
     add-x
-    least-requires
+    least64-requires
     add-i
     loop-less
     loop-again
