@@ -12,7 +12,7 @@ ghost use Rattle.receiver.specs.State.{newState, ledgerOf, countsOf, len
 ghost use Rattle.receiver.specs.Calls.{Answered};
 ghost use Rattle.receiver.specs.Running.{Quiet, OnlyAdds};
 
-mod run; // an accepted call
+pub mod run; // an accepted call
 
 use ledger::Pending;
 use receiver_starts::Starts;
@@ -287,7 +287,7 @@ fn samples_in_order(
 // ---- causes
 
 // Causes 1 to 3 of a call that hands in n samples; 0 for none.
-fn given_cause(rate: u32, lent: Lengths, n: usize) -> u8
+pub fn given_cause(rate: u32, lent: Lengths, n: usize) -> u8
     ensures { λ r. ⌜ r ≡ givenCause rate (lentOf lent) n ⌝ }
 {
     if !limits::rate_ok(rate) {
@@ -317,7 +317,7 @@ fn messages_cause(messages: [Pending; receiver_waiting::OPEN_PLACES], n: usize) 
 }
 
 // Cause 7 of a push of n samples, or else the one given.
-fn stream_cause(base: u64, held: usize, n: usize, other: u8) -> u8
+pub fn stream_cause(base: u64, held: usize, n: usize, other: u8) -> u8
     requires { ⌜ base + held + n < 2 ^ 64 ⌝ }
     ensures { λ r. ⌜ r ≡ cond (ltb longestStream (base + held + n)) stream other ⌝ }
 {

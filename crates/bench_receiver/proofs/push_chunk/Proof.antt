@@ -1,40 +1,47 @@
 -- `bench_receiver::push_chunk` meets its contract. Assumes nothing.
-use Prim.Native.Nat.{_+_, _-_, _<_, _≤_}
+use Prim.Native.Nat.{ℕ, _+_, _-_, _<_, _≤_}
 use native.Mathlib.Omega.{arith}
-use lib.ListN.{length}
+use lib.ListN.{drop, length, take}
+use mathlib.Core.List.{List}
 use borrow.Author.Needs.{needs}
+use Rattle.receiver_grown.specs.Grown.{Grown}
+use Rattle.receiver_grown.proofs.GrownLaws.{grown-raw, in-order}
 use Rattle.bench_receiver.proofs.push_chunk.Statement.{statement}
 use Rattle.bench_receiver.proofs.push_chunk.Tie as tie
 use Rattle.bench_receiver.proofs.push_chunk.Reads as reads
 use Rattle.bench_receiver.proofs.push_chunk.Lts as lts
-use Rattle.dips.proofs.least.Reads as least-reads
+use Rattle.bench_receiver.proofs.adds.Reads as adds-reads
+use Rattle.whole.proofs.least.Reads as least-reads
 use Rattle.receiver.proofs.SigfoxReceiver.add_raw.Reads as add-raw-reads
-use Rattle.receiver.proofs.SigfoxReceiver.adds_raw.Reads as adds-raw-reads
 use Rattle.receiver.proofs.SigfoxReceiver.push_raw.Reads as push-raw-reads
 use Rattle.shifts.proofs.Shifts.none.Reads as none-reads
 use Rattle.std.proofs.num.wrapping_add_u64.Reads as wrapping-add-u64-reads
 
 abbrev Inv-loop : tie.InvT-loop
-Inv-loop raw step samples₀ events₀ scratch32₀ scratch64₀ receiver₀ records₀ refused₀ shifts closed at₀ samples events scratch32 scratch64 receiver records refused at = at ≤ length raw
+Inv-loop proved raw step samples₀ events₀ scratch32₀ scratch64₀ receiver₀ records₀ refused₀ shifts closed at₀ samples events scratch32 scratch64 receiver records refused at = (at ≤ length raw) × Grown receiver samples
 
 abbrev μ-loop : tie.MeasureT-loop
-μ-loop raw step samples₀ events₀ scratch32₀ scratch64₀ receiver₀ records₀ refused₀ shifts closed at₀ samples events scratch32 scratch64 receiver records refused at = length raw - at
+μ-loop proved raw step samples₀ events₀ scratch32₀ scratch64₀ receiver₀ records₀ refused₀ shifts closed at₀ samples events scratch32 scratch64 receiver records refused at = length raw - at
 
 -- in a turn, with the size of its part
 abbrev Turn : Type 0
-Turn = lts.After-least (none-reads.Asked, none-reads.Learnt, least-reads.Asked, least-reads.Learnt, adds-raw-reads.Asked, adds-raw-reads.Learnt, add-raw-reads.Asked, add-raw-reads.Learnt, push-raw-reads.Asked, push-raw-reads.Learnt, wrapping-add-u64-reads.Asked, wrapping-add-u64-reads.Learnt) reads.Pre reads.Post Inv-loop μ-loop
+Turn = lts.After-least (none-reads.Asked, none-reads.Learnt, least-reads.Asked, least-reads.Learnt, adds-reads.Asked, adds-reads.Learnt, add-raw-reads.Asked, add-raw-reads.Learnt, push-raw-reads.Asked, push-raw-reads.Learnt, wrapping-add-u64-reads.Asked, wrapping-add-u64-reads.Learnt) reads.Pre reads.Post Inv-loop μ-loop
 
 -- the part is not empty, and ends in the list
 part : (c : Turn) → (c .before .before .loop .at < c .before .before .loop .at + c .least .result) × (c .before .before .loop .at + c .least .result ≤ length (c .before .before .before .before .before .before .args .raw .now))
 part c =
     let s = c .before .before .before .before .before .before in
-    (omega (arith, c .least .ensures, c .before .loop-test .taken, s .pre), omega (arith, c .least .ensures, c .before .loop-test .taken, c .before .before .loop .inv))
+    (omega (arith, c .least .ensures, c .before .loop-test .taken, s .pre .0), omega (arith, c .least .ensures, c .before .loop-test .taken, c .before .before .loop .inv .0))
+
+-- its bytes
+abbrev piece : Turn → List ℕ
+piece c = take (c .before .before .loop .at + c .least .result - c .before .before .loop .at) (drop (c .before .before .loop .at) (c .before .before .before .before .before .before .args .raw .now))
 
 none-requires : tie.Need-none-requires Inv-loop μ-loop
 none-requires c κs = search needs
 
 loop-holds : tie.Need-loop-holds Inv-loop μ-loop
-loop-holds c = search needs
+loop-holds c = (omega arith, c .before .before .before .pre .1)
 
 sub-least : tie.Need-sub-least Inv-loop μ-loop
 sub-least c = search needs
@@ -45,20 +52,20 @@ least-requires c κs = search needs
 add-end : tie.Need-add-end Inv-loop μ-loop
 add-end c = search needs
 
-sub-adds-raw : tie.Need-sub-adds-raw Inv-loop μ-loop
-sub-adds-raw c = search needs
+sub-adds : tie.Need-sub-adds Inv-loop μ-loop
+sub-adds c = search needs
 
-part-adds-raw-start : tie.Need-part-adds-raw-start Inv-loop μ-loop
-part-adds-raw-start c = search needs
+part-adds-start : tie.Need-part-adds-start Inv-loop μ-loop
+part-adds-start c = search needs
 
-part-adds-raw-end : tie.Need-part-adds-raw-end Inv-loop μ-loop
-part-adds-raw-end c = search needs
+part-adds-end : tie.Need-part-adds-end Inv-loop μ-loop
+part-adds-end c = search needs
 
-slice-aggregate-adds-raw : tie.Need-slice-aggregate-adds-raw Inv-loop μ-loop
-slice-aggregate-adds-raw c = search needs
+slice-aggregate-adds : tie.Need-slice-aggregate-adds Inv-loop μ-loop
+slice-aggregate-adds c = search needs
 
-adds-raw-requires : tie.Need-adds-raw-requires Inv-loop μ-loop
-adds-raw-requires c κs = search needs
+adds-requires : tie.Need-adds-requires Inv-loop μ-loop
+adds-requires c κs = in-order (c .before .before .before .before .before .before .before .before .before .before .before .before .loop .inv .1)
 
 sub-add-raw : tie.Need-sub-add-raw Inv-loop μ-loop
 sub-add-raw c = search needs
@@ -75,7 +82,7 @@ slice-aggregate-add-raw c = search needs
 add-raw-requires : tie.Need-add-raw-requires Inv-loop μ-loop
 add-raw-requires c κs =
     let asked = c .before .before .before .before .before .before in
-    asked .before .adds-raw .ensures (asked .if1 .taken)
+    asked .before .adds .ensures (asked .if1 .taken)
 
 sub-push-raw : tie.Need-sub-push-raw Inv-loop μ-loop
 sub-push-raw c = search needs
@@ -104,7 +111,7 @@ loop-less c =
 loop-again : tie.Need-loop-again Inv-loop μ-loop
 loop-again c =
     let t = c .before .before .before .before .before .before .before .before .before .before .before .before .before .before .before .before .before .before .before .before in
-    part t .1
+    (part t .1, grown-raw (piece t) _ (c .before .add-raw .ensures) (t .before .before .loop .inv .1))
 
 loop-less-2 : tie.Need-loop-less-2 Inv-loop μ-loop
 loop-less-2 c =
@@ -115,10 +122,10 @@ loop-less-2 c =
 loop-again-2 : tie.Need-loop-again-2 Inv-loop μ-loop
 loop-again-2 c =
     let t = c .before .before .before .before .before .before .before .before .before .before .before .before .before .before .before .before .before .before .before .before .before in
-    part t .1
+    (part t .1, grown-raw (piece t) _ (c .before .before .push-raw .ensures) (t .before .before .loop .inv .1))
 
 returns : tie.Need-returns Inv-loop μ-loop
-returns c = search needs
+returns c = c .before .loop .inv .1
 
 pub push-chunk-spec : {M : Type 1} → statement M
 push-chunk-spec =
@@ -131,11 +138,11 @@ push-chunk-spec =
     sub-least
     least-requires
     add-end
-    sub-adds-raw
-    part-adds-raw-start
-    part-adds-raw-end
-    slice-aggregate-adds-raw
-    adds-raw-requires
+    sub-adds
+    part-adds-start
+    part-adds-end
+    slice-aggregate-adds
+    adds-requires
     sub-add-raw
     part-add-raw-start
     part-add-raw-end

@@ -3,12 +3,10 @@ use mathlib.Core.Bool.{false, true, not, _&&_}
 use mathlib.Core.List.{map}
 use mathlib.Core.Path.{_≡_, _∙_, refl, sym}
 use native.Mathlib.Omega.{arith}
-use lib.Dec.{leb}
 use lib.ListN.{length, length-map}
 use borrow.Author.Needs.{needs}
 use Rattle.limits.specs.Samples.{allDbm}
 use Rattle.shifts.specs.Shifts.{Schedule, scheduleCause}
-use Rattle.ledger.specs.Causes.{mostWaiting}
 use Rattle.ledger.specs.Ledger.{dbmOf}
 use Rattle.ledger.proofs.Basics.{and-true, clash}
 use Rattle.ledger.proofs.Raw.{raw-valid}

@@ -1,0 +1,3 @@
+-- The definitions that the contracts of `receiver_grown` cite.
+pub mod InOrder
+pub mod Grown
