@@ -8,10 +8,10 @@ use native.Mathlib.Numerals.{add-one}
 use native.Mathlib.Nat.{mod-eq-of-lt, pow-suc, pow-le-pow-right, le-div-iff-mul-le, div-lt-iff-lt-mul}
 use borrow.Author.Tests.{lt-ltb, le-ltb, ltb-true, ltb-false}
 use lib.Dec.{ltb}
-use lib.ListN.{length, take, getD, set, length-set, length-append}
-use lib.Seq.{take-suc, take-suc-set, take-length}
+use lib.ListN.{length, take, drop, getD, set, length-set, length-append}
+use lib.Seq.{take-suc, take-suc-set, take-length, drop-drop, drop-set-lt}
 use Rattle.io.specs.Digits.{glyph, digits, Fewest}
-use Rattle.listening_lines.specs.Text.{decimalBy, decimal, hex, hexBytes, Added}
+use Rattle.listening_lines.specs.Text.{digit, decimalBy, decimal, hex, hexBytes, Added}
 
 -- one byte more
 pub byte-more : (old out text : List ℕ) (at i : ℕ) → at + i < length out → i < length text → take (at + i) out ≡ take at old ++ take i text
@@ -21,11 +21,22 @@ byte-more old out text at i h g e =
     let q : i + 1 ≡ suc i = omega arith in
     rw (p, q, take-suc-set out (at + i) (getD text i 0), take-suc text i 0, e) (simp append-assoc)
 
+-- lists that agree from a place on agree from every later one
+drop-on : (a b : ℕ) (x y : List ℕ) → a ≤ b → drop a x ≡ drop a y → drop b x ≡ drop b y
+drop-on a b x y h e =
+    let k : a + (b - a) ≡ b = omega arith in
+    ap (λ (n : ℕ). drop n x) (sym k) ∙ sym (drop-drop (b - a) a x) ∙ ap (drop (b - a)) e ∙ drop-drop (b - a) a y ∙ ap (λ (n : ℕ). drop n y) k
+
+-- what lies behind that byte is as it was
+pub rest-more : (old out : List ℕ) (at i b : ℕ) → drop (at + i) out ≡ drop (at + i) old → drop (at + (i + 1)) (set out (at + i) b) ≡ drop (at + (i + 1)) old
+rest-more old out at i b e = drop-set-lt (at + (i + 1)) out (at + i) b (omega arith) ∙ drop-on (at + i) (at + (i + 1)) out old (omega arith) e
+
 -- two texts, one behind the other
 pub behind : {old new newer a b : List ℕ} {at r s : ℕ} → Added old at a r new → Added new r b s newer → Added old at (a ++ b) s newer
 behind {old} {new} {newer} {a} {b} {at} {r} {s} x y = record {
   end = rw (length-append a b) (omega (arith, x .end, y .end));
   front = y .front ∙ rw (x .front) (simp append-assoc);
+  rest = y .rest ∙ drop-on r s new old (omega (arith, y .end)) (x .rest);
   room = y .room ∙ x .room;
 }
 
@@ -62,6 +73,15 @@ pub digits-length : (b k n : ℕ) → length (digits b k n) ≡ k
 digits-length b zero n = refl
 digits-length b (suc k) n = rw (length-append (digits b k (n / b)) (glyph (n % b) ∷ []), digits-length b k (n / b)) (omega arith)
 
+-- they are the definition's
+pub digits-hex : (w n : ℕ) → digits 16 w n ≡ hex w n
+unfolding hex
+digits-hex zero n = refl
+digits-hex (suc w) n = rw (digits-hex w (n / 16)) refl
+
+pub hex-length : (w n : ℕ) → length (hex w n) ≡ w
+hex-length w n = rw (← digits-hex w n) (digits-length 16 w n)
+
 -- io puts as many as are asked for, where the number fits
 pub as-wide : (w n r : ℕ) → n < 16 ^ w → 1 ≤ w → w ≤ 16 → Fewest 16 (min (max w 1) 16) n r → r ≡ w
 as-wide w n r lt a b h =
@@ -97,11 +117,16 @@ decimal-of n (suc k) lt h =
 
 -- no text
 pub nothing : (old : List ℕ) (at : ℕ) → Added old at [] at old
-nothing old at = record { end = omega arith; front = sym (append-nil (take at old)); room = refl }
+nothing old at = record { end = omega arith; front = sym (append-nil (take at old)); rest = refl; room = refl }
 
 -- one byte
 pub one-byte : (old : List ℕ) (at b : ℕ) → at + 1 ≤ length old → Added old at (b ∷ []) (at + 1) (set old at b)
-one-byte old at b h = record { end = refl; front = rw (add-one, take-suc-set old at b (omega arith)) refl; room = length-set old at b }
+one-byte old at b h = record {
+  end = refl;
+  front = rw (add-one, take-suc-set old at b (omega arith)) refl;
+  rest = drop-set-lt (at + 1) old at b (omega arith);
+  room = length-set old at b;
+}
 
 -- the same text, written otherwise
 pub as-text : {old new a b : List ℕ} {at r : ℕ} → a ≡ b → Added old at a r new → Added old at b r new

@@ -27,7 +27,6 @@ hex (suc w) n = hex w (n / 16) ++ (digit (n % 16) ∷ [])
 
 -- two for each byte
 unfoldable pub hexBytes : List ℕ → List ℕ
-unfolding hex
 hexBytes [] = []
 hexBytes (b ∷ l) = hex 2 b ++ hexBytes l
 

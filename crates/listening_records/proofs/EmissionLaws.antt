@@ -16,27 +16,31 @@ use Rattle.record.specs.Record.{frameKind}
 use Rattle.record.specs.Readers.{kindOf}
 use Rattle.frequency.specs.declared.Frame1.{Frame1}
 use Rattle.frequency.specs.declared.Frame1.the-variants as first
+use Rattle.frequency.specs.Calls.{saidFirst}
+use Rattle.frequency_measure.specs.declared.Frequency.{Frequency}
+use Rattle.frequency_measure.specs.declared.Frequency.the-variants.{Nothing, Hz}
+use Rattle.limits.specs.Answer.{Answer}
 use Rattle.listening_lines.specs.Text.{Added}
 use Rattle.listening_lines.specs.Lines.{messageLine}
 use Rattle.listening_lines.proofs.TextLaws.{behind}
 use Rattle.listening_records.specs.declared.Told.{Told}
 use Rattle.listening_records.specs.Emission.{Emission, Asked, withFrame, withLine, withMessage, answerFor, emitted, emittedAll, Tells, Within, Grown}
 
-pub line-told : (p : Emission) (old out out′ : List ℕ) (start r : ℕ) (t : Told) (e : List ℕ) (a : Frame1) → Added out (t .end) (messageLine e a) r out′ → Tells p old start t out
+pub line-told : (p : Emission) (old out out′ : List ℕ) (start r : ℕ) (t : Told) (e : List ℕ) (a : Frequency) → Added out (t .end) (messageLine e a) r out′ → Tells p old start t out
   → Tells (withLine e a p) old start (record { refused = 0; frames = t .frames; messages = t .messages + 1; end = r }) out′
 line-told p old out out′ start r t e a x h = record { refused = refl; frames = h .frames; messages = ap (λ (n : ℕ). n + 1) (h .messages); text = behind (h .text) x }
 
 pub refusal-told : (p : Emission) (old out : List ℕ) (start n : ℕ) (t : Told) (e : List ℕ) (a : Frame1) → first.Refused n ≡ a → Tells p old start t out
-  → Tells (withMessage e a p) old start (record { refused = n; frames = t .frames; messages = t .messages; end = t .end }) out
-unfolding withMessage
+  → Tells (withMessage e (saidFirst a) p) old start (record { refused = n; frames = t .frames; messages = t .messages; end = t .end }) out
+unfolding withMessage saidFirst
 refusal-told p old out start n t e a q h = rw (← q) (record { refused = refl; frames = h .frames; messages = h .messages; text = h .text })
 
-pub unknown-line : (p : Emission) (e : List ℕ) (a : Frame1) → first.Unknown ≡ a → withLine e a p ≡ withMessage e a p
-unfolding withMessage
+pub unknown-line : (p : Emission) (e : List ℕ) (a : Frame1) → first.Unknown ≡ a → withLine e Nothing p ≡ withMessage e (saidFirst a) p
+unfolding withMessage saidFirst
 unknown-line p e a q = rw (← q) refl
 
-pub hz-line : (p : Emission) (e : List ℕ) (f : ℕ) (a : Frame1) → first.Hz f ≡ a → withLine e a p ≡ withMessage e a p
-unfolding withMessage
+pub hz-line : (p : Emission) (e : List ℕ) (f : ℕ) (a : Frame1) → first.Hz f ≡ a → withLine e (Hz f) p ≡ withMessage e (saidFirst a) p
+unfolding withMessage saidFirst
 hz-line p e f a q = rw (← q) refl
 
 module _ (q : Asked) (p : Emission) (e : List ℕ) where
@@ -48,7 +52,7 @@ module _ (q : Asked) (p : Emission) (e : List ℕ) where
   unfolding emitted
   emitted-frame z k = rw (eq-eqb (p .refused) 0 z, eq-eqb (kindOf e) frameKind k) refl
 
-  pub emitted-message : (a : Frame1) → p .refused ≡ 0 → (kindOf e ≡ frameKind → ⊥) → a ≡ answerFor q e → withMessage e a p ≡ emitted q p e
+  pub emitted-message : (a : Answer Frequency) → p .refused ≡ 0 → (kindOf e ≡ frameKind → ⊥) → a ≡ answerFor q e → withMessage e a p ≡ emitted q p e
   unfolding emitted
   emitted-message a z k g = rw (eq-eqb (p .refused) 0 z, ne-eqb (kindOf e) frameKind k, g) refl
 

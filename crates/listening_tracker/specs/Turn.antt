@@ -40,6 +40,10 @@ unfoldable pub turn : ℕ → ℕ → List Float → ℕ → FrequencyTracker �
 unfolding samplesTurn
 turn room hz dbm reg s l = let u = tuned (tracker s l) hz in unless (causeTuned s (l .tuned) (l .freq) hz) s l (samplesTurn room dbm reg (packed u) (stored u l))
 
+-- an answer that is a refusal: its number, the tracker as it was, and nowhere to tune
+abbrev pub Stops : ℕ → FrequencyTracker → Next → Type 0
+Stops k s r = (r .refused ≡ k) × (r .tracker ≡ s) × (r .tune ≡ Nothing)
+
 -- an answer, and what stands in the lists then
 unfoldable pub Turned : Turn → Next → Lists → Type 0
 Turned (stop k t m) r l = (r .refused ≡ k) × (r .tracker ≡ t) × (r .tune ≡ Nothing) × (l ≡ m)

@@ -1,15 +1,15 @@
-// The tracker's side of one record of `listen`.
+// The tracker's side of one record of `listen` (01, frequency.rs).
 ghost use mathlib.Core.Path.{_≡_};
 ghost use lib.ListN.{length};
 ghost use Rattle.frequency.specs.Lent.{lists};
 ghost use Rattle.frequency.specs.Calls.{Beside};
-ghost use Rattle.listening_tracker.specs.Turn.{turn, samplesTurn, cfoTurn, Turned};
+ghost use Rattle.listening_tracker.specs.Turn.{turn, samplesTurn, cfoTurn, Stops, Turned};
 use frequency::FrequencyTracker;
 use frequency::Next;
 use frequency_measure::Frequency;
 
 fn refused(t: FrequencyTracker, number: u8) -> Next
-    ensures { λ r. ⌜ r .refused ≡ number ⌝ }
+    ensures { λ r. ⌜ Stops number t r ⌝ }
 {
     let tracker = t;
     Next {

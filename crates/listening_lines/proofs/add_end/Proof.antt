@@ -40,7 +40,13 @@ same-length c = search needs
 returns : tie.Need-returns
 unfolding endLine
 returns c =
-    (as-text (simp append-assoc) (behind (behind (behind (behind (c .before .before .before .before .before .before .before .before .before .before .before .before .before .before .before .before .before .before .add-head .ensures) (c .before .before .before .before .before .before .before .before .before .before .before .before .before .before .add-field .ensures .0)) (c .before .before .before .before .before .before .before .before .before .before .add-field2 .ensures .0)) (c .before .before .before .before .before .before .add-field3 .ensures .0)) (c .before .before .add-field4 .ensures .0)), search needs)
+    let last = c .before .before in
+    let third = last .before .before .before .before in
+    let second = third .before .before .before .before in
+    let first = second .before .before .before .before in
+    let head = first .before .before .before .before .add-head .ensures in
+    let whole = behind (behind (behind (behind head (first .add-field .ensures .0)) (second .add-field2 .ensures .0)) (third .add-field3 .ensures .0)) (last .add-field4 .ensures .0) in
+    (as-text (simp append-assoc) whole, search needs)
 
 pub add-end-spec : {M : Type 1} → statement M
 add-end-spec =

@@ -19,14 +19,6 @@ enum-told c = search needs
 add-byte-requires : tie.Need-add-byte-requires
 add-byte-requires c κs = search needs
 
--- src/lib.rt:74:37
-enum-told-2 : tie.Need-enum-told-2
-enum-told-2 c = search needs
-
--- src/lib.rt:74:28
-add-byte-requires-2 : tie.Need-add-byte-requires-2
-add-byte-requires-2 c κs = search needs
-
 -- src/lib.rt:75:20
 enum-known-answer : tie.Need-enum-known-answer
 enum-known-answer c = search needs
@@ -55,16 +47,7 @@ same-length-2 c = search needs
 -- src/lib.rt:67:1
 returns-2 : tie.Need-returns-2
 unfolding hzText
-returns-2 c = (as-text (ap hzText (sym (c .before .before .before .before .enum-told2 .given .1))) (c .before .before .add-byte2 .ensures), search needs)
-
--- src/lib.rt:67:1
-same-length-3 : tie.Need-same-length-3
-same-length-3 c = search needs
-
--- src/lib.rt:67:1
-returns-3 : tie.Need-returns-3
-unfolding hzText
-returns-3 c = (as-text (ap hzText (sym (c .before .before .before .before .before .answer .given .1))) (c .before .before .add-number .ensures .0), search needs)
+returns-2 c = (as-text (ap hzText (sym (c .before .before .before .before .before .answer .given .1))) (c .before .before .add-number .ensures .0), search needs)
 
 pub add-hz-spec : {M : Type 1} → statement M
 add-hz-spec =
@@ -72,14 +55,10 @@ add-hz-spec =
     (tie.spec
     enum-told
     add-byte-requires
-    enum-told-2
-    add-byte-requires-2
     enum-known-answer
     cast-add-number
     add-number-requires
     same-length
     returns
     same-length-2
-    returns-2
-    same-length-3
-    returns-3)
+    returns-2)

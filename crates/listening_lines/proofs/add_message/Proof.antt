@@ -2,7 +2,7 @@
 use native.Mathlib.Omega.{arith}
 use mathlib.Core.Path.{_≡_, refl, sym, ap, _∙_}
 use mathlib.Core.List.{append-assoc}
-use Rattle.listening_lines.proofs.TextLaws.{behind, as-text, digits-length}
+use Rattle.listening_lines.proofs.TextLaws.{behind, as-text}
 use Rattle.listening_lines.specs.Lines.{messageLine}
 use borrow.Author.Needs.{needs}
 use Rattle.listening_lines.proofs.add_message.Statement.{statement}
@@ -42,7 +42,13 @@ same-length c = search needs
 returns : tie.Need-returns
 unfolding messageLine
 returns c =
-    (as-text (simp append-assoc) (behind (behind (behind (behind (c .before .before .before .before .before .before .before .before .before .before .before .before .before .before .before .before .before .before .add-sender .ensures .0) (c .before .before .before .before .before .before .before .before .before .before .before .before .before .before .add-payload .ensures .0)) (c .before .before .before .before .before .before .before .before .before .before .add-byte .ensures)) (c .before .before .before .before .before .before .add-hz .ensures .0)) (c .before .before .add-byte2 .ensures)), search needs)
+    let last = c .before .before in
+    let hz = last .before .before .before .before in
+    let space = hz .before .before .before .before in
+    let payload = space .before .before .before .before in
+    let sender = payload .before .before .before .before .add-sender .ensures .0 in
+    let whole = behind (behind (behind (behind sender (payload .add-payload .ensures .0)) (space .add-byte .ensures)) (hz .add-hz .ensures .0)) (last .add-byte2 .ensures) in
+    (as-text (simp append-assoc) whole, search needs)
 
 pub add-message-spec : {M : Type 1} → statement M
 add-message-spec =

@@ -1,12 +1,12 @@
-use Rattle.listening_lines.specs.Text.{Added, hexBytes, hex}
 -- `listening_lines::add_payload` meets its contract. The invariant: the digits of the first i bytes are added. Assumes nothing.
 use Prim.Native.Nat.{_+_, _-_, _*_, _≤_, _<_}
 use native.Mathlib.Omega.{arith}
 use mathlib.Core.Path.{_≡_, refl, sym, ap, _∙_}
-use lib.ListN.{take, length}
+use lib.ListN.{take, length, getD}
 use borrow.Author.Needs.{needs}
+use Rattle.listening_lines.specs.Text.{Added, hexBytes, hex}
 use Rattle.record.specs.Readers.{payloadOf}
-use Rattle.listening_lines.proofs.TextLaws.{as-text, behind, nothing}
+use Rattle.listening_lines.proofs.TextLaws.{as-text, behind, nothing, hex-length}
 use Rattle.listening_lines.proofs.LineLaws.{no-payload, whole-payload, full-payload, payload-more}
 use Rattle.listening_lines.proofs.add_payload.Statement.{statement}
 use Rattle.listening_lines.proofs.add_payload.Tie as tie
@@ -49,7 +49,11 @@ same-length-2 c = search needs
 
 -- src/lib.rt:58:13
 returns-2 : tie.Need-returns-2 Inv-loop μ-loop
-returns-2 c = (as-text (whole-payload (c .before .before .before .before .before .before .before .args .event .now) (c .before .before .before .before .payload-len-of .result) (c .before .before .loop .i) (c .before .before .before .before .payload-len-of .ensures) (omega arith) (omega arith)) (c .before .before .loop .inv .3), search needs)
+returns-2 c =
+    let l = c .before .before .loop in
+    let n = c .before .before .before .before in
+    let e = n .before .before .before .args .event .now in
+    (as-text (whole-payload e (n .payload-len-of .result) (l .i) (n .payload-len-of .ensures) (omega arith) (omega arith)) (l .inv .3), search needs)
 
 -- src/lib.rt:60:52
 cast-add-hex-byte : tie.Need-cast-add-hex-byte Inv-loop μ-loop
@@ -78,9 +82,11 @@ loop-less c = search needs
 -- src/lib.rt:56:5
 loop-again : tie.Need-loop-again Inv-loop μ-loop
 loop-again c =
-    let l = c .before .before .before .before .before .before .before .loop in
-    let e = c .before .before .before .before .before .before .before .before .before .before .before .before .args .event .now in
-    (omega arith, omega arith, omega (arith, c .before .before .add-hex-byte .ensures .end), as-text (payload-more e (l .i) (omega arith) (omega arith)) (behind (l .inv .3) (c .before .before .add-hex-byte .ensures)))
+    let turn = c .before .before .before .before .before .before .before in
+    let l = turn .loop in
+    let e = turn .before .before .before .before .before .args .event .now in
+    let a = c .before .before .add-hex-byte .ensures in
+    (omega arith, omega arith, omega (arith, a .end, hex-length 2 (getD e (16 + l .i) 0)), as-text (payload-more e (l .i) (omega arith) (omega arith)) (behind (l .inv .3) a))
 
 -- src/lib.rt:45:1
 same-length-3 : tie.Need-same-length-3 Inv-loop μ-loop
@@ -88,7 +94,11 @@ same-length-3 c = search needs
 
 -- src/lib.rt:45:1
 returns-3 : tie.Need-returns-3 Inv-loop μ-loop
-returns-3 c = (as-text (full-payload (c .before .before .before .before .before .before .args .event .now) (c .before .before .before .payload-len-of .result) (c .before .loop .i) (c .before .before .before .payload-len-of .ensures) (omega arith) (omega arith) (omega arith)) (c .before .loop .inv .3), search needs)
+returns-3 c =
+    let l = c .before .loop in
+    let n = c .before .before .before in
+    let e = n .before .before .before .args .event .now in
+    (as-text (full-payload e (n .payload-len-of .result) (l .i) (n .payload-len-of .ensures) (omega arith) (omega arith) (omega arith)) (l .inv .3), search needs)
 
 pub add-payload-spec : {M : Type 1} → statement M
 add-payload-spec =

@@ -2,7 +2,7 @@
 use native.Mathlib.Omega.{arith}
 use mathlib.Core.Path.{_≡_, refl, sym, ap, _∙_}
 use mathlib.Core.List.{append-assoc}
-use Rattle.listening_lines.proofs.TextLaws.{behind, as-text, digits-length}
+use Rattle.listening_lines.proofs.TextLaws.{behind, as-text, hex-length}
 use Rattle.listening_lines.proofs.LineLaws.{sender-parts}
 use borrow.Author.Needs.{needs}
 use Rattle.listening_lines.proofs.add_sender.Statement.{statement}
@@ -68,11 +68,18 @@ same-length c = search needs
 -- src/lib.rt:103:1
 returns : tie.Need-returns
 returns c =
-    let e = c .before .before .before .before .before .before .before .before .before .before .before .before .before .before .before .before .before .before .before .before .before .before .before .before .before .args .event .now in
-    let h = c .before .before .before .before .before .before .before .before .before .before .before .before .before .before .before .before .add-hex .ensures in
-    let n = digits-length 16 8 (c .before .before .before .before .before .before .before .before .before .before .before .before .before .before .before .before .before .device-of .result) in
-    let g = behind (behind (behind (behind (c .before .before .before .before .before .before .before .before .before .before .before .before .before .before .before .before .before .before .before .before .before .add-head .ensures) h) (c .before .before .before .before .before .before .before .before .before .before .before .before .add-byte .ensures)) (c .before .before .before .before .before .before .before .add-field .ensures .0)) (c .before .before .add-field2 .ensures .0) in
-    (as-text (sender-parts e (c .before .before .before .before .before .before .before .before .before .before .before .before .before .before .before .before .before .device-of .result) (c .before .before .before .before .before .before .before .before .counter-of .result) (c .before .before .before .rank-of .result) (c .before .before .before .before .before .before .before .before .before .before .before .before .before .before .before .before .before .device-of .ensures) (c .before .before .before .before .before .before .before .before .counter-of .ensures) (c .before .before .before .rank-of .ensures)) g, omega (arith, n, h .end, c .before .before .before .before .before .before .before .before .before .before .before .before .before .before .before .before .before .before .before .before .before .add-head .ensures .end))
+    let last = c .before .before in
+    let rank = last .before .rank-of in
+    let field = last .before .before .before .before .before in
+    let counter = field .before .counter-of in
+    let space = field .before .before .before .before .before in
+    let hex = space .before .before .before .before in
+    let device = hex .before .device-of in
+    let head = hex .before .before .before .before .before in
+    let e = head .before .before .before .before .args .event .now in
+    let whole = behind (behind (behind (behind (head .add-head .ensures) (hex .add-hex .ensures)) (space .add-byte .ensures)) (field .add-field .ensures .0)) (last .add-field2 .ensures .0) in
+    ( as-text (sender-parts e (device .result) (counter .result) (rank .result) (device .ensures) (counter .ensures) (rank .ensures)) whole
+    , omega (arith, hex-length 8 (device .result), hex .add-hex .ensures .end, head .add-head .ensures .end) )
 
 pub add-sender-spec : {M : Type 1} → statement M
 add-sender-spec =

@@ -43,7 +43,11 @@ same-length c = search needs
 -- src/lib.rt:23:1
 returns-2 : tie.Need-returns-2
 unfolding tuneLine
-returns-2 c = (as-text (ap tuneLine (sym (c .before .before .before .before .before .before .before .before .before .to .given .1))) (behind (c .before .before .before .before .before .before .add-head .ensures) (c .before .before .add-field .ensures .0)), search needs)
+returns-2 c =
+    let field = c .before .before in
+    let head = field .before .before .before .before in
+    let to = head .before .before .before .to .given in
+    (as-text (ap tuneLine (sym (to .1))) (behind (head .add-head .ensures) (field .add-field .ensures .0)), search needs)
 
 pub add-tune-spec : {M : Type 1} → statement M
 add-tune-spec =

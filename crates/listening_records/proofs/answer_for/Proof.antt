@@ -29,7 +29,11 @@ same-length c = search needs
 -- src/lib.rt:50:1
 returns : tie.Need-returns
 unfolding answerFor
-returns c = c .before .before .frame1 .ensures .answer ∙ rw (c .before .before .before .before .before .before .before .before .spans-of .ensures, c .before .before .before .before .before .before .before .downlink-of .ensures) refl
+returns c =
+    let call = c .before .before in
+    let downlink = call .before .before .before .before .before in
+    let spans = downlink .before in
+    call .frame1 .ensures .says ∙ rw (spans .spans-of .ensures, downlink .downlink-of .ensures) refl
 
 pub answer-for-spec : {M : Type 1} → statement M
 answer-for-spec =

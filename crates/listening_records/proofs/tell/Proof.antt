@@ -4,6 +4,7 @@ use native.Mathlib.Omega.{arith}
 use lib.ListN.{length}
 use mathlib.Core.List.{List}
 use Prim.Native.Nat.{ℕ}
+use Rattle.frequency.specs.Calls.{saidFirst}
 use Rattle.listening_records.specs.Emission.{Emission, Tells}
 use Rattle.listening_records.proofs.EmissionLaws.{emitted-stop, emitted-frame, emitted-message, frame-told, as-told}
 use borrow.Author.Needs.{needs}
@@ -18,7 +19,8 @@ use Rattle.listening_records.proofs.tell_message.Reads as tell-message-
 -- src/lib.rt:117:9
 returns : tie.Need-returns
 returns c =
-    ( (λ (old : List ℕ) (start : ℕ) (p : Emission) (h : Tells p old start (c .before .before .before .before .before .args .t) (c .before .before .before .before .before .args .out .now)). as-told (emitted-stop (record { tracker = c .before .before .before .before .before .args .tracker; at = c .before .before .before .before .before .args .at .now; lo = c .before .before .before .before .before .args .lo .now; hz = c .before .before .before .before .before .args .hz .now; room = length (c .before .before .before .before .before .args .scratch .now) }) p (c .before .before .before .before .before .args .event .now) (omega (arith, h .refused))) h)
+    let s = c .before .before .before .before .before .args in
+    ( (λ (old : List ℕ) (start : ℕ) (p : Emission) (h : Tells p old start (s .t) (s .out .now)). as-told (emitted-stop (record { tracker = s .tracker; at = s .at .now; lo = s .lo .now; hz = s .hz .now; room = length (s .scratch .now) }) p (s .event .now) (omega (arith, h .refused))) h)
     , record { end = omega arith; frames = omega arith; messages = omega arith; room = refl } )
 
 -- src/lib.rt:119:8
@@ -32,7 +34,9 @@ add-m c = search needs
 -- src/lib.rt:122:9
 returns-2 : tie.Need-returns-2
 returns-2 c =
-    ( (λ (old : List ℕ) (start : ℕ) (p : Emission) (h : Tells p old start (c .before .before .before .before .before .before .before .before .args .t) (c .before .before .before .before .before .before .before .before .args .out .now)). as-told (emitted-frame (record { tracker = c .before .before .before .before .before .before .before .before .args .tracker; at = c .before .before .before .before .before .before .before .before .args .at .now; lo = c .before .before .before .before .before .before .before .before .args .lo .now; hz = c .before .before .before .before .before .before .before .before .args .hz .now; room = length (c .before .before .before .before .before .before .before .before .args .scratch .now) }) p (c .before .before .before .before .before .before .before .before .args .event .now) (omega (arith, h .refused)) (omega (arith, c .before .before .kind-of .ensures))) (frame-told p old _ start (c .before .before .before .before .before .before .before .before .args .t) (omega arith) h))
+    let s = c .before .before .before .before .before .before .before .before .args in
+    ( (λ (old : List ℕ) (start : ℕ) (p : Emission) (h : Tells p old start (s .t) (s .out .now)).
+        as-told (emitted-frame (record { tracker = s .tracker; at = s .at .now; lo = s .lo .now; hz = s .hz .now; room = length (s .scratch .now) }) p (s .event .now) (omega (arith, h .refused)) (omega (arith, c .before .before .kind-of .ensures))) (frame-told p old _ start (s .t) (omega arith) h))
     , record { end = omega arith; frames = omega arith; messages = omega arith; room = refl } )
 
 -- src/lib.rt:124:9
@@ -54,8 +58,13 @@ same-length-2 c = search needs
 -- src/lib.rt:101:1
 returns-3 : tie.Need-returns-3
 returns-3 c =
-    ( (λ (old : List ℕ) (start : ℕ) (p : Emission) (h : Tells p old start (c .before .before .before .before .before .before .before .before .before .before .before .before .before .before .before .args .t) (c .before .before .before .before .before .before .before .before .before .before .before .before .before .before .before .args .out .now)). as-told (emitted-message (record { tracker = c .before .before .before .before .before .before .before .before .before .before .before .before .before .before .before .args .tracker; at = c .before .before .before .before .before .before .before .before .before .before .before .before .before .before .before .args .at .now; lo = c .before .before .before .before .before .before .before .before .before .before .before .before .before .before .before .args .lo .now; hz = c .before .before .before .before .before .before .before .before .before .before .before .before .before .before .before .args .hz .now; room = length (c .before .before .before .before .before .before .before .before .before .before .before .before .before .before .before .args .scratch .now) }) p (c .before .before .before .before .before .before .before .before .before .before .before .before .before .before .before .args .event .now) (c .before .before .before .before .before .before .answer-for .result) (omega (arith, h .refused)) (omega (arith, c .before .before .before .before .before .before .before .before .before .kind-of .ensures)) (c .before .before .before .before .before .before .answer-for .ensures)) (c .before .before .tell-message .ensures .0 old start p h))
-    , c .before .before .tell-message .ensures .1 )
+    let told = c .before .before .tell-message .ensures in
+    let asked = c .before .before .before .before .before .before in
+    let kind = asked .before .before .before in
+    let s = kind .before .before .before .before .before .before .args in
+    ( (λ (old : List ℕ) (start : ℕ) (p : Emission) (h : Tells p old start (s .t) (s .out .now)).
+        as-told (emitted-message (record { tracker = s .tracker; at = s .at .now; lo = s .lo .now; hz = s .hz .now; room = length (s .scratch .now) }) p (s .event .now) (saidFirst (asked .answer-for .result)) (omega (arith, h .refused)) (omega (arith, kind .kind-of .ensures)) (asked .answer-for .ensures)) (told .0 old start p h))
+    , told .1 )
 
 pub tell-spec : {M : Type 1} → statement M
 tell-spec =

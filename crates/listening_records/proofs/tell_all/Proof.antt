@@ -66,8 +66,9 @@ loop-less c = search needs
 -- src/lib.rt:147:5
 loop-again : tie.Need-loop-again Inv-loop μ-loop
 loop-again c =
-    let s = c .before .before .before .before .before .before .before .before .before .before .before .before .before .args in
-    let l = c .before .before .before .before .before .before .before .before .before .loop in
+    let turn = c .before .before .before .before .before .before .before .before .before in
+    let s = turn .before .before .before .before .args in
+    let l = turn .loop in
     let x = c .before .before .before .before .tell in
     ( omega arith
     , search needs

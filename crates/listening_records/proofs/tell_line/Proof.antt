@@ -28,7 +28,8 @@ same-length c = search needs
 returns : tie.Need-returns
 returns c =
     let a = c .before .before .before .add-message in
-    ( (λ (old : List ℕ) (start : ℕ) (p : Emission) (h : Tells p old start (c .before .before .before .before .before .before .before .args .t) (c .before .before .before .before .before .before .before .args .out .now)). line-told p old _ _ start (a .result) (c .before .before .before .before .before .before .before .args .t) (c .before .before .before .before .before .before .before .args .event .now) (c .before .before .before .before .before .before .before .args .answer) (a .ensures .0) h)
+    let s = c .before .before .before .before .before .before .before .args in
+    ( (λ (old : List ℕ) (start : ℕ) (p : Emission) (h : Tells p old start (s .t) (s .out .now)). line-told p old _ _ start (a .result) (s .t) (s .event .now) (s .answer) (a .ensures .0) h)
     , record { end = a .ensures .1; frames = omega arith; messages = omega arith; room = a .ensures .0 .room } )
 
 pub tell-line-spec : {M : Type 1} → statement M

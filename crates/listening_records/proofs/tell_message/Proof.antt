@@ -35,7 +35,8 @@ tell-line-requires-2 c κs = search needs
 -- src/lib.rt:81:1
 returns : tie.Need-returns
 returns c =
-    ( (λ (old : List ℕ) (start : ℕ) (p : Emission) (h : Tells p old start (c .before .before .before .before .before .args .t) (c .before .before .before .before .before .args .out .now)). refusal-told p old _ start (c .before .answer .given .0 .0) (c .before .before .before .before .before .args .t) (c .before .before .before .before .before .args .event .now) (c .before .before .before .before .before .args .answer) (sym (c .before .answer .given .1)) h)
+    let s = c .before .before .before .before .before .args in
+    ( (λ (old : List ℕ) (start : ℕ) (p : Emission) (h : Tells p old start (s .t) (s .out .now)). refusal-told p old _ start (c .before .answer .given .0 .0) (s .t) (s .event .now) (s .answer) (sym (c .before .answer .given .1)) h)
     , record { end = omega arith; frames = omega arith; messages = omega arith; room = refl } )
 
 -- src/lib.rt:81:1
@@ -45,7 +46,8 @@ same-length c = search needs
 -- src/lib.rt:81:1
 returns-2 : tie.Need-returns-2
 returns-2 c =
-    ( (λ (old : List ℕ) (start : ℕ) (p : Emission) (h : Tells p old start (c .before .before .before .before .before .before .before .before .args .t) (c .before .before .before .before .before .before .before .before .args .out .now)). as-told (unknown-line p (c .before .before .before .before .before .before .before .before .args .event .now) (c .before .before .before .before .before .before .before .before .args .answer) (sym (c .before .before .before .before .enum-told .given .1))) (c .before .before .tell-line .ensures .0 old start p h))
+    let s = c .before .before .before .before .before .before .before .before .args in
+    ( (λ (old : List ℕ) (start : ℕ) (p : Emission) (h : Tells p old start (s .t) (s .out .now)). as-told (unknown-line p (s .event .now) (s .answer) (sym (c .before .before .before .before .enum-told .given .1))) (c .before .before .tell-line .ensures .0 old start p h))
     , c .before .before .tell-line .ensures .1 )
 
 -- src/lib.rt:81:1
@@ -55,7 +57,8 @@ same-length-2 c = search needs
 -- src/lib.rt:81:1
 returns-3 : tie.Need-returns-3
 returns-3 c =
-    ( (λ (old : List ℕ) (start : ℕ) (p : Emission) (h : Tells p old start (c .before .before .before .before .before .before .before .before .args .t) (c .before .before .before .before .before .before .before .before .args .out .now)). as-told (hz-line p (c .before .before .before .before .before .before .before .before .args .event .now) (c .before .before .before .before .enum-told2 .given .0 .0) (c .before .before .before .before .before .before .before .before .args .answer) (sym (c .before .before .before .before .enum-told2 .given .1))) (c .before .before .tell-line2 .ensures .0 old start p h))
+    let s = c .before .before .before .before .before .before .before .before .args in
+    ( (λ (old : List ℕ) (start : ℕ) (p : Emission) (h : Tells p old start (s .t) (s .out .now)). as-told (hz-line p (s .event .now) (c .before .before .before .before .enum-told2 .given .0 .0) (s .answer) (sym (c .before .before .before .before .enum-told2 .given .1))) (c .before .before .tell-line2 .ensures .0 old start p h))
     , c .before .before .tell-line2 .ensures .1 )
 
 pub tell-message-spec : {M : Type 1} → statement M

@@ -23,7 +23,7 @@ refused-requires c κs = search needs
 returns : tie.Need-returns
 returns c =
     let h : c .before .before .before .samples .result .refused ≡ 0 → ⊥ = omega arith in
-    samples-stop _ _ _ _ _ _ _ _ _ _ (c .before .before .before .samples .ensures) h (c .refused .ensures)
+    samples-stop _ _ _ _ _ _ _ _ _ (c .before .before .before .samples .ensures) h (c .refused .ensures)
 
 -- src/lib.rt:65:5
 read-requires : tie.Need-read-requires
@@ -32,8 +32,10 @@ read-requires c κs = search needs
 -- src/lib.rt:46:1
 returns-2 : tie.Need-returns-2
 returns-2 c =
-    let z : c .before .before .before .before .before .before .before .before .before .before .samples .result .refused ≡ 0 = omega arith in
-    samples-on _ _ _ _ _ _ _ _ _ _ (c .before .before .before .before .before .before .before .before .before .before .samples .ensures) z (c .read .ensures)
+    let at-first = c .before .before .before .before .before .before .before .before .before .before in
+    let first = at-first .samples in
+    let z : first .result .refused ≡ 0 = omega arith in
+    samples-on _ _ _ _ _ _ _ _ _ _ (first .ensures) z (c .read .ensures)
 
 pub hear-spec : {M : Type 1} → statement M
 hear-spec = tie.close (tie.spec samples-requires refused-requires returns read-requires returns-2)

@@ -27,7 +27,7 @@ refused-requires c κs = search needs
 returns : tie.Need-returns
 returns c =
     let h : c .before .before .before .cfo .result .refused ≡ 0 → ⊥ = omega arith in
-    cfo-stop _ _ _ _ _ _ _ _ _ (c .before .before .before .cfo .ensures) h (c .refused .ensures)
+    cfo-stop _ _ _ _ _ _ _ _ (c .before .before .before .cfo .ensures) h (c .refused .ensures)
 
 -- src/lib.rt:42:5
 next-tuning-requires : tie.Need-next-tuning-requires
@@ -36,8 +36,10 @@ next-tuning-requires c κs = search needs
 -- src/lib.rt:23:1
 returns-2 : tie.Need-returns-2
 returns-2 c =
-    let z : c .before .before .before .before .before .before .before .before .before .before .before .before .before .cfo .result .refused ≡ 0 = omega arith in
-    cfo-on _ _ _ _ _ _ _ _ _ (c .before .before .before .before .before .before .before .before .before .before .before .before .before .cfo .ensures) z (next-turned _ _ _ _ _ (c .next-tuning .ensures))
+    let at-first = c .before .before .before .before .before .before .before .before .before .before .before .before .before in
+    let first = at-first .cfo in
+    let z : first .result .refused ≡ 0 = omega arith in
+    cfo-on _ _ _ _ _ _ _ _ _ (first .ensures) z (next-turned _ _ _ _ _ (c .next-tuning .ensures))
 
 pub read-spec : {M : Type 1} → statement M
 read-spec =

@@ -23,7 +23,7 @@ refused-requires c κs = search needs
 returns : tie.Need-returns
 returns c =
     let h : c .before .before .before .tuned .result .refused ≡ 0 → ⊥ = omega arith in
-    tuned-stop _ _ _ _ _ _ _ _ _ _ _ _ _ _ _ _ (c .before .before .before .tuned .ensures) h (c .refused .ensures)
+    tuned-stop _ _ _ _ _ _ _ _ _ _ _ _ _ _ _ (c .before .before .before .tuned .ensures) h (c .refused .ensures)
 
 -- src/lib.rt:90:5
 hear-requires : tie.Need-hear-requires
@@ -32,8 +32,10 @@ hear-requires c κs = search needs
 -- src/lib.rt:69:1
 returns-2 : tie.Need-returns-2
 returns-2 c =
-    let z : c .before .before .before .before .before .before .before .before .before .before .tuned .result .refused ≡ 0 = omega arith in
-    tuned-on _ _ _ _ _ _ _ _ _ _ _ _ _ _ _ _ (c .before .before .before .before .before .before .before .before .before .before .tuned .ensures) z (c .before .before .before .before .before .before .before .before .before .before .before .before .before .before .pre) (c .hear .ensures)
+    let at-first = c .before .before .before .before .before .before .before .before .before .before in
+    let first = at-first .tuned in
+    let z : first .result .refused ≡ 0 = omega arith in
+    tuned-on _ _ _ _ _ _ _ _ _ _ _ _ _ _ _ (first .ensures) _ z (at-first .before .before .before .before .pre) (c .hear .ensures)
 
 pub track-spec : {M : Type 1} → statement M
 track-spec = tie.close (tie.spec tuned-requires refused-requires returns hear-requires returns-2)

@@ -1,26 +1,26 @@
--- `listening_lines::writing::add` meets its contract. The invariant: the first i bytes stand behind what stood there. Assumes nothing.
+-- `listening_lines::writing::add` meets its contract. The invariant: the first i bytes stand behind what stood there, and what lies behind them is as it was. Assumes nothing.
 use Prim.Native.Nat.{_+_, _-_, _≤_}
 use mathlib.Core.List.{_++_, append-nil}
 use native.Mathlib.Nat.{add-zero}
 use mathlib.Core.Path.{_≡_, _∙_, refl, sym}
 use native.Mathlib.Omega.{arith}
-use lib.ListN.{length, length-set, take}
+use lib.ListN.{length, length-set, take, drop}
 use lib.Seq.{take-length}
 use borrow.Author.Needs.{needs}
-use Rattle.listening_lines.proofs.TextLaws.{byte-more}
+use Rattle.listening_lines.proofs.TextLaws.{byte-more, rest-more}
 use Rattle.listening_lines.proofs.writing.add.Statement.{statement}
 use Rattle.listening_lines.proofs.writing.add.Tie as tie
 use Rattle.listening_lines.proofs.writing.add.Reads as reads
 use Rattle.listening_lines.proofs.writing.add.Lts as lts
 
 abbrev Inv-loop : tie.InvT-loop
-Inv-loop out₀ at text i₀ out i = (i ≤ length text) × (length out ≡ length out₀) × (take (at + i) out ≡ take at out₀ ++ take i text)
+Inv-loop out₀ at text i₀ out i = (i ≤ length text) × (length out ≡ length out₀) × (take (at + i) out ≡ take at out₀ ++ take i text) × (drop (at + i) out ≡ drop (at + i) out₀)
 
 abbrev μ-loop : tie.MeasureT-loop
 μ-loop out₀ at text i₀ out i = length text - i
 
 loop-holds : tie.Need-loop-holds Inv-loop μ-loop
-loop-holds c = (search needs, refl, rw (add-zero, append-nil) refl)
+loop-holds c = (search needs, refl, rw (add-zero, append-nil) refl, refl)
 
 shared-slice-read-out : tie.Need-shared-slice-read-out Inv-loop μ-loop
 shared-slice-read-out c = search needs
@@ -41,7 +41,8 @@ loop-again : tie.Need-loop-again Inv-loop μ-loop
 loop-again c =
     let s = c .before .before .before in
     let l = c .before .before .loop in
-    (omega arith, rw length-set (l .inv .1), byte-more (s .args .out .now) (l .out) (s .args .text .now) (s .args .at) (l .i) (omega arith) (omega arith) (l .inv .2))
+    (omega arith, rw length-set (l .inv .1), byte-more (s .args .out .now) (l .out) (s .args .text .now) (s .args .at) (l .i) (omega arith) (omega arith) (l .inv .2)
+    , rest-more (s .args .out .now) (l .out) (s .args .at) (l .i) _ (l .inv .3))
 
 add-result : tie.Need-add-result Inv-loop μ-loop
 add-result c = search needs
@@ -58,6 +59,7 @@ returns c =
     record {
       end = omega arith;
       front = l .inv .2 ∙ rw (e, take-length t) refl;
+      rest = l .inv .3;
       room = l .inv .1;
     }
 

@@ -23,7 +23,10 @@ same-length c = search needs
 
 -- src/writing.rt:60:1
 returns : tie.Need-returns
-returns c = (behind (c .before .before .before .before .before .before .add-number .ensures .0) (c .before .before .add-byte .ensures), omega (arith, c .before .before .before .before .before .before .add-number .ensures .1, c .before .before .add-byte .ensures .end))
+returns c =
+    let end = c .before .before in
+    let number = end .before .before .before .before .add-number .ensures in
+    (behind (number .0) (end .add-byte .ensures), omega (arith, number .1, end .add-byte .ensures .end))
 
 pub add-field-spec : {M : Type 1} → statement M
 add-field-spec = tie.close (tie.spec add-number-requires add-byte-requires same-length returns)

@@ -1,7 +1,8 @@
+-- `listening_lines::writing::add_hex` meets its contract. Assumes nothing.
 use mathlib.Core.Path.{_≡_, _∙_}
 use native.Mathlib.Omega.{arith}
 use lib.ListN.{length, take}
-use Rattle.listening_lines.proofs.TextLaws.{as-wide, digits-length}
+use Rattle.listening_lines.proofs.TextLaws.{as-wide, digits-length, digits-hex}
 use borrow.Author.Needs.{needs}
 use Rattle.listening_lines.proofs.writing.add_hex.Statement.{statement}
 use Rattle.listening_lines.proofs.writing.add_hex.Tie as tie
@@ -37,10 +38,11 @@ same-length c = search needs
 -- src/writing.rt:30:1
 returns : tie.Need-returns
 returns c =
-    let s = c .before .before .before .before .before .before .before .before in
-    let d = c .before .before .before .before .before .hex in
+    let put = c .before .before .before .before .before in
+    let s = put .before .before .before in
+    let d = put .hex in
     let w = as-wide (s .args .width) (s .args .n) (d .result) (s .pre .1) (s .pre .2) (s .pre .3) (d .ensures .1 .0) in
-    rw (d .ensures .1 .1, w) at (c .before .before .add .ensures)
+    rw (d .ensures .1 .1, w, digits-hex (s .args .width) (s .args .n)) at (c .before .before .add .ensures)
 
 pub add-hex-spec : {M : Type 1} → statement M
 add-hex-spec =

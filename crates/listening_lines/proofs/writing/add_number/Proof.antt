@@ -1,3 +1,4 @@
+-- `listening_lines::writing::add_number` meets its contract. Assumes nothing.
 use mathlib.Core.Path.{_≡_, _∙_}
 use native.Mathlib.Omega.{arith}
 use lib.ListN.{length, take}
@@ -38,11 +39,13 @@ same-length c = search needs
 -- src/writing.rt:20:1
 returns : tie.Need-returns
 returns c =
-    let d = c .before .before .before .before .before .decimal in
-    let e : take (d .result) (d .last .1 .0) ≡ decimal (c .before .before .before .before .before .before .before .before .args .n) =
+    let digits = c .before .before .before .before .before in
+    let d = digits .decimal in
+    let n = digits .before .before .before .args .n in
+    let e : take (d .result) (d .last .1 .0) ≡ decimal n =
         d .ensures .1 .1 ∙ decimal-of _ (d .result) (omega arith) (d .ensures .1 .0) in
     let a = rw e at (c .before .before .add .ensures) in
-    (a, omega (arith, a .end, decimal-length (c .before .before .before .before .before .before .before .before .args .n)))
+    (a, omega (arith, a .end, decimal-length n))
 
 pub add-number-spec : {M : Type 1} → statement M
 add-number-spec =
