@@ -30,6 +30,10 @@ unfoldable pub hexBytes : List ℕ → List ℕ
 hexBytes [] = []
 hexBytes (b ∷ l) = hex 2 b ++ hexBytes l
 
+-- the room that a line is given: more than any has
+abbrev pub widest : ℕ
+widest = 128
+
 -- text was put at a place of the buffer old, r is the place behind it: what stands in front of it and from r on is as it was
 pub record Added (old : List ℕ) (at : ℕ) (text : List ℕ) (r : ℕ) (new : List ℕ) : Type 0 where
   pub end : r ≡ at + length text

@@ -5,7 +5,7 @@ ghost use mathlib.Core.Path.{_≡_};
 ghost use Prim.Native.Nat.{_+_, _≤_};
 ghost use lib.ListN.{length};
 ghost use Rattle.limits.specs.Limits.{recordSize};
-ghost use Rattle.listening_lines.specs.Text.{Added, hex};
+ghost use Rattle.listening_lines.specs.Text.{Added, hex, widest};
 ghost use Rattle.listening_lines.specs.Lines.{tuneLine, payloadText, hzText, senderText, messageLine, refusalLine, endLine};
 use crate::writing::add_byte;
 use crate::writing::add_field;
@@ -15,14 +15,14 @@ use crate::writing::add_number;
 use frequency_measure::Frequency;
 use record::read;
 
-// No line is longer.
+// The room of a line: no line is longer.
 pub const WIDEST: usize = 128;
 
 // `T hz`, where the receiver is to be tuned anew.
 pub fn add_tune(out: &mut [u8], at: usize, to: Frequency) -> usize
-    requires { ⌜ at + 128 ≤ length (now out) ⌝ }
+    requires { ⌜ at + widest ≤ length (now out) ⌝ }
     ensures { λ r. ⌜ Added (now (out .entry)) at (tuneLine to) r (now (out .exit)) ⌝ }
-    ensures { λ r. ⌜ r ≤ at + 128 ⌝ }
+    ensures { λ r. ⌜ r ≤ at + widest ⌝ }
 {
     match to {
         Frequency::Nothing => at,
@@ -33,6 +33,7 @@ pub fn add_tune(out: &mut [u8], at: usize, to: Frequency) -> usize
     }
 }
 
+// A byte in two hexadecimal digits.
 fn add_hex_byte(out: &mut [u8], at: usize, b: u8) -> usize
     requires { ⌜ at + 16 ≤ length (now out) ⌝ }
     ensures { λ r. ⌜ Added (now (out .entry)) at (hex 2 b) r (now (out .exit)) ⌝ }
@@ -76,9 +77,9 @@ fn add_hz(out: &mut [u8], at: usize, answer: Frequency) -> usize
 
 // `R number`
 pub fn add_refusal(out: &mut [u8], at: usize, n: u8) -> usize
-    requires { ⌜ at + 128 ≤ length (now out) ⌝ }
+    requires { ⌜ at + widest ≤ length (now out) ⌝ }
     ensures { λ r. ⌜ Added (now (out .entry)) at (refusalLine n) r (now (out .exit)) ⌝ }
-    ensures { λ r. ⌜ r ≤ at + 128 ⌝ }
+    ensures { λ r. ⌜ r ≤ at + widest ⌝ }
 {
     let next = add_head(out, at, b'R');
     add_field(out, next, n as u64, b'\n')
@@ -86,9 +87,9 @@ pub fn add_refusal(out: &mut [u8], at: usize, n: u8) -> usize
 
 // `E samples frames messages leftover-bytes`
 pub fn add_end(out: &mut [u8], at: usize, samples: u64, frames: u64, messages: u64, leftover: usize) -> usize
-    requires { ⌜ at + 128 ≤ length (now out) ⌝ }
+    requires { ⌜ at + widest ≤ length (now out) ⌝ }
     ensures { λ r. ⌜ Added (now (out .entry)) at (endLine samples frames messages leftover) r (now (out .exit)) ⌝ }
-    ensures { λ r. ⌜ r ≤ at + 128 ⌝ }
+    ensures { λ r. ⌜ r ≤ at + widest ⌝ }
 {
     let a = add_head(out, at, b'E');
     let b = add_field(out, a, samples, b' ');
@@ -112,9 +113,9 @@ fn add_sender(out: &mut [u8], at: usize, event: &[u8]) -> usize
 
 // `M device counter ranks payload hz`
 pub fn add_message(out: &mut [u8], at: usize, event: &[u8], answer: Frequency) -> usize
-    requires { ⌜ (at + 128 ≤ length (now out)) × (recordSize ≤ length (now event)) ⌝ }
+    requires { ⌜ (at + widest ≤ length (now out)) × (recordSize ≤ length (now event)) ⌝ }
     ensures { λ r. ⌜ Added (now (out .entry)) at (messageLine (now (event .entry)) answer) r (now (out .exit)) ⌝ }
-    ensures { λ r. ⌜ r ≤ at + 128 ⌝ }
+    ensures { λ r. ⌜ r ≤ at + widest ⌝ }
 {
     let a = add_sender(out, at, event);
     let b = add_payload(out, a, event);

@@ -13,7 +13,7 @@ use Rattle.frequency.specs.declared.FrequencyTracker.{FrequencyTracker}
 use Rattle.limits.specs.Answer.{Answer, refused, accepted}
 use Rattle.frequency_measure.specs.declared.Frequency.{Frequency}
 use Rattle.frequency.specs.Calls.{frame1Answer}
-use Rattle.listening_lines.specs.Text.{Added}
+use Rattle.listening_lines.specs.Text.{Added, widest}
 use Rattle.listening_lines.specs.Lines.{messageLine}
 use Rattle.listening_records.specs.declared.Told.{Told}
 
@@ -77,16 +77,16 @@ pub record Tells (p : Emission) (old : List ℕ) (start : ℕ) (r : Told) (new :
   pub messages : r .messages ≡ p .messages
   pub text : Added old start (p .text) (r .end) new
 
--- a record adds a line and one to each count at the most
+-- what bounds it: a record adds a line and one to each count at the most
 pub record Within (t r : Told) (old new : List ℕ) : Type 0 where
-  pub end : r .end ≤ t .end + 128
+  pub end : r .end ≤ t .end + widest
   pub frames : r .frames ≤ t .frames + 1
   pub messages : r .messages ≤ t .messages + 1
   pub room : length new ≡ length old
 
--- and a call's records
+-- and so each of a call's records
 pub record Grown (count : ℕ) (t r : Told) (old new : List ℕ) : Type 0 where
-  pub end : r .end ≤ t .end + 128 * count
+  pub end : r .end ≤ t .end + widest * count
   pub frames : r .frames ≤ t .frames + count
   pub messages : r .messages ≤ t .messages + count
   pub room : length new ≡ length old

@@ -5,6 +5,7 @@ ghost use mathlib.Core.List.{List};
 ghost use lib.ListN.{length};
 ghost use Rattle.limits.specs.Limits.{recordSize};
 ghost use Rattle.frequency.specs.Calls.{saidFirst};
+ghost use Rattle.listening_lines.specs.Text.{widest};
 ghost use Rattle.listening_records.specs.Emission.{Emission, spanIn, spansIn, downlinkIn, answerFor, withLine, withMessage, emitted, emittedAll, Tells, Within, Grown};
 ghost use Rattle.ledger.specs.Records.{recordsIn};
 use frequency::Frame1;
@@ -21,6 +22,7 @@ pub struct Told {
     pub end: usize,
 }
 
+// A message's span i.
 fn span_of(event: &[u8], i: usize) -> FrameSpan
     requires { ⌜ (recordSize ≤ length (now event)) × (i < 3) ⌝ }
     ensures { λ r. ⌜ r ≡ spanIn (now (event .entry)) i ⌝ }
@@ -32,6 +34,7 @@ fn span_of(event: &[u8], i: usize) -> FrameSpan
     }
 }
 
+// A message's spans, for `frame1`.
 fn spans_of(event: &[u8]) -> [FrameSpan; 3]
     requires { ⌜ recordSize ≤ length (now event) ⌝ }
     ensures { λ r. ⌜ r ≡ spansIn (now (event .entry)) ⌝ }
@@ -42,6 +45,7 @@ fn spans_of(event: &[u8]) -> [FrameSpan; 3]
     [first, second, third]
 }
 
+// Whether the message asks for a downlink: byte 2 includes the value 1.
 fn downlink_of(event: &[u8]) -> bool
     requires { ⌜ recordSize ≤ length (now event) ⌝ }
     ensures { λ r. ⌜ r ≡ downlinkIn (now (event .entry)) ⌝ }
@@ -49,6 +53,7 @@ fn downlink_of(event: &[u8]) -> bool
     read::flags_of(event) % 2 == 1
 }
 
+// What `frame1` answers for a message.
 fn answer_for(
     tracker: FrequencyTracker,
     event: &[u8],
@@ -66,7 +71,7 @@ fn answer_for(
 
 // A message's line behind the text.
 fn tell_line(t: Told, event: &[u8], answer: Frequency, out: &mut [u8]) -> Told
-    requires { ⌜ (recordSize ≤ length (now event)) × (t .end + 128 ≤ length (now out)) × (t .messages + 1 < 2 ^ 64) ⌝ }
+    requires { ⌜ (recordSize ≤ length (now event)) × (t .end + widest ≤ length (now out)) × (t .messages + 1 < 2 ^ 64) ⌝ }
     ensures { λ r. ⌜ ((old : List ℕ) (start : ℕ) (p : Emission) → Tells p old start t (now (out .entry))
         → Tells (withLine (now (event .entry)) answer p) old start r (now (out .exit))) ⌝ }
     ensures { λ r. ⌜ Within t r (now (out .entry)) (now (out .exit)) ⌝ }
@@ -82,7 +87,7 @@ fn tell_line(t: Told, event: &[u8], answer: Frequency, out: &mut [u8]) -> Told
 
 // A message, with the answer of `frame1`.
 fn tell_message(t: Told, event: &[u8], answer: Frame1, out: &mut [u8]) -> Told
-    requires { ⌜ (recordSize ≤ length (now event)) × (t .end + 128 ≤ length (now out)) × (t .messages + 1 < 2 ^ 64) ⌝ }
+    requires { ⌜ (recordSize ≤ length (now event)) × (t .end + widest ≤ length (now out)) × (t .messages + 1 < 2 ^ 64) ⌝ }
     ensures { λ r. ⌜ ((old : List ℕ) (start : ℕ) (p : Emission) → Tells p old start t (now (out .entry))
         → Tells (withMessage (now (event .entry)) (saidFirst answer) p) old start r (now (out .exit))) ⌝ }
     ensures { λ r. ⌜ Within t r (now (out .entry)) (now (out .exit)) ⌝ }
@@ -110,7 +115,7 @@ fn tell(
     scratch: &mut [f64],
     out: &mut [u8],
 ) -> Told
-    requires { ⌜ (recordSize ≤ length (now event)) × (t .end + 128 ≤ length (now out)) × (t .frames + 1 < 2 ^ 64) × (t .messages + 1 < 2 ^ 64) ⌝ }
+    requires { ⌜ (recordSize ≤ length (now event)) × (t .end + widest ≤ length (now out)) × (t .frames + 1 < 2 ^ 64) × (t .messages + 1 < 2 ^ 64) ⌝ }
     ensures { λ r. ⌜ ((old : List ℕ) (start : ℕ) (p : Emission) → Tells p old start t (now (out .entry))
         → Tells (emitted (record { tracker = tracker; at = now (at .entry); lo = now (lo .entry); hz = now (hz .entry); room = length (now (scratch .entry)) }) p (now (event .entry))) old start r (now (out .exit))) ⌝ }
     ensures { λ r. ⌜ Within t r (now (out .entry)) (now (out .exit)) ⌝ }
@@ -139,7 +144,7 @@ pub fn tell_all(
     scratch: &mut [f64],
     out: &mut [u8],
 ) -> Told
-    requires { ⌜ (recordSize * count ≤ length (now events)) × (t .end + 128 * count ≤ length (now out)) × (t .frames + count < 2 ^ 64) × (t .messages + count < 2 ^ 64) ⌝ }
+    requires { ⌜ (recordSize * count ≤ length (now events)) × (t .end + widest * count ≤ length (now out)) × (t .frames + count < 2 ^ 64) × (t .messages + count < 2 ^ 64) ⌝ }
     ensures { λ r. ⌜ ((old : List ℕ) (start : ℕ) (p : Emission) → Tells p old start t (now (out .entry))
         → Tells (emittedAll (record { tracker = tracker; at = now (at .entry); lo = now (lo .entry); hz = now (hz .entry); room = length (now (scratch .entry)) }) p (recordsIn count (now (events .entry)))) old start r (now (out .exit))) ⌝ }
     ensures { λ r. ⌜ Grown count t r (now (out .entry)) (now (out .exit)) ⌝ }

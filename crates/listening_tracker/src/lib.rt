@@ -8,6 +8,7 @@ use frequency::FrequencyTracker;
 use frequency::Next;
 use frequency_measure::Frequency;
 
+// A call was refused: the tracker is as it was.
 fn refused(t: FrequencyTracker, number: u8) -> Next
     ensures { λ r. ⌜ Stops number t r ⌝ }
 {
