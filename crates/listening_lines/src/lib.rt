@@ -37,6 +37,7 @@ pub fn add_tune(out: &mut [u8], at: usize, to: Frequency) -> usize
 fn add_hex_byte(out: &mut [u8], at: usize, b: u8) -> usize
     requires { ⌜ at + 16 ≤ length (now out) ⌝ }
     ensures { λ r. ⌜ Added (now (out .entry)) at (hex 2 b) r (now (out .exit)) ⌝ }
+    ensures { λ r. ⌜ r ≡ at + 2 ⌝ }
 {
     add_hex(out, at, b as u64, 2)
 }

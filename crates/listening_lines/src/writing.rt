@@ -1,4 +1,5 @@
 // Text, and numbers as text, behind what stands in a lent buffer.
+ghost use mathlib.Core.Path.{_≡_};
 ghost use Prim.Native.Nat.{_+_, _≤_, _<_, _^_};
 ghost use mathlib.Core.List.{[], _∷_, _++_};
 ghost use lib.ListN.{length};
@@ -32,6 +33,7 @@ pub fn add_number(out: &mut [u8], at: usize, n: u64) -> usize
 pub fn add_hex(out: &mut [u8], at: usize, n: u64, width: usize) -> usize
     requires { ⌜ (at + 16 ≤ length (now out)) × (n < 16 ^ width) × (1 ≤ width) × (width ≤ 16) ⌝ }
     ensures { λ r. ⌜ Added (now (out .entry)) at (hex width n) r (now (out .exit)) ⌝ }
+    ensures { λ r. ⌜ r ≡ at + width ⌝ }
 {
     let mut digits = [0u8; 16];
     let k = io::hex(n, width, &mut digits);

@@ -2,11 +2,11 @@
 use Prim.Native.Nat.{_+_, _-_, _*_, _≤_, _<_}
 use native.Mathlib.Omega.{arith}
 use mathlib.Core.Path.{_≡_, refl, sym, ap, _∙_}
-use lib.ListN.{take, length, getD}
+use lib.ListN.{take, length}
 use borrow.Author.Needs.{needs}
 use Rattle.listening_lines.specs.Text.{Added, hexBytes, hex}
 use Rattle.record.specs.Readers.{payloadOf}
-use Rattle.listening_lines.proofs.TextLaws.{as-text, behind, nothing, hex-length}
+use Rattle.listening_lines.proofs.TextLaws.{as-text, behind, nothing}
 use Rattle.listening_lines.proofs.LineLaws.{no-payload, whole-payload, full-payload, payload-more}
 use Rattle.listening_lines.proofs.add_payload.Statement.{statement}
 use Rattle.listening_lines.proofs.add_payload.Tie as tie
@@ -86,7 +86,7 @@ loop-again c =
     let l = turn .loop in
     let e = turn .before .before .before .before .before .args .event .now in
     let a = c .before .before .add-hex-byte .ensures in
-    (omega arith, omega arith, omega (arith, a .end, hex-length 2 (getD e (16 + l .i) 0)), as-text (payload-more e (l .i) (omega arith) (omega arith)) (behind (l .inv .3) a))
+    (omega arith, omega arith, omega (arith, a .1), as-text (payload-more e (l .i) (omega arith) (omega arith)) (behind (l .inv .3) (a .0)))
 
 -- src/lib.rt:45:1
 same-length-3 : tie.Need-same-length-3 Inv-loop μ-loop

@@ -2,7 +2,7 @@
 use native.Mathlib.Omega.{arith}
 use mathlib.Core.Path.{_≡_, refl, sym, ap, _∙_}
 use mathlib.Core.List.{append-assoc}
-use Rattle.listening_lines.proofs.TextLaws.{behind, as-text, hex-length}
+use Rattle.listening_lines.proofs.TextLaws.{behind, as-text}
 use Rattle.listening_lines.proofs.LineLaws.{sender-parts}
 use borrow.Author.Needs.{needs}
 use Rattle.listening_lines.proofs.add_sender.Statement.{statement}
@@ -77,9 +77,9 @@ returns c =
     let device = hex .before .device-of in
     let head = hex .before .before .before .before .before in
     let e = head .before .before .before .before .args .event .now in
-    let whole = behind (behind (behind (behind (head .add-head .ensures) (hex .add-hex .ensures)) (space .add-byte .ensures)) (field .add-field .ensures .0)) (last .add-field2 .ensures .0) in
+    let whole = behind (behind (behind (behind (head .add-head .ensures) (hex .add-hex .ensures .0)) (space .add-byte .ensures)) (field .add-field .ensures .0)) (last .add-field2 .ensures .0) in
     ( as-text (sender-parts e (device .result) (counter .result) (rank .result) (device .ensures) (counter .ensures) (rank .ensures)) whole
-    , omega (arith, hex-length 8 (device .result), hex .add-hex .ensures .end, head .add-head .ensures .end) )
+    , omega (arith, hex .add-hex .ensures .1, head .add-head .ensures .end) )
 
 pub add-sender-spec : {M : Type 1} → statement M
 add-sender-spec =

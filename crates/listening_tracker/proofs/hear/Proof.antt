@@ -32,10 +32,10 @@ read-requires c κs = search needs
 -- src/lib.rt:46:1
 returns-2 : tie.Need-returns-2
 returns-2 c =
-    let at-first = c .before .before .before .before .before .before .before .before .before .before in
-    let first = at-first .samples in
-    let z : first .result .refused ≡ 0 = omega arith in
-    samples-on _ _ _ _ _ _ _ _ _ _ (first .ensures) z (c .read .ensures)
+    let branch = c .before .before .before .before .before .before .before .before in
+    let first = branch .before .before in
+    let z : first .samples .result .refused ≡ 0 = omega (arith, branch .if1 .left) in
+    samples-on _ _ _ _ _ _ _ _ _ _ (first .samples .ensures) z (c .read .ensures)
 
 pub hear-spec : {M : Type 1} → statement M
 hear-spec = tie.close (tie.spec samples-requires refused-requires returns read-requires returns-2)

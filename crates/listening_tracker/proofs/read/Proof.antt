@@ -36,10 +36,10 @@ next-tuning-requires c κs = search needs
 -- src/lib.rt:23:1
 returns-2 : tie.Need-returns-2
 returns-2 c =
-    let at-first = c .before .before .before .before .before .before .before .before .before .before .before .before .before in
-    let first = at-first .cfo in
-    let z : first .result .refused ≡ 0 = omega arith in
-    cfo-on _ _ _ _ _ _ _ _ _ (first .ensures) z (next-turned _ _ _ _ _ (c .next-tuning .ensures))
+    let branch = c .before .before .before .before .before .before .before .before .before .before .before in
+    let first = branch .before .before in
+    let z : first .cfo .result .refused ≡ 0 = omega (arith, branch .if1 .left) in
+    cfo-on _ _ _ _ _ _ _ _ _ (first .cfo .ensures) z (next-turned _ _ _ _ _ (c .next-tuning .ensures))
 
 pub read-spec : {M : Type 1} → statement M
 read-spec =

@@ -32,10 +32,10 @@ hear-requires c κs = search needs
 -- src/lib.rt:69:1
 returns-2 : tie.Need-returns-2
 returns-2 c =
-    let at-first = c .before .before .before .before .before .before .before .before .before .before in
-    let first = at-first .tuned in
-    let z : first .result .refused ≡ 0 = omega arith in
-    tuned-on _ _ _ _ _ _ _ _ _ _ _ _ _ _ _ (first .ensures) _ z (at-first .before .before .before .before .pre) (c .hear .ensures)
+    let branch = c .before .before .before .before .before .before .before .before in
+    let first = branch .before .before in
+    let z : first .tuned .result .refused ≡ 0 = omega (arith, branch .if1 .left) in
+    tuned-on _ _ _ _ _ _ _ _ _ _ _ _ _ _ _ (first .tuned .ensures) _ z (first .before .before .before .before .pre) (c .hear .ensures)
 
 pub track-spec : {M : Type 1} → statement M
 track-spec = tie.close (tie.spec tuned-requires refused-requires returns hear-requires returns-2)

@@ -2,7 +2,7 @@
 use mathlib.Core.Path.{_≡_, _∙_}
 use native.Mathlib.Omega.{arith}
 use lib.ListN.{length, take}
-use Rattle.listening_lines.proofs.TextLaws.{as-wide, digits-length, digits-hex}
+use Rattle.listening_lines.proofs.TextLaws.{as-wide, digits-length, digits-hex, hex-length}
 use borrow.Author.Needs.{needs}
 use Rattle.listening_lines.proofs.writing.add_hex.Statement.{statement}
 use Rattle.listening_lines.proofs.writing.add_hex.Tie as tie
@@ -42,7 +42,8 @@ returns c =
     let s = put .before .before .before in
     let d = put .hex in
     let w = as-wide (s .args .width) (s .args .n) (d .result) (s .pre .1) (s .pre .2) (s .pre .3) (d .ensures .1 .0) in
-    rw (d .ensures .1 .1, w, digits-hex (s .args .width) (s .args .n)) at (c .before .before .add .ensures)
+    let a = rw (d .ensures .1 .1, w, digits-hex (s .args .width) (s .args .n)) at (c .before .before .add .ensures) in
+    (a, omega (arith, a .end, hex-length (s .args .width) (s .args .n)))
 
 pub add-hex-spec : {M : Type 1} → statement M
 add-hex-spec =
