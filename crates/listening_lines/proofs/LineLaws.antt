@@ -37,6 +37,6 @@ regroup m a s b d = simp append-assoc
 
 -- the parts that a message's line begins with
 pub sender-parts : (e : List ℕ) (d k r : ℕ) → d ≡ deviceOf e → k ≡ counterOf e → r ≡ rankOf e
-  → ((((77 ∷ 32 ∷ []) ++ hex 8 d) ++ space) ++ (decimal k ++ space)) ++ (decimal r ++ space) ≡ senderText e
+    → ((((77 ∷ 32 ∷ []) ++ hex 8 d) ++ space) ++ (decimal k ++ space)) ++ (decimal r ++ space) ≡ senderText e
 unfolding senderText
 sender-parts e d k r p q s = rw (p, q, s) (regroup (77 ∷ 32 ∷ []) (hex 8 (deviceOf e)) space (decimal (counterOf e)) (decimal (rankOf e)))

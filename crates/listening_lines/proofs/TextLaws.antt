@@ -15,7 +15,7 @@ use Rattle.listening_lines.specs.Text.{digit, decimalBy, decimal, hex, h
 
 -- one byte more
 pub byte-more : (old out text : List ℕ) (at i : ℕ) → at + i < length out → i < length text → take (at + i) out ≡ take at old ++ take i text
-  → take (at + (i + 1)) (set out (at + i) (getD text i 0)) ≡ take at old ++ take (i + 1) text
+    → take (at + (i + 1)) (set out (at + i) (getD text i 0)) ≡ take at old ++ take (i + 1) text
 byte-more old out text at i h g e =
     let p : at + (i + 1) ≡ suc (at + i) = omega arith in
     let q : i + 1 ≡ suc i = omega arith in
@@ -59,9 +59,9 @@ unfolding decimalBy
 decimal-by-length zero n = omega arith
 decimal-by-length (suc k) n = both (decimal-by-length k (n / 10)) (ltb n 10)
   where
-  both : length (decimalBy k (n / 10)) ≤ k → (b : Bool) → length (cond b (glyph n ∷ []) (decimalBy k (n / 10) ++ (glyph (n % 10) ∷ []))) ≤ suc k
-  both h true = omega arith
-  both h false = rw (length-append (decimalBy k (n / 10)) (glyph (n % 10) ∷ [])) (omega arith)
+    both : length (decimalBy k (n / 10)) ≤ k → (b : Bool) → length (cond b (glyph n ∷ []) (decimalBy k (n / 10) ++ (glyph (n % 10) ∷ []))) ≤ suc k
+    both h true = omega arith
+    both h false = rw (length-append (decimalBy k (n / 10)) (glyph (n % 10) ∷ [])) (omega arith)
 
 pub decimal-length : (n : ℕ) → length (decimal n) ≤ 20
 unfolding decimal
@@ -88,23 +88,23 @@ as-wide w n r lt a b h =
     let m : min (max w 1) 16 ≡ w = omega arith in
     both (ltb w r) refl (rw m at h)
   where
-  both : (t : Bool) → ltb w r ≡ t → Fewest 16 w n r → r ≡ w
-  both false e g = omega (arith, ltb-false w r e, g .0)
-  both true e g =
-      let q : w < r = ltb-true w r e in
-      omega (arith, g .2 q, pow-le-pow-right {n = 16} (omega arith) {i = w} {j = r - 1} (omega arith))
+    both : (t : Bool) → ltb w r ≡ t → Fewest 16 w n r → r ≡ w
+    both false e g = omega (arith, ltb-false w r e, g .0)
+    both true e g =
+        let q : w < r = ltb-true w r e in
+        omega (arith, g .2 q, pow-le-pow-right {n = 16} (omega arith) {i = w} {j = r - 1} (omega arith))
 
 -- a u64 has at most 20 digits
 pub at-most-20 : (n r : ℕ) → n < 18446744073709551616 → Fewest 10 1 n r → r ≤ 20
 at-most-20 n r lt h = both (ltb 20 r) refl
   where
-  both : (t : Bool) → ltb 20 r ≡ t → r ≤ 20
-  both false e = ltb-false 20 r e
-  both true e =
-      let q : 20 < r = ltb-true 20 r e in
-      let p : 10 ^ 20 ≤ 10 ^ (r - 1) = pow-le-pow-right {n = 10} (omega arith) {i = 20} {j = r - 1} (omega arith) in
-      let g : 10 ^ (r - 1) ≤ n = h .2 (omega arith) in
-      absurd (omega arith)
+    both : (t : Bool) → ltb 20 r ≡ t → r ≤ 20
+    both false e = ltb-false 20 r e
+    both true e =
+        let q : 20 < r = ltb-true 20 r e in
+        let p : 10 ^ 20 ≤ 10 ^ (r - 1) = pow-le-pow-right {n = 10} (omega arith) {i = 20} {j = r - 1} (omega arith) in
+        let g : 10 ^ (r - 1) ≤ n = h .2 (omega arith) in
+        absurd (omega arith)
 
 pub decimal-of : (n r : ℕ) → n < 18446744073709551616 → Fewest 10 1 n r → digits 10 r n ≡ decimal n
 unfolding decimal

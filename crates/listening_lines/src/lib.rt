@@ -87,7 +87,14 @@ pub fn add_refusal(out: &mut [u8], at: usize, n: u8) -> usize
 }
 
 // `E samples frames messages leftover-bytes`
-pub fn add_end(out: &mut [u8], at: usize, samples: u64, frames: u64, messages: u64, leftover: usize) -> usize
+pub fn add_end(
+    out: &mut [u8],
+    at: usize,
+    samples: u64,
+    frames: u64,
+    messages: u64,
+    leftover: usize,
+) -> usize
     requires { ⌜ at + widest ≤ length (now out) ⌝ }
     ensures { λ r. ⌜ Added (now (out .entry)) at (endLine samples frames messages leftover) r (now (out .exit)) ⌝ }
     ensures { λ r. ⌜ r ≤ at + widest ⌝ }

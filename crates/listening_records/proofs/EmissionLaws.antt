@@ -27,11 +27,11 @@ use Rattle.listening_records.specs.declared.Told.{Told}
 use Rattle.listening_records.specs.Emission.{Emission, Asked, withFrame, withLine, withMessage, answerFor, emitted, emittedAll, Tells, Within, Grown}
 
 pub line-told : (p : Emission) (old out out′ : List ℕ) (start r : ℕ) (t : Told) (e : List ℕ) (a : Frequency) → Added out (t .end) (messageLine e a) r out′ → Tells p old start t out
-  → Tells (withLine e a p) old start (record { refused = 0; frames = t .frames; messages = t .messages + 1; end = r }) out′
+    → Tells (withLine e a p) old start (record { refused = 0; frames = t .frames; messages = t .messages + 1; end = r }) out′
 line-told p old out out′ start r t e a x h = record { refused = refl; frames = h .frames; messages = ap (λ (n : ℕ). n + 1) (h .messages); text = behind (h .text) x }
 
 pub refusal-told : (p : Emission) (old out : List ℕ) (start n : ℕ) (t : Told) (e : List ℕ) (a : Frame1) → first.Refused n ≡ a → Tells p old start t out
-  → Tells (withMessage e (saidFirst a) p) old start (record { refused = n; frames = t .frames; messages = t .messages; end = t .end }) out
+    → Tells (withMessage e (saidFirst a) p) old start (record { refused = n; frames = t .frames; messages = t .messages; end = t .end }) out
 unfolding withMessage saidFirst
 refusal-told p old out start n t e a q h = rw (← q) (record { refused = refl; frames = h .frames; messages = h .messages; text = h .text })
 
@@ -57,7 +57,7 @@ module _ (q : Asked) (p : Emission) (e : List ℕ) where
   emitted-message a z k g = rw (eq-eqb (p .refused) 0 z, ne-eqb (kindOf e) frameKind k, g) refl
 
 pub frame-told : (p : Emission) (old out : List ℕ) (start : ℕ) (t : Told) → t .refused ≡ 0 → Tells p old start t out
-  → Tells (withFrame p) old start (record { refused = t .refused; frames = t .frames + 1; messages = t .messages; end = t .end }) out
+    → Tells (withFrame p) old start (record { refused = t .refused; frames = t .frames + 1; messages = t .messages; end = t .end }) out
 frame-told p old out start t z h = record { refused = z; frames = ap (λ (n : ℕ). n + 1) (h .frames); messages = h .messages; text = h .text }
 
 -- the same emission, written otherwise
@@ -90,10 +90,10 @@ none-told q p events = refl
 
 -- a turn of the loop over a call's records
 pub turn-told : (t : FrequencyTracker) (at lo : List ℕ) (hz : List Float) (room room′ : ℕ) (p : Emission) (old out out′ : List ℕ) (start i : ℕ) (events e : List ℕ) (m r : Told)
-  → room′ ≡ room → e ≡ take recordSize (drop (recordSize * i) events)
-  → Tells (emittedAll (record { tracker = t; at = at; lo = lo; hz = hz; room = room }) p (recordsIn i events)) old start m out
-  → ((u : Emission) → Tells u old start m out → Tells (emitted (record { tracker = t; at = at; lo = lo; hz = hz; room = room′ }) u e) old start r out′)
-  → Tells (emittedAll (record { tracker = t; at = at; lo = lo; hz = hz; room = room }) p (recordsIn (i + 1) events)) old start r out′
+    → room′ ≡ room → e ≡ take recordSize (drop (recordSize * i) events)
+    → Tells (emittedAll (record { tracker = t; at = at; lo = lo; hz = hz; room = room }) p (recordsIn i events)) old start m out
+    → ((u : Emission) → Tells u old start m out → Tells (emitted (record { tracker = t; at = at; lo = lo; hz = hz; room = room′ }) u e) old start r out′)
+    → Tells (emittedAll (record { tracker = t; at = at; lo = lo; hz = hz; room = room }) p (recordsIn (i + 1) events)) old start r out′
 turn-told t at lo hz room room′ p old out out′ start i events e m r x y h f =
     let q : Asked = record { tracker = t; at = at; lo = lo; hz = hz; room = room } in
     as-told (emitted-last q p (recordsIn i events) (take recordSize (drop (recordSize * i) events)) ∙ ap (emittedAll q p) (records-more i events)) (rw (x, y) at (f _ h))

@@ -33,30 +33,30 @@ pub next-turned : (s : FrequencyTracker) (l : Lists) (out out′ : List Float) (
 unfolding nextTurn Turned
 next-turned s l out out′ x e = both (causeNext s l (length out)) (e .refusal)
   where
-  both : (k : ℕ) → x .refused ≡ k → Turned (unless k s l (on (packed (afterTuning (tracker s l))) l (nextTuning (tracker s l)))) x l
-  both zero z = (z, e .state z, e .answer z, refl)
-  both (suc k) z = let h : x .refused ≡ 0 → ⊥ = omega (arith, z) in (z, e .same-state h, e .no-answer h, refl)
+    both : (k : ℕ) → x .refused ≡ k → Turned (unless k s l (on (packed (afterTuning (tracker s l))) l (nextTuning (tracker s l)))) x l
+    both zero z = (z, e .state z, e .answer z, refl)
+    both (suc k) z = let h : x .refused ≡ 0 → ⊥ = omega (arith, z) in (z, e .same-state h, e .no-answer h, refl)
 
 pub cfo-stop : (s : FrequencyTracker) (l m : Lists) (reg room r : ℕ) (t : FrequencyTracker) (x : Next) → CfoEnd s (reg ∷ []) l r t m → (r ≡ 0 → ⊥) → Stops r s x
-  → Turned (cfoTurn room reg s l) x m
+    → Turned (cfoTurn room reg s l) x m
 unfolding cfoTurn
 cfo-stop s l m reg room r t x e h g =
     at-stop (causeCfo s l (reg ∷ [])) s l m _ x (λ (z : causeCfo s l (reg ∷ []) ≡ 0). h (e .refusal ∙ z)) (as-stop r _ s x (e .refusal) g) (e .same-lists h)
 
 pub cfo-on : (s : FrequencyTracker) (l m : Lists) (reg room r : ℕ) (t : FrequencyTracker) (x : Next) (n : Lists) → CfoEnd s (reg ∷ []) l r t m → r ≡ 0 → Turned (nextTurn room t m) x n
-  → Turned (cfoTurn room reg s l) x n
+    → Turned (cfoTurn room reg s l) x n
 unfolding cfoTurn
 cfo-on s l m reg room r t x n e z h =
     past (causeCfo s l (reg ∷ [])) s l _ x n (sym (e .refusal) ∙ z) (rw (e .state z, e .lists z) at h)
 
 pub samples-stop : (s : FrequencyTracker) (dbm : List Float) (l m : Lists) (reg room r : ℕ) (t : FrequencyTracker) (x : Next) → SamplesEnd s dbm l r t m → (r ≡ 0 → ⊥) → Stops r s x
-  → Turned (samplesTurn room dbm reg s l) x m
+    → Turned (samplesTurn room dbm reg s l) x m
 unfolding samplesTurn
 samples-stop s dbm l m reg room r t x e h g =
     at-stop (causeSamples s l dbm) s l m _ x (λ (z : causeSamples s l dbm ≡ 0). h (e .refusal ∙ z)) (as-stop r _ s x (e .refusal) g) (e .same-lists h)
 
 pub samples-on : (s : FrequencyTracker) (dbm : List Float) (l m : Lists) (reg room r : ℕ) (t : FrequencyTracker) (x : Next) (n : Lists) → SamplesEnd s dbm l r t m → r ≡ 0 → Turned (cfoTurn room reg t m) x n
-  → Turned (samplesTurn room dbm reg s l) x n
+    → Turned (samplesTurn room dbm reg s l) x n
 unfolding samplesTurn
 samples-on s dbm l m reg room r t x n e z h =
     past (causeSamples s l dbm) s l _ x n (sym (e .refusal) ∙ z) (rw (e .state z, e .lists z) at h)

@@ -77,9 +77,10 @@ returns c =
     let device = hex .before .device-of in
     let head = hex .before .before .before .before .before in
     let e = head .before .before .before .before .args .event .now in
-    let whole = behind (behind (behind (behind (head .add-head .ensures) (hex .add-hex .ensures .0)) (space .add-byte .ensures)) (field .add-field .ensures .0)) (last .add-field2 .ensures .0) in
-    ( as-text (sender-parts e (device .result) (counter .result) (rank .result) (device .ensures) (counter .ensures) (rank .ensures)) whole
-    , omega (arith, hex .add-hex .ensures .1, head .add-head .ensures .end) )
+    let whole = behind (behind (behind (behind (head .add-head .ensures) (hex .add-hex .ensures .0)) (space .add-byte .ensures)) (field .add-field .ensures .0)) (last .add-field2 .ensures .0) in (
+      as-text (sender-parts e (device .result) (counter .result) (rank .result) (device .ensures) (counter .ensures) (rank .ensures)) whole,
+      omega (arith, hex .add-hex .ensures .1, head .add-head .ensures .end),
+    )
 
 pub add-sender-spec : {M : Type 1} → statement M
 add-sender-spec =

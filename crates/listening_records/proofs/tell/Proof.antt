@@ -19,9 +19,10 @@ use Rattle.listening_records.proofs.tell_message.Reads as tell-message-
 -- src/lib.rt:117:9
 returns : tie.Need-returns
 returns c =
-    let s = c .before .before .before .before .before .args in
-    ( (λ (old : List ℕ) (start : ℕ) (p : Emission) (h : Tells p old start (s .t) (s .out .now)). as-told (emitted-stop (record { tracker = s .tracker; at = s .at .now; lo = s .lo .now; hz = s .hz .now; room = length (s .scratch .now) }) p (s .event .now) (omega (arith, h .refused))) h)
-    , record { end = omega arith; frames = omega arith; messages = omega arith; room = refl } )
+    let s = c .before .before .before .before .before .args in (
+      (λ (old : List ℕ) (start : ℕ) (p : Emission) (h : Tells p old start (s .t) (s .out .now)). as-told (emitted-stop (record { tracker = s .tracker; at = s .at .now; lo = s .lo .now; hz = s .hz .now; room = length (s .scratch .now) }) p (s .event .now) (omega (arith, h .refused))) h),
+      record { end = omega arith; frames = omega arith; messages = omega arith; room = refl },
+    )
 
 -- src/lib.rt:119:8
 kind-of-requires : tie.Need-kind-of-requires
@@ -34,10 +35,11 @@ add-m c = search needs
 -- src/lib.rt:122:9
 returns-2 : tie.Need-returns-2
 returns-2 c =
-    let s = c .before .before .before .before .before .before .before .before .args in
-    ( (λ (old : List ℕ) (start : ℕ) (p : Emission) (h : Tells p old start (s .t) (s .out .now)).
-        as-told (emitted-frame (record { tracker = s .tracker; at = s .at .now; lo = s .lo .now; hz = s .hz .now; room = length (s .scratch .now) }) p (s .event .now) (omega (arith, h .refused)) (omega (arith, c .before .before .kind-of .ensures))) (frame-told p old _ start (s .t) (omega arith) h))
-    , record { end = omega arith; frames = omega arith; messages = omega arith; room = refl } )
+    let s = c .before .before .before .before .before .before .before .before .args in (
+      (λ (old : List ℕ) (start : ℕ) (p : Emission) (h : Tells p old start (s .t) (s .out .now)).
+          as-told (emitted-frame (record { tracker = s .tracker; at = s .at .now; lo = s .lo .now; hz = s .hz .now; room = length (s .scratch .now) }) p (s .event .now) (omega (arith, h .refused)) (omega (arith, c .before .before .kind-of .ensures))) (frame-told p old _ start (s .t) (omega arith) h)),
+      record { end = omega arith; frames = omega arith; messages = omega arith; room = refl },
+    )
 
 -- src/lib.rt:124:9
 answer-for-requires : tie.Need-answer-for-requires
@@ -61,10 +63,11 @@ returns-3 c =
     let told = c .before .before .tell-message .ensures in
     let asked = c .before .before .before .before .before .before in
     let kind = asked .before .before .before in
-    let s = kind .before .before .before .before .before .before .args in
-    ( (λ (old : List ℕ) (start : ℕ) (p : Emission) (h : Tells p old start (s .t) (s .out .now)).
-        as-told (emitted-message (record { tracker = s .tracker; at = s .at .now; lo = s .lo .now; hz = s .hz .now; room = length (s .scratch .now) }) p (s .event .now) (saidFirst (asked .answer-for .result)) (omega (arith, h .refused)) (omega (arith, kind .kind-of .ensures)) (asked .answer-for .ensures)) (told .0 old start p h))
-    , told .1 )
+    let s = kind .before .before .before .before .before .before .args in (
+      (λ (old : List ℕ) (start : ℕ) (p : Emission) (h : Tells p old start (s .t) (s .out .now)).
+          as-told (emitted-message (record { tracker = s .tracker; at = s .at .now; lo = s .lo .now; hz = s .hz .now; room = length (s .scratch .now) }) p (s .event .now) (saidFirst (asked .answer-for .result)) (omega (arith, h .refused)) (omega (arith, kind .kind-of .ensures)) (asked .answer-for .ensures)) (told .0 old start p h)),
+      told .1,
+    )
 
 pub tell-spec : {M : Type 1} → statement M
 tell-spec =

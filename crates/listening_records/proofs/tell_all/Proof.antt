@@ -20,16 +20,19 @@ Inv-loop tracker count events at lo hz scratch₀ out₀ m₀ i₀ scratch out m
     × (length scratch ≡ length scratch₀)
     × Grown i m₀ m out₀ out
     × ((old : List ℕ) (start : ℕ) (p : Emission) → Tells p old start m₀ out₀
-      → Tells (emittedAll (record { tracker = tracker; at = at; lo = lo; hz = hz; room = length scratch₀ }) p (recordsIn i events)) old start m out)
+    → Tells (emittedAll (record { tracker = tracker; at = at; lo = lo; hz = hz; room = length scratch₀ }) p (recordsIn i events)) old start m out)
 
 abbrev μ-loop : tie.MeasureT-loop
 μ-loop tracker count events at lo hz scratch₀ out₀ m₀ i₀ scratch out m i = count - i
 
 -- src/lib.rt:147:5
 loop-holds : tie.Need-loop-holds Inv-loop μ-loop
-loop-holds c =
-    ( omega arith, refl, record { end = omega arith; frames = omega arith; messages = omega arith; room = refl }
-    , (λ (old : List ℕ) (start : ℕ) (p : Emission) (h : Tells p old start (c .before .before .before .args .t) (c .before .before .before .args .out .now)). as-told (none-told _ p (c .before .before .before .args .events .now)) h) )
+loop-holds c = (
+  omega arith,
+  refl,
+  record { end = omega arith; frames = omega arith; messages = omega arith; room = refl },
+  (λ (old : List ℕ) (start : ℕ) (p : Emission) (h : Tells p old start (c .before .before .before .args .t) (c .before .before .before .args .out .now)). as-told (none-told _ p (c .before .before .before .args .events .now)) h),
+)
 
 -- src/lib.rt:148:20
 mul-from : tie.Need-mul-from Inv-loop μ-loop
@@ -66,16 +69,17 @@ loop-less c = search needs
 -- src/lib.rt:147:5
 loop-again : tie.Need-loop-again Inv-loop μ-loop
 loop-again c =
-    let turn = c .before .before .before .before .before .before .before .before .before in
-    let s = turn .before .before .before .before .args in
-    let l = turn .loop in
-    let x = c .before .before .before .before .tell in
-    ( omega arith
-    , search needs
-    , grown-more (l .i) _ _ _ _ _ _ (l .inv .2) (x .ensures .1)
-    , (λ (old : List ℕ) (start : ℕ) (p : Emission) (h : Tells p old start (s .t) (s .out .now)).
-        turn-told (s .tracker) (s .at .now) (s .lo .now) (s .hz .now) (length (s .scratch .now)) (length (l .scratch)) p old (l .out) _ start (l .i) (s .events .now) _ (l .m) (x .result)
-        (l .inv .1) (record-part (l .i) (s .events .now)) (l .inv .3 old start p h) (λ (u : Emission) (g : Tells u old start (l .m) (l .out)). x .ensures .0 old start u g)) )
+    let test = c .before .before .before .before .before .before .before .before in
+    let l = test .before .loop in
+    let s = test .before .before .before .before .before .args in
+    let x = c .before .before .before .before .tell in (
+      omega (arith, test .loop-test),
+      search needs,
+      grown-more (l .i) _ _ _ _ _ _ (l .inv .2) (x .ensures .1),
+      (λ (old : List ℕ) (start : ℕ) (p : Emission) (h : Tells p old start (s .t) (s .out .now)).
+          turn-told (s .tracker) (s .at .now) (s .lo .now) (s .hz .now) (length (s .scratch .now)) (length (l .scratch)) p old (l .out) _ start (l .i) (s .events .now) _ (l .m) (x .result)
+          (l .inv .1) (record-part (l .i) (s .events .now)) (l .inv .3 old start p h) (λ (u : Emission) (g : Tells u old start (l .m) (l .out)). x .ensures .0 old start u g)),
+    )
 
 -- src/lib.rt:129:1
 same-length : tie.Need-same-length Inv-loop μ-loop

@@ -28,9 +28,10 @@ same-length c = search needs
 returns : tie.Need-returns
 returns c =
     let a = c .before .before .before .add-message in
-    let s = c .before .before .before .before .before .before .before .args in
-    ( (λ (old : List ℕ) (start : ℕ) (p : Emission) (h : Tells p old start (s .t) (s .out .now)). line-told p old _ _ start (a .result) (s .t) (s .event .now) (s .answer) (a .ensures .0) h)
-    , record { end = a .ensures .1; frames = omega arith; messages = omega arith; room = a .ensures .0 .room } )
+    let s = c .before .before .before .before .before .before .before .args in (
+      (λ (old : List ℕ) (start : ℕ) (p : Emission) (h : Tells p old start (s .t) (s .out .now)). line-told p old _ _ start (a .result) (s .t) (s .event .now) (s .answer) (a .ensures .0) h),
+      record { end = a .ensures .1; frames = omega arith; messages = omega arith; room = a .ensures .0 .room },
+    )
 
 pub tell-line-spec : {M : Type 1} → statement M
 tell-line-spec = tie.close (tie.spec add-message-requires add-t8 same-length returns)

@@ -25,8 +25,8 @@ tell-line-requires : tie.Need-tell-line-requires
 tell-line-requires c κs = search needs
 
 -- src/lib.rt:95:54
-enum-told-2 : tie.Need-enum-told-2
-enum-told-2 c = search needs
+enum-known-answer-2 : tie.Need-enum-known-answer-2
+enum-known-answer-2 c = search needs
 
 -- src/lib.rt:95:26
 tell-line-requires-2 : tie.Need-tell-line-requires-2
@@ -35,9 +35,10 @@ tell-line-requires-2 c κs = search needs
 -- src/lib.rt:81:1
 returns : tie.Need-returns
 returns c =
-    let s = c .before .before .before .before .before .args in
-    ( (λ (old : List ℕ) (start : ℕ) (p : Emission) (h : Tells p old start (s .t) (s .out .now)). refusal-told p old _ start (c .before .answer .given .0 .0) (s .t) (s .event .now) (s .answer) (sym (c .before .answer .given .1)) h)
-    , record { end = omega arith; frames = omega arith; messages = omega arith; room = refl } )
+    let s = c .before .before .before .before .before .args in (
+      (λ (old : List ℕ) (start : ℕ) (p : Emission) (h : Tells p old start (s .t) (s .out .now)). refusal-told p old _ start (c .before .answer .given .0 .0) (s .t) (s .event .now) (s .answer) (sym (c .before .answer .given .1)) h),
+      record { end = omega arith; frames = omega arith; messages = omega arith; room = refl },
+    )
 
 -- src/lib.rt:81:1
 same-length : tie.Need-same-length
@@ -46,9 +47,13 @@ same-length c = search needs
 -- src/lib.rt:81:1
 returns-2 : tie.Need-returns-2
 returns-2 c =
-    let s = c .before .before .before .before .before .before .before .before .args in
-    ( (λ (old : List ℕ) (start : ℕ) (p : Emission) (h : Tells p old start (s .t) (s .out .now)). as-told (unknown-line p (s .event .now) (s .answer) (sym (c .before .before .before .before .enum-told .given .1))) (c .before .before .tell-line .ensures .0 old start p h))
-    , c .before .before .tell-line .ensures .1 )
+    let told = c .before .before .tell-line .ensures in
+    let known = c .before .before .before .before in
+    let s = known .before .before .before .before .args in (
+      (λ (old : List ℕ) (start : ℕ) (p : Emission) (h : Tells p old start (s .t) (s .out .now)).
+          as-told (unknown-line p (s .event .now) (s .answer) (sym (known .enum-told .given .1))) (told .0 old start p h)),
+      told .1,
+    )
 
 -- src/lib.rt:81:1
 same-length-2 : tie.Need-same-length-2
@@ -57,9 +62,13 @@ same-length-2 c = search needs
 -- src/lib.rt:81:1
 returns-3 : tie.Need-returns-3
 returns-3 c =
-    let s = c .before .before .before .before .before .before .before .before .args in
-    ( (λ (old : List ℕ) (start : ℕ) (p : Emission) (h : Tells p old start (s .t) (s .out .now)). as-told (hz-line p (s .event .now) (c .before .before .before .before .enum-told2 .given .0 .0) (s .answer) (sym (c .before .before .before .before .enum-told2 .given .1))) (c .before .before .tell-line2 .ensures .0 old start p h))
-    , c .before .before .tell-line2 .ensures .1 )
+    let told = c .before .before .tell-line2 .ensures in
+    let known = c .before .before .before .before .before in
+    let s = known .before .before .before .before .args in (
+      (λ (old : List ℕ) (start : ℕ) (p : Emission) (h : Tells p old start (s .t) (s .out .now)).
+          as-told (hz-line p (s .event .now) (known .answer2 .given .0 .0) (s .answer) (sym (known .answer2 .given .1))) (told .0 old start p h)),
+      told .1,
+    )
 
 pub tell-message-spec : {M : Type 1} → statement M
 tell-message-spec =
@@ -68,7 +77,7 @@ tell-message-spec =
     enum-known-answer
     enum-told
     tell-line-requires
-    enum-told-2
+    enum-known-answer-2
     tell-line-requires-2
     returns
     same-length

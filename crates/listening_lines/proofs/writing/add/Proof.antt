@@ -40,9 +40,12 @@ loop-less c = search needs
 loop-again : tie.Need-loop-again Inv-loop μ-loop
 loop-again c =
     let s = c .before .before .before in
-    let l = c .before .before .loop in
-    (omega arith, rw length-set (l .inv .1), byte-more (s .args .out .now) (l .out) (s .args .text .now) (s .args .at) (l .i) (omega arith) (omega arith) (l .inv .2)
-    , rest-more (s .args .out .now) (l .out) (s .args .at) (l .i) _ (l .inv .3))
+    let l = c .before .before .loop in (
+      omega arith,
+      rw length-set (l .inv .1),
+      byte-more (s .args .out .now) (l .out) (s .args .text .now) (s .args .at) (l .i) (omega arith) (omega arith) (l .inv .2),
+      rest-more (s .args .out .now) (l .out) (s .args .at) (l .i) _ (l .inv .3),
+    )
 
 add-result : tie.Need-add-result Inv-loop μ-loop
 add-result c = search needs

@@ -29,7 +29,7 @@ add-requires : tie.Need-add-requires
 add-requires c κs =
     let d = c .before .before .decimal in
     let e : take (d .result) (d .last .1 .0) ≡ decimal (c .before .before .before .before .before .args .n) =
-        d .ensures .1 .1 ∙ decimal-of _ (d .result) (omega arith) (d .ensures .1 .0) in
+    d .ensures .1 .1 ∙ decimal-of _ (d .result) (omega arith) (d .ensures .1 .0) in
     rw e (omega (arith, decimal-length (c .before .before .before .before .before .args .n)))
 
 -- src/writing.rt:20:1
@@ -43,7 +43,7 @@ returns c =
     let d = digits .decimal in
     let n = digits .before .before .before .args .n in
     let e : take (d .result) (d .last .1 .0) ≡ decimal n =
-        d .ensures .1 .1 ∙ decimal-of _ (d .result) (omega arith) (d .ensures .1 .0) in
+    d .ensures .1 .1 ∙ decimal-of _ (d .result) (omega arith) (d .ensures .1 .0) in
     let a = rw e at (c .before .before .add .ensures) in
     (a, omega (arith, a .end, decimal-length n))
 
