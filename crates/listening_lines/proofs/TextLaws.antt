@@ -11,7 +11,7 @@ use lib.Dec.{ltb}
 use lib.ListN.{length, take, drop, getD, set, length-set, length-append}
 use lib.Seq.{take-suc, take-suc-set, take-length, drop-drop, drop-set-lt}
 use Rattle.io.specs.Digits.{glyph, digits, Fewest}
-use Rattle.listening_lines.specs.Text.{digit, decimalBy, decimal, hex, hexBytes, Added}
+use Rattle.listening_lines.specs.Text.{decimalBy, decimal, hex, hexBytes, Added}
 
 -- one byte more
 pub byte-more : (old out text : List ℕ) (at i : ℕ) → at + i < length out → i < length text → take (at + i) out ≡ take at old ++ take i text
@@ -52,16 +52,17 @@ decimal-digits (suc f) (suc k) n le lt lo =
     let low : 10 ^ k * 10 ≤ n = rw pow-suc at (lo (omega arith)) in
     let high : n < 10 ^ suc k * 10 = rw pow-suc at lt in
     let h : 10 ≤ n = omega arith in
-    rw (le-ltb n 10 h, ← decimal-digits f k (n / 10) (omega arith) (div-lt-iff-lt-mul {k = 10} {x = n} {y = 10 ^ suc k} (omega arith) .1 high) (λ z. le-div-iff-mul-le {k = 10} {x = 10 ^ k} {y = n} (omega arith) .1 low)) refl
+    let d : ltb (n % 10) 10 ≡ true = lt-ltb (n % 10) 10 (omega arith) in
+    rw (le-ltb n 10 h, d, ← decimal-digits f k (n / 10) (omega arith) (div-lt-iff-lt-mul {k = 10} {x = n} {y = 10 ^ suc k} (omega arith) .1 high) (λ z. le-div-iff-mul-le {k = 10} {x = 10 ^ k} {y = n} (omega arith) .1 low)) refl
 
 pub decimal-by-length : (k n : ℕ) → length (decimalBy k n) ≤ k
 unfolding decimalBy
 decimal-by-length zero n = omega arith
 decimal-by-length (suc k) n = both (decimal-by-length k (n / 10)) (ltb n 10)
   where
-    both : length (decimalBy k (n / 10)) ≤ k → (b : Bool) → length (cond b (glyph n ∷ []) (decimalBy k (n / 10) ++ (glyph (n % 10) ∷ []))) ≤ suc k
+    both : length (decimalBy k (n / 10)) ≤ k → (b : Bool) → length (cond b ((48 + n) ∷ []) (decimalBy k (n / 10) ++ ((48 + n % 10) ∷ []))) ≤ suc k
     both h true = omega arith
-    both h false = rw (length-append (decimalBy k (n / 10)) (glyph (n % 10) ∷ [])) (omega arith)
+    both h false = rw (length-append (decimalBy k (n / 10)) ((48 + n % 10) ∷ [])) (omega arith)
 
 pub decimal-length : (n : ℕ) → length (decimal n) ≤ 20
 unfolding decimal

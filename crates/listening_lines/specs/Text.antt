@@ -6,24 +6,24 @@ use mathlib.Core.List.{List, [], _∷_, _++_}
 use lib.Dec.{ltb}
 use lib.ListN.{length, take, drop}
 
--- the ASCII code of a digit: 48 is `0`, and 87 + 10 is `a` (01's "lower-case")
-abbrev pub digit : ℕ → ℕ
-digit d = cond (ltb d 10) (48 + d) (87 + d)
-
--- the decimal digits of a number below 10 ^ k, the most significant first, with no zero in front
+-- the decimal digits of a number below 10 ^ k, the most significant first, with no zero in front; 48 is `0`
 unfoldable pub decimalBy : ℕ → ℕ → List ℕ
 decimalBy zero n = []
-decimalBy (suc k) n = cond (ltb n 10) (digit n ∷ []) (decimalBy k (n / 10) ++ (digit (n % 10) ∷ []))
+decimalBy (suc k) n = cond (ltb n 10) ((48 + n) ∷ []) (decimalBy k (n / 10) ++ ((48 + n % 10) ∷ []))
 
 -- 01's "decimal": a u64 has at most 20 digits
 unfoldable pub decimal : ℕ → List ℕ
 unfolding decimalBy
 decimal n = decimalBy 20 n
 
--- 01's "lower-case hex digits", w of them
+-- 01's "lower-case": 48 is `0`, and 87 + 10 is `a`
+abbrev pub hexDigit : ℕ → ℕ
+hexDigit d = cond (ltb d 10) (48 + d) (87 + d)
+
+-- w hexadecimal digits, the most significant first
 unfoldable pub hex : ℕ → ℕ → List ℕ
 hex zero n = []
-hex (suc w) n = hex w (n / 16) ++ (digit (n % 16) ∷ [])
+hex (suc w) n = hex w (n / 16) ++ (hexDigit (n % 16) ∷ [])
 
 -- two for each byte
 unfoldable pub hexBytes : List ℕ → List ℕ
