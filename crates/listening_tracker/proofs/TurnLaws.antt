@@ -29,9 +29,10 @@ as-stop : (r k : ℕ) (s : FrequencyTracker) (x : Next) → r ≡ k → Stops r 
 as-stop r k s x e h = rw e at h
 
 -- the last call
-pub next-turned : (s : FrequencyTracker) (l : Lists) (out out′ : List Float) (x : Next) → NextEnd s l out (x .refused) (x .tracker) (x .tune) out′ → Turned (nextTurn (length out) s l) x l
+pub next-turned : (room : ℕ) (s : FrequencyTracker) (l : Lists) (out out′ : List Float) (x : Next) → length out ≡ room → NextEnd s l out (x .refused) (x .tracker) (x .tune) out′
+    → Turned (nextTurn room s l) x l
 unfolding nextTurn Turned
-next-turned s l out out′ x e = both (causeNext s l (length out)) (e .refusal)
+next-turned room s l out out′ x n e = both (causeNext s l room) (rw n at (e .refusal))
   where
     both : (k : ℕ) → x .refused ≡ k → Turned (unless k s l (on (packed (afterTuning (tracker s l))) l (nextTuning (tracker s l)))) x l
     both zero z = (z, e .state z, e .answer z, refl)

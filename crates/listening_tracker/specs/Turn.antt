@@ -11,6 +11,10 @@ use Rattle.frequency.specs.Lent.{Lists, tracker, packed, stored}
 use Rattle.frequency.specs.Order.{causeTuned, causeSamples, causeCfo, causeNext}
 use Rattle.frequency.specs.Tracker.{tuned, samples, cfo, nextTuning, afterTuning}
 
+-- 01: "8,000 readings .. fit", and as many places of scratch
+abbrev pub readingPlaces : ℕ
+readingPlaces = 8000
+
 -- stop: a call was refused with this number, and the tracker and lists that it found are left; on: the tracker and its lists after the record, and where to tune
 pub data Turn : Type 0 where
   stop : ℕ → FrequencyTracker → Lists → Turn

@@ -1,9 +1,8 @@
 // The tracker's side of one record of `listen` (01, frequency.rs).
 ghost use mathlib.Core.Path.{_≡_};
-ghost use lib.ListN.{length};
 ghost use Rattle.frequency.specs.Lent.{lists};
 ghost use Rattle.frequency.specs.Calls.{Beside};
-ghost use Rattle.listening_tracker.specs.Turn.{turn, samplesTurn, cfoTurn, Stops, Turned};
+ghost use Rattle.listening_tracker.specs.Turn.{readingPlaces, turn, samplesTurn, cfoTurn, Stops, Turned};
 use frequency::FrequencyTracker;
 use frequency::Next;
 use frequency_measure::Frequency;
@@ -31,7 +30,7 @@ fn read(
     freq: &[u32; 64],
     scratch: &mut [f64; 8000],
 ) -> Next
-    ensures { λ r. ⌜ Turned (cfoTurn (length (now (scratch .entry))) cfo t (lists (now (at .entry)) (now (lo .entry)) (now (hz .entry)) (now (tuned .entry)) (now (freq .entry))))
+    ensures { λ r. ⌜ Turned (cfoTurn readingPlaces cfo t (lists (now (at .entry)) (now (lo .entry)) (now (hz .entry)) (now (tuned .entry)) (now (freq .entry))))
         r (lists (now (at .exit)) (now (lo .exit)) (now (hz .exit)) (now (tuned .entry)) (now (freq .entry))) ⌝ }
 {
     let register = [cfo];
@@ -55,7 +54,7 @@ fn hear(
     freq: &mut [u32; 64],
     scratch: &mut [f64; 8000],
 ) -> Next
-    ensures { λ r. ⌜ Turned (samplesTurn (length (now (scratch .entry))) (now (dbm .entry)) cfo t (lists (now (at .entry)) (now (lo .entry)) (now (hz .entry)) (now (tuned .entry)) (now (freq .entry))))
+    ensures { λ r. ⌜ Turned (samplesTurn readingPlaces (now (dbm .entry)) cfo t (lists (now (at .entry)) (now (lo .entry)) (now (hz .entry)) (now (tuned .entry)) (now (freq .entry))))
         r (lists (now (at .exit)) (now (lo .exit)) (now (hz .exit)) (now (tuned .exit)) (now (freq .exit))) ⌝ }
 {
     let b = t.samples(dbm, at, lo, hz, tuned, freq);
@@ -80,7 +79,7 @@ pub fn track(
     scratch: &mut [f64; 8000],
 ) -> Next
     requires { ⌜ Beside t (now at) (now lo) (now hz) ⌝ }
-    ensures { λ r. ⌜ Turned (turn (length (now (scratch .entry))) «now_hz» (now (dbm .entry)) cfo t (lists (now (at .entry)) (now (lo .entry)) (now (hz .entry)) (now (tuned .entry)) (now (freq .entry))))
+    ensures { λ r. ⌜ Turned (turn readingPlaces «now_hz» (now (dbm .entry)) cfo t (lists (now (at .entry)) (now (lo .entry)) (now (hz .entry)) (now (tuned .entry)) (now (freq .entry))))
         r (lists (now (at .exit)) (now (lo .exit)) (now (hz .exit)) (now (tuned .exit)) (now (freq .exit))) ⌝ }
 {
     let a = t.tuned(now_hz, tuned, freq);

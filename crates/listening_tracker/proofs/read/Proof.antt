@@ -39,7 +39,7 @@ returns-2 c =
     let branch = c .before .before .before .before .before .before .before .before .before .before .before in
     let first = branch .before .before in
     let z : first .cfo .result .refused ≡ 0 = omega (arith, branch .if1 .left) in
-    cfo-on _ _ _ _ _ _ _ _ _ (first .cfo .ensures) z (next-turned _ _ _ _ _ (c .next-tuning .ensures))
+    cfo-on _ _ _ _ _ _ _ _ _ (first .cfo .ensures) z (next-turned _ _ _ _ _ _ (omega (arith, c .before .next-tuning-arg9 .given)) (c .next-tuning .ensures))
 
 pub read-spec : {M : Type 1} → statement M
 read-spec =
