@@ -20,7 +20,7 @@ use Rattle.ledger.proofs.Basics.{Every}
 use Rattle.ledger.proofs.Throughout.{given}
 use Rattle.ledger.proofs.Ranks.{AllRanked}
 use Rattle.ledger.proofs.Carry.{carry}
-use Rattle.ledger.proofs.Seeing.{Clear, events-seen, events-size, records-in, no-records}
+use Rattle.ledger.proofs.Seeing.{Clear, RecordSized, events-seen, events-size, records-in, no-records}
 use Rattle.ledger.proofs.Sound.{Sound, fresh-sound, sound-ranked, call-sound}
 use Rattle.receiver.specs.Calls.{Memory, lengthsOf, refusalOf, recordsOf, stateAfter, samplesAfter, Free, Answered}
 use Rattle.receiver.specs.declared.SigfoxReceiver.{SigfoxReceiver}
@@ -128,14 +128,18 @@ module _ (rate : ℕ) (first : List Float) (p : Port) (l : Ledger byFrames) (st 
   records-is : recordsOf s c plan (before .samples) (refusalOf s c plan before) ≡ written
   records-is = rw refusal-is (records-are rate s l (st .state) c before (st .holds) ranked plan n)
 
-  count : x .reply .received .count ≡ length written
+  pub count : x .reply .received .count ≡ length written
   count = answered .count ∙ ap length records-is
 
-  events : x .reply .after .events ≡ withRecords written (x .asked .events)
+  pub events : x .reply .after .events ≡ withRecords written (x .asked .events)
   events = answered .events ∙ ap (λ (r : List (List ℕ)). withRecords r (x .asked .events)) records-is
 
+  -- each has its 120 bytes
+  pub sized : Every RecordSized written
+  sized = events-size mark (callEvents rate (demodOf rate) l c n) (after-sound .1)
+
   pub records : recordsFrom x ≡ written
-  records = ap₂ recordsIn count events ∙ records-in written (x .asked .events) (events-size mark (callEvents rate (demodOf rate) l c n) (after-sound .1))
+  records = ap₂ recordsIn count events ∙ records-in written (x .asked .events) sized
 
   pub rest : x .reply .after .events ≡ withRecords (recordsFrom x) (x .asked .events)
   rest = events ∙ ap (λ (r : List (List ℕ)). withRecords r (x .asked .events)) (sym records)

@@ -1,137 +1,104 @@
 // What the program `listen` does (01, frequency.rs): the tracker and the receiver side by side on one stream of 16-byte records from standard input, a line for each retune and each message.
-mod input; // the records of standard input
-mod listener; // the tracker's side, and what was counted
-mod lines; // what is printed
-mod messages; // what a call of the receiver brings
-mod writing; // a line, put together and written at once
+mod ending; // the input's end
+mod handing; // what goes to standard output and standard error
+mod records; // the whole records of the buffer
+mod stepping; // one record
 
-ghost use Prim.Native.Nat.{_≤_, _<_};
-use crate::input::BUFFER;
-use crate::input::RECORD;
-use crate::input::Record;
-use crate::input::record_at;
-use crate::lines::print_end;
-use crate::lines::print_failure;
-use crate::lines::print_refusal;
-use crate::listener::Listener;
-use crate::listener::track;
-use crate::messages::emit_all;
+ghost use mathlib.Core.Path.{_≡_};
+ghost use mathlib.Core.Bool.{true, false};
+ghost use mathlib.Core.List.{List, []};
+ghost use Prim.Native.Nat.{ℕ, _≤_};
+ghost use lib.ListN.{length};
+ghost use Rattle.frequency.specs.Lent.{lists};
+ghost use Rattle.listening.specs.Hand.{outPlaces, newListener, Room, Near};
+ghost use Rattle.listening.specs.Reads.{Stage, Staged, Further, Ran};
+use crate::handing::hand_over;
+use crate::handing::print_failure;
+use crate::records::RECORD;
+use crate::stepping::RATE;
+use crate::stepping::STEP_HZ;
+use frequency::FrequencyTracker;
 use reading::Fetched;
-use reading::fetch;
-use receiver::Received;
 use receiver::SigfoxReceiver;
-use shifts::Shifts;
 
 // A proved loop has to end, and nothing says that the input does. A read brings a byte at least, and a stream of over 2^41 bytes is refused.
 const MOST_READS: u64 = 0x400_0000_0000;
 
-// Between two reads: the two sides, how many bytes stand in the buffer, and whether there may be more.
-struct Listening {
-    listener: Listener,
-    receiver: SigfoxReceiver,
-    filled: usize,
-    more: bool,
+// Bytes of the input's buffer, a whole number of records.
+const BUFFER: usize = 4096;
+
+// Whether there was a record, what was counted, and the tracker.
+pub struct Listener {
+    pub started: bool,
+    pub samples: u64,
+    pub frames: u64,
+    pub messages: u64,
+    pub tracker: FrequencyTracker,
 }
 
-fn fresh() -> Listening
-    ensures { λ r. ⌜ r .filled < 4096 ⌝ }
+// After a record: the refusal or 0, where the text ends, and both sides.
+pub struct Stepped {
+    pub refused: u8,
+    pub end: usize,
+    pub listener: Listener,
+    pub receiver: SigfoxReceiver,
+}
+
+// After the records of a read: whether no call was refused and every text went out, the refusal or 0, and both sides.
+pub struct Listening {
+    pub going: bool,
+    pub refused: u8,
+    pub listener: Listener,
+    pub receiver: SigfoxReceiver,
+}
+
+// Between two reads: how many bytes stand in the buffer, whether there may be more, and what the records left.
+pub struct Reading {
+    pub filled: usize,
+    pub more: bool,
+    pub going: bool,
+    pub refused: u8,
+    pub listener: Listener,
+    pub receiver: SigfoxReceiver,
+}
+
+// How the program ended: every whole record was accepted and the last text handed over; a record's call was refused; or standard input could not be read, or standard output took no more.
+pub enum Ended {
+    Heard,
+    Refused(u8),
+    Broken,
+}
+
+// Nothing was read.
+fn fresh() -> Listener
+    ensures { λ r. ⌜ r ≡ newListener ⌝ }
 {
-    let listener = listener::fresh();
-    let receiver = SigfoxReceiver::new(listener::RATE);
-    Listening {
-        listener,
-        receiver,
-        filled: 0,
-        more: true,
+    let t = FrequencyTracker::new(RATE, 0, STEP_HZ);
+    let tracker = t.tracker;
+    Listener {
+        started: false,
+        samples: 0,
+        frames: 0,
+        messages: 0,
+        tracker,
     }
-}
-
-// `push_raw` of a record; nothing after a refusal.
-fn push(
-    receiver: SigfoxReceiver,
-    l: Listener,
-    record: Record,
-    samples: &mut [f32; 12000],
-    events: &mut [u8; 30720],
-    scratch32: &mut [f32; 12000],
-    scratch64: &mut [f64; 8000],
-) -> Received {
-    if !l.going {
-        return Received {
-            refused: 0,
-            count: 0,
-            receiver,
-        };
-    }
-    let raw = record.raw;
-    let shifts = Shifts::none();
-    let closed = [0u32; 0];
-    receiver.push_raw(&raw, shifts, &closed, samples, events, scratch32, scratch64)
-}
-
-// The whole records of the buffer, from one place on to another. The receiver goes from call to call by itself: it is large.
-fn hear(
-    l: Listening,
-    input: &[u8; 4096],
-    from: usize,
-    end: usize,
-    at: &mut [u64; 8000],
-    lo: &mut [u32; 8000],
-    hz: &mut [f64; 8000],
-    tuned: &mut [u64; 64],
-    freq: &mut [u32; 64],
-    samples: &mut [f32; 12000],
-    events: &mut [u8; 30720],
-    scratch32: &mut [f32; 12000],
-    scratch64: &mut [f64; 8000],
-) -> Listening
-    requires { ⌜ end ≤ 4096 ⌝ }
-{
-    let mut listener = l.listener;
-    let mut receiver = l.receiver;
-    let last = end / RECORD;
-    let mut i = from / RECORD;
-    while i < last {
-        let record = record_at(input, RECORD * i);
-        i += 1;
-        let heard = track(listener, record, at, lo, hz, tuned, freq, scratch64);
-        let r = push(
-            receiver,
-            heard,
-            record,
-            samples,
-            events,
-            scratch32,
-            scratch64,
-        );
-        let next = r.receiver;
-        receiver = next;
-        listener = emit_all(heard, r.refused, r.count, events, at, lo, hz, scratch64);
-    }
-    let mut m = l;
-    m.listener = listener;
-    m.receiver = receiver;
-    m
 }
 
 // After a read that failed: a line on standard error, and nothing more on standard output.
-fn fail(l: Listening) -> Listening
-    requires { ⌜ l .filled < 4096 ⌝ }
-    ensures { λ r. ⌜ r .filled < 4096 ⌝ }
+fn fail(s: Reading) -> Reading
+    ensures { λ r. ⌜ r ≡ record { filled = s .filled; more = false; going = false; refused = s .refused; listener = s .listener; receiver = s .receiver } ⌝ }
 {
     print_failure();
-    let mut listener = l.listener;
-    listener.going = false;
-    let mut m = l;
-    m.listener = listener;
+    let mut m = s;
+    m.going = false;
     m.more = false;
     m
 }
 
 // One read, and every record that is whole with it.
 fn turn(
-    l: Listening,
-    input: &mut [u8; 4096],
+    s: Reading,
+    input: &mut [u8],
     at: &mut [u64; 8000],
     lo: &mut [u32; 8000],
     hz: &mut [f64; 8000],
@@ -141,18 +108,25 @@ fn turn(
     events: &mut [u8; 30720],
     scratch32: &mut [f32; 12000],
     scratch64: &mut [f64; 8000],
-) -> Listening
-    requires { ⌜ l .filled < 4096 ⌝ }
-    ensures { λ r. ⌜ r .filled < 4096 ⌝ }
+    out: &mut [u8],
+) -> Reading
+    requires { ⌜ Staged (now input) s (lists (now at) (now lo) (now hz) (now tuned) (now freq)) (now samples) ⌝ }
+    requires { ⌜ (s .going ≡ true) × (length (now input) ≡ 4096) × (Room 65536 (s .listener)) × (outPlaces ≤ length (now out)) ⌝ }
+    ensures { λ r. ⌜ ((read : List ℕ) → Stage read (now (input .entry)) s (lists (now (at .entry)) (now (lo .entry)) (now (hz .entry)) (now (tuned .entry)) (now (freq .entry))) (now (samples .entry))
+        → Further read (now (input .exit)) r (lists (now (at .exit)) (now (lo .exit)) (now (hz .exit)) (now (tuned .exit)) (now (freq .exit))) (now (samples .exit))) ⌝ }
+    ensures { λ r. ⌜ Near 65536 (s .listener) (r .listener) ⌝ }
 {
-    let from = l.filled;
-    let fetched = fetch(input, from);
+    let from = s.filled;
+    let fetched = reading::fetch(input, from);
     let Fetched::Bytes(n) = fetched else {
-        return fail(l);
+        return fail(s);
     };
     let end = from + n;
-    let mut m = hear(
+    let l = s.listener;
+    let first = s.receiver;
+    let r = records::hear(
         l,
+        first,
         input,
         from,
         end,
@@ -165,49 +139,69 @@ fn turn(
         events,
         scratch32,
         scratch64,
+        out,
     );
-    m.filled = end % BUFFER;
-    m.more = m.listener.going & (0 < n);
-    m
+    let listener = r.listener;
+    let receiver = r.receiver;
+    Reading {
+        filled: end % BUFFER,
+        more: r.going & (0 < n),
+        going: r.going,
+        refused: r.refused,
+        listener,
+        receiver,
+    }
 }
 
-// The last call, and its messages; nothing after a refusal.
-fn finish(
-    l: Listening,
+// The end of the input: the last calls and lines. Nothing after a refusal, or where standard input or output failed.
+fn conclude(
+    s: Reading,
     at: &[u64; 8000],
     lo: &[u32; 8000],
     hz: &[f64; 8000],
+    tuned: &[u64; 64],
+    freq: &[u32; 64],
+    input: &[u8],
     samples: &mut [f32; 12000],
     events: &mut [u8; 30720],
     scratch32: &mut [f32; 12000],
     scratch64: &mut [f64; 8000],
-) -> Listener {
-    let listener = l.listener;
-    if !listener.going {
-        return listener;
+    out: &mut [u8],
+) -> Ended
+    requires { ⌜ Staged (now input) s (lists (now at) (now lo) (now hz) (now tuned) (now freq)) (now samples) ⌝ }
+    requires { ⌜ (Room 65536 (s .listener)) × (outPlaces ≤ length (now out)) ⌝ }
+    ensures { λ r. ⌜ Ran r ⌝ }
+{
+    if s.refused != 0 {
+        return Ended::Refused(s.refused);
     }
-    let receiver = l.receiver;
-    let shifts = Shifts::none();
-    let closed = [0u32; 0];
-    let r = receiver.flush(shifts, &closed, samples, events, scratch32, scratch64);
-    emit_all(listener, r.refused, r.count, events, at, lo, hz, scratch64)
-}
-
-// The last line; none where one before it could not be written.
-fn conclude(l: Listener, leftover: usize) {
-    if l.going {
-        let tracker = l.tracker;
-        let signal = tracker.signal;
-        print_end(signal.n, l.frames, l.messages, leftover);
-        return;
+    if !s.going {
+        return Ended::Broken;
     }
-    if l.refused != 0 {
-        print_refusal(l.refused);
-    }
+    let l = s.listener;
+    let receiver = s.receiver;
+    let leftover = s.filled % RECORD;
+    let end = ending::finish(
+        l,
+        receiver,
+        leftover,
+        at,
+        lo,
+        hz,
+        samples,
+        events,
+        scratch32,
+        scratch64,
+        out,
+    );
+    hand_over(out, end);
+    Ended::Heard
 }
 
 // The whole stream.
-pub fn run() {
+pub fn run() -> Ended
+    ensures { λ r. ⌜ Ran r ⌝ }
+{
     let mut input = [0u8; 4096];
     let mut at = [0u64; 8000];
     let mut lo = [0u32; 8000];
@@ -218,11 +212,21 @@ pub fn run() {
     let mut events = [0u8; 30720];
     let mut scratch32 = [0.0f32; 12000];
     let mut scratch64 = [0.0f64; 8000];
-    let mut l = fresh();
+    let mut out = [0u8; 33024];
+    let listener = fresh();
+    let receiver = SigfoxReceiver::new(RATE);
+    let mut s = Reading {
+        filled: 0,
+        more: true,
+        going: true,
+        refused: 0,
+        listener,
+        receiver,
+    };
     let mut left = MOST_READS;
-    while left > 0 && l.more {
-        l = turn(
-            l,
+    while left > 0 && s.more {
+        s = turn(
+            s,
             &mut input,
             &mut at,
             &mut lo,
@@ -233,18 +237,22 @@ pub fn run() {
             &mut events,
             &mut scratch32,
             &mut scratch64,
+            &mut out,
         );
         left -= 1;
     }
-    let last = finish(
-        l,
+    conclude(
+        s,
         &at,
         &lo,
         &hz,
+        &tuned,
+        &freq,
+        &input,
         &mut samples,
         &mut events,
         &mut scratch32,
         &mut scratch64,
-    );
-    conclude(last, l.filled % RECORD);
+        &mut out,
+    )
 }

@@ -1,7 +1,7 @@
 // Standard input and files as they come; an error is told from the end.
 ghost use mathlib.Core.Path.{_≡_};
 ghost use Prim.Native.Nat.{_+_, _≤_, _<_};
-ghost use lib.ListN.{length};
+ghost use lib.ListN.{length, take};
 ghost use Rattle.reading.specs.Input.{brought};
 use libc::STDIN_FILENO;
 
@@ -28,6 +28,7 @@ const NEWLINE: u8 = 10;
 pub fn fetch_from(fd: i32, input: &mut [u8], from: usize) -> Fetched
     requires { ⌜ from < length (now input) ⌝ }
     ensures { λ r. ⌜ from + brought r ≤ length (now (input .exit)) ⌝ }
+    ensures { λ _. ⌜ take from (now (input .exit)) ≡ take from (now (input .entry)) ⌝ }
 {
     let got = libc::read(fd, &mut input[from..]);
     if got < 0 {
@@ -58,6 +59,7 @@ pub fn fill_from(fd: i32, input: &mut [u8]) -> Fetched
 pub fn fetch(input: &mut [u8], from: usize) -> Fetched
     requires { ⌜ from < length (now input) ⌝ }
     ensures { λ r. ⌜ from + brought r ≤ length (now (input .exit)) ⌝ }
+    ensures { λ _. ⌜ take from (now (input .exit)) ≡ take from (now (input .entry)) ⌝ }
 {
     fetch_from(STDIN_FILENO, input, from)
 }

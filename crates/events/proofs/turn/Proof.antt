@@ -26,14 +26,14 @@ add-end : tie.Need-add-end
 add-end c =
     let s = c .before .before .before in
     let h : length (s .before .before .before .args .input .now) ≡ 4096 = search needs in
-    omega (arith, h, s .fetch .kept .0, s .fetch .ensures, ap brought (c .before .fetched .given .1))
+    omega (arith, h, s .fetch .kept .0, s .fetch .ensures .0, ap brought (c .before .fetched .given .1))
 
 hear-requires : tie.Need-hear-requires
 hear-requires c κs =
     let k = c .before .before .before .before .before .before in
     let s = k .before .before .before in
     let h : length (s .before .before .before .args .input .now) ≡ 4096 = search needs in
-    omega (arith, h, s .fetch .kept .0, s .fetch .ensures, ap brought (k .before .fetched .given .1))
+    omega (arith, h, s .fetch .kept .0, s .fetch .ensures .0, ap brought (k .before .fetched .given .1))
 
 returns-2 : tie.Need-returns-2
 returns-2 c = search needs

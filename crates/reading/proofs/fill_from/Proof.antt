@@ -42,7 +42,7 @@ add-n : tie.Need-add-n Inv-loop μ-loop
 add-n c =
     let f = c .before .before .before .before .before .before .fetch-from in
     let e = ap brought (c .before .before .fetched .given .1) in
-    omega (arith, e, f .ensures, f .kept .1 .0)
+    omega (arith, e, f .ensures .0, f .kept .1 .0)
 
 loop-less : tie.Need-loop-less Inv-loop μ-loop
 loop-less c = search needs
@@ -54,7 +54,7 @@ loop-again c =
     let f = fetch-from .fetch-from in
     let e = ap brought (c .before .before .fetched .given .1) in
     let l = loop .loop in
-    (omega (arith, e, f .ensures, f .kept .1 .0), omega (arith, f .kept .1 .0, l .inv .1))
+    (omega (arith, e, f .ensures .0, f .kept .1 .0), omega (arith, f .kept .1 .0, l .inv .1))
 
 same-length-3 : tie.Need-same-length-3 Inv-loop μ-loop
 same-length-3 c = search needs

@@ -1,0 +1,102 @@
+-- Scaffolding. What the code of `listen` has of the definition, and what it hands to `write`. Assumes nothing.
+use Prim.Native.Nat.{ℕ, _+_, _*_, _/_, _≤_, _<_, _^_}
+use mathlib.Core.Path.{_≡_}
+use mathlib.Core.Bool.{true, false}
+use mathlib.Core.List.{List, _++_}
+use lib.ListN.{length, take, drop}
+use lib.Ieee.{Float}
+use Rattle.ledger.specs.Ledger.{byFrames, Ledger}
+use Rattle.frequency.specs.Lent.{Lists}
+use Rattle.frequency.specs.Calls.{fresh, Beside}
+use Rattle.receiver.specs.declared.SigfoxReceiver.{SigfoxReceiver}
+use Rattle.listening_lines.specs.Text.{widest, Added}
+use Rattle.listening_receiver.specs.Hearing.{rate, most}
+use Rattle.listening_receiver.specs.Standing.{StandsFor}
+use Rattle.listening.specs.declared.Listener.{Listener}
+use Rattle.listening.specs.declared.Stepped.{Stepped}
+use Rattle.listening.specs.declared.Listening.{Listening}
+use Rattle.listening.specs.Program.{State, Went, recordBytes, stepHz, begun, handed, step, listen, nothingHeard, after, said, Accepted}
+
+-- the definition's state that the code's numbers, the tracker with its lists and a ledger are
+abbrev pub stateOf : Listener → Lists → Ledger byFrames → State
+stateOf l m g =
+    record { started = l .started; tracker = l .tracker; lists = m; ledger = g; samples = l .samples; frames = l .frames; messages = l .messages }
+
+-- nothing was read
+abbrev pub newListener : Listener
+newListener = record { started = false; samples = 0; frames = 0; messages = 0; tracker = fresh rate 0 stepHz }
+
+-- ---- one record
+
+-- bytes of the text of a record: a T line, an M line for each event record that fits, and an R line
+abbrev pub outPlaces : ℕ
+outPlaces = widest + widest * most + widest
+
+-- the first record makes the tracker
+abbrev pub begunAs : Listener → ℕ → Listener
+begunAs l hz = record { started = l .started; samples = l .samples; frames = l .frames; messages = l .messages; tracker = begun (l .started) (l .tracker) hz }
+
+-- what a record leaves: the refusal, the text at the start of the buffer, the state, and a receiver that stands for its ledger
+pub record Goes (w : Went) (out : List ℕ) (r : Stepped) (m : Lists) (places : List Float) (out′ : List ℕ) : Type 0 where
+  pub refused : r .refused ≡ w .refused
+  pub text : Added out 0 (handed w) (r .end) out′
+  pub state : stateOf (r .listener) m (w .state .ledger) ≡ w .state
+  pub stands : StandsFor (r .receiver) places (w .state .ledger)
+
+-- counts that may still grow by k
+pub record Room (k : ℕ) (l : Listener) : Type 0 where
+  pub samples : l .samples + k < 2 ^ 64
+  pub frames : l .frames + k < 2 ^ 64
+  pub messages : l .messages + k < 2 ^ 64
+
+-- counts that grew by k at the most
+pub record Near (k : ℕ) (l r : Listener) : Type 0 where
+  pub samples : r .samples ≤ l .samples + k
+  pub frames : r .frames ≤ l .frames + k
+  pub messages : r .messages ≤ l .messages + k
+
+-- what bounds a record's counts and text; where none of its calls was refused, the tracker's readings stand in their lists
+pub record Steps (l : Listener) (r : Stepped) (at lo : List ℕ) (hz : List Float) (out out′ : List ℕ) : Type 0 where
+  pub near : Near most l (r .listener)
+  pub end : r .end ≤ outPlaces
+  pub room : length out′ ≡ length out
+  pub beside : r .refused ≡ 0 → Beside (r .listener .tracker) at lo hz
+
+-- ---- a list of records
+
+-- the first n records of what was read were accepted, and the code has the definition's state after them
+pub record Reached (read : List ℕ) (n : ℕ) (l : Listener) (receiver : SigfoxReceiver) (m : Lists) (places : List Float) : Type 0 where
+  pub accepted : Accepted n nothingHeard read
+  pub ledger : Ledger byFrames
+  pub stands : StandsFor receiver places ledger
+  pub state : stateOf l m ledger ≡ after n nothingHeard read
+  pub beside : Beside (l .tracker) (m .at) (m .lo) (m .hz)
+
+-- some input of whole records has brought it here
+pub record Come (l : Listener) (receiver : SigfoxReceiver) (m : Lists) (places : List Float) : Type 0 where
+  pub read : List ℕ
+  pub n : ℕ
+  pub whole : length read ≡ recordBytes * n
+  pub reached : Reached read n l receiver m places
+
+-- a call of the record behind the first n was refused with this number
+pub record Refuses (read : List ℕ) (number : ℕ) : Type 0 where
+  pub n : ℕ
+  pub there : recordBytes * n + recordBytes ≤ length read
+  pub accepted : Accepted n nothingHeard read
+  pub is : step (after n nothingHeard read) (take recordBytes (drop (recordBytes * n) read)) .refused ≡ number
+
+-- the whole records of what was read, as far as they went: going on, all were accepted; otherwise the refusal is the definition's
+pub record GoesOn (read : List ℕ) (n : ℕ) (r : Listening) (m : Lists) (places : List Float) : Type 0 where
+  pub all : r .going ≡ true → Reached read n (r .listener) (r .receiver) m places
+  pub refusal : (r .refused ≡ 0 → ⊥) → Refuses read (r .refused)
+
+-- ---- what is handed to `write`
+
+-- the next part of a text that the definition gives, behind what the first n records brought
+pub record Part (text : List ℕ) : Type 0 where
+  pub read : List ℕ
+  pub n : ℕ
+  pub accepted : Accepted n nothingHeard read
+  pub rest : List ℕ
+  pub is : listen read ≡ said n nothingHeard read ++ (text ++ rest)

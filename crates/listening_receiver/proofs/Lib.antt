@@ -1,0 +1,2 @@
+-- The laws of the receiver's side of `listen`.
+pub mod HearingLaws

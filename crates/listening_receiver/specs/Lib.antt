@@ -1,0 +1,3 @@
+-- The definitions that the contracts of `listening_receiver` cite.
+pub mod Hearing
+pub mod Standing

@@ -1,0 +1,2 @@
+-- The laws of a record's calls of the tracker.
+pub mod TurnLaws
