@@ -1,0 +1,2 @@
+-- The laws that the proofs of `frequency_grown` share.
+pub mod KnownLaws

@@ -1,0 +1,2 @@
+-- The definitions that the contracts of `frequency_grown` cite.
+pub mod Known
