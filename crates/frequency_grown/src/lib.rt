@@ -1,15 +1,20 @@
 // Calls on a tracker that is known to be in order, as one that grew from a fresh one is: only what is handed in is tested, and the
 // answers are those of the public calls.
 ghost use mathlib.Core.Path.{_≡_};
-ghost use Prim.Native.Nat.{_≤_};
-ghost use lib.ListN.{length};
+ghost use mathlib.Core.Bool.{true};
+ghost use Prim.Native.Nat.{_+_, _^_, _≤_, _<_};
+ghost use lib.ListN.{length, take};
 ghost use Rattle.limits.specs.Limits.{longestStream};
+ghost use Rattle.frequency_signal.specs.Seconds.{oldestOf};
+ghost use Rattle.frequency_retain.specs.Retain.{Leads};
 ghost use Rattle.frequency.specs.Lent.{lists};
 ghost use Rattle.frequency.specs.Calls.{SamplesEnd, CfoEnd, NextEnd};
 ghost use Rattle.frequency_grown.specs.Known.{Known, lineCause, valuesCause};
+ghost use Rattle.frequency_grown.specs.Rising.{rises};
 use frequency::FrequencyTracker;
 use frequency::Next;
 use frequency::Tracked;
+use frequency_retain::Look;
 
 // The number of the cause, 3, 4 or 7, for which a line of samples is refused, or 0.
 fn line_cause(rate: u32, n: u64, dbm: &[f32]) -> u8
@@ -42,7 +47,47 @@ fn values_cause(held: usize, raw: &[u16], at: &[u64], lo: &[u32], hz: &[f64]) ->
     0
 }
 
-// `FrequencyTracker::samples`, without a look for a NaN; refusals 3, 4, 7.
+// `samples` after a look at the readings.
+fn hear(
+    t: FrequencyTracker,
+    look: Look,
+    dbm: &[f32],
+    at: &mut [u64],
+    lo: &mut [u32],
+    hz: &mut [f64],
+    tuned: &mut [u64],
+    freq: &mut [u32],
+) -> Tracked
+    requires { ⌜ Known t (lists (now at) (now lo) (now hz) (now tuned) (now freq))
+        × (look .settled ≡ true → Leads (oldestOf (t .rate) (t .signal .n + length (now dbm))) (t .readings) (look .lead) (now at)) ⌝ }
+    ensures { λ r. ⌜ SamplesEnd t (now (dbm .entry)) (lists (now (at .entry)) (now (lo .entry)) (now (hz .entry)) (now (tuned .entry)) (now (freq .entry)))
+        (r .refused) (r .tracker) (lists (now (at .exit)) (now (lo .exit)) (now (hz .exit)) (now (tuned .exit)) (now (freq .exit))) ⌝ }
+{
+    let signal = t.signal;
+    let cause = line_cause(t.rate, signal.n, dbm);
+    if cause != 0 {
+        return Tracked {
+            refused: cause,
+            tracker: t,
+        };
+    }
+    frequency::hear_line(t, look, dbm, at, lo, hz, tuned, freq)
+}
+
+// A look at readings that rise: those that a line of `more` samples makes go stand in front, and no other is looked at.
+fn rising_look(t: FrequencyTracker, more: usize, at: &[u64]) -> Look
+    requires { ⌜ (t .signal .n ≤ longestStream) × (more < 2 ^ 63) × (t .readings ≤ length (now at)) × (rises (take (t .readings) (now at)) ≡ true) ⌝ }
+    ensures { λ r. ⌜ Leads (oldestOf (t .rate) (t .signal .n + more)) (t .readings) (r .lead) (now (at .entry)) ⌝ }
+{
+    let signal = t.signal;
+    let low = frequency_signal::oldest(t.rate, signal.n + (more as u64));
+    Look {
+        settled: true,
+        lead: frequency_retain::leading(low, t.readings, at),
+    }
+}
+
+// `FrequencyTracker::samples`, with one look at the readings, for those that go; refusals 3, 4, 7.
 pub fn samples(
     t: FrequencyTracker,
     dbm: &[f32],
@@ -56,16 +101,26 @@ pub fn samples(
     ensures { λ r. ⌜ SamplesEnd t (now (dbm .entry)) (lists (now (at .entry)) (now (lo .entry)) (now (hz .entry)) (now (tuned .entry)) (now (freq .entry)))
         (r .refused) (r .tracker) (lists (now (at .exit)) (now (lo .exit)) (now (hz .exit)) (now (tuned .exit)) (now (freq .exit))) ⌝ }
 {
-    let signal = t.signal;
-    let cause = line_cause(t.rate, signal.n, dbm);
-    if cause != 0 {
-        return Tracked {
-            refused: cause,
-            tracker: t,
-        };
-    }
     let look = frequency::first_look(t, dbm.len(), at);
-    frequency::hear_line(t, look, dbm, at, lo, hz, tuned, freq)
+    hear(t, look, dbm, at, lo, hz, tuned, freq)
+}
+
+// The same where the readings rise, as they do where a line has one register value: only those that go are looked at.
+pub fn samples_rising(
+    t: FrequencyTracker,
+    dbm: &[f32],
+    at: &mut [u64],
+    lo: &mut [u32],
+    hz: &mut [f64],
+    tuned: &mut [u64],
+    freq: &mut [u32],
+) -> Tracked
+    requires { ⌜ Known t (lists (now at) (now lo) (now hz) (now tuned) (now freq)) × (rises (take (t .readings) (now at)) ≡ true) ⌝ }
+    ensures { λ r. ⌜ SamplesEnd t (now (dbm .entry)) (lists (now (at .entry)) (now (lo .entry)) (now (hz .entry)) (now (tuned .entry)) (now (freq .entry)))
+        (r .refused) (r .tracker) (lists (now (at .exit)) (now (lo .exit)) (now (hz .exit)) (now (tuned .exit)) (now (freq .exit))) ⌝ }
+{
+    let look = rising_look(t, dbm.len(), at);
+    hear(t, look, dbm, at, lo, hz, tuned, freq)
 }
 
 // `FrequencyTracker::cfo`, without a look at what is held; refusals 3, 8.
