@@ -2,7 +2,7 @@
 use mathlib.Core.Path.{_≡_, refl, sym, ap, _∙_, subst}
 use mathlib.Core.Bool.{Bool, true, false, cond, _&&_}
 use mathlib.Core.List.{List, [], _∷_, _++_, map}
-use Prim.Native.Nat.{ℕ, zero, suc, _+_, _≤_, _<_}
+use Prim.Native.Nat.{ℕ, zero, suc, _+_, _^_, _≤_, _<_}
 use native.Mathlib.Nat.{le-of-suc-le-suc}
 use native.Mathlib.Omega.{arith}
 use borrow.Author.Tests.{leb-true, le-leb}
@@ -21,7 +21,8 @@ use Rattle.frequency_lists.proofs.Gather.{map-retained, every-retained}
 use Rattle.frequency_retain.specs.Retain.{Leads}
 use Rattle.frequency.specs.declared.FrequencyTracker.{FrequencyTracker}
 use Rattle.frequency_measure.specs.Measured.{readingsOf}
-use Rattle.frequency.specs.Calls.{fresh}
+use Rattle.frequency_measure.specs.declared.Frequency.{Frequency}
+use Rattle.frequency.specs.Calls.{SamplesEnd, CfoEnd, TunedEnd, NextEnd, fresh}
 use Rattle.frequency.specs.Lent.{Lists, lists, tracker, packed, stored}
 use Rattle.frequency.specs.Grown as grown
 use Rattle.frequency.specs.Grown.{Grown}
@@ -176,3 +177,26 @@ risen (next {s} {t} {l} out out′ tune g c) =
 pub single-rises : {s : FrequencyTracker} {l : Lists} → Single s l → rises (take (s .readings) (l .at)) ≡ true
 unfolding tracker
 single-rises {s} {l} g = subst (λ (z : List ℕ). rises z ≡ true) (ats s l (counts-of s l (sound (single-grown g)))) (risen g .rise)
+
+-- ---- and after a call, accepted or refused
+pub after-samples : {s t : FrequencyTracker} {l m : Lists} (dbm : List Float) (r : ℕ) → Single s l → SamplesEnd s dbm l r t m → Single t m
+after-samples dbm zero g c = samples dbm g c
+after-samples {s} {t} {l} {m} dbm (suc r) g c =
+    subst (λ (x : FrequencyTracker). Single x m) (sym (c .same-state (λ e. omega arith))) (subst (λ (x : Lists). Single s x) (sym (c .same-lists (λ e. omega arith))) g)
+
+pub after-cfo : {s t : FrequencyTracker} {l m : Lists} (raw : List ℕ) (r : ℕ) → length raw ≤ 1 → Single s l → CfoEnd s raw l r t m → Single t m
+after-cfo raw zero h g c = cfo raw h g c
+after-cfo {s} {t} {l} {m} raw (suc r) h g c =
+    subst (λ (x : FrequencyTracker). Single x m) (sym (c .same-state (λ e. omega arith))) (subst (λ (x : Lists). Single s x) (sym (c .same-lists (λ e. omega arith))) g)
+
+pub after-next : {s t : FrequencyTracker} {l : Lists} (out out′ : List Float) (tune : Frequency) (r : ℕ) → Single s l → NextEnd s l out r t tune out′ → Single t l
+after-next out out′ tune zero g c = next out out′ tune g c
+after-next {l = l} out out′ tune (suc r) g c = subst (λ (x : FrequencyTracker). Single x l) (sym (c .same-state (λ e. omega arith))) g
+
+pub after-tuned : {s t : FrequencyTracker} (at lo : List ℕ) (hz : List Float) (tun fre tun′ fre′ : List ℕ) (f r : ℕ) → f < 2 ^ 32 → Single s (lists at lo hz tun fre)
+    → TunedEnd s f tun fre r t tun′ fre′ → Single t (lists at lo hz tun′ fre′)
+after-tuned at lo hz tun fre tun′ fre′ f zero h g c = tuned f tun′ fre′ h g c
+after-tuned {s} {t} at lo hz tun fre tun′ fre′ f (suc r) h g c =
+    let e = c .same-lent (λ e. omega arith) in
+    subst (λ (x : FrequencyTracker). Single x (lists at lo hz tun′ fre′)) (sym (c .same-state (λ e. omega arith)))
+    (subst (λ (x : List ℕ). Single s (lists at lo hz x fre′)) (sym (e .0)) (subst (λ (x : List ℕ). Single s (lists at lo hz tun x)) (sym (e .1)) g))
