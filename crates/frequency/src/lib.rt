@@ -5,7 +5,7 @@ ghost use Prim.Native.Nat.{_+_, _≤_};
 ghost use lib.ListN.{length, take};
 ghost use Rattle.frequency_signal.specs.Seconds.{oldestOf};
 ghost use Rattle.frequency_lists.specs.Lists.{upTo};
-ghost use Rattle.frequency_retain.specs.Retain.{Looked};
+ghost use Rattle.frequency_retain.specs.Retain.{Leads, Looked};
 ghost use Rattle.frequency_tuning.specs.Steps.{settledBy};
 ghost use Rattle.frequency.specs.Lent.{lists};
 ghost use Rattle.frequency.specs.Order.{ahead, tuningsInOrder, readingsInOrder, inOrder, floatsOk, numbersOk, causeNew, causeFreq, causeTuned, causeSamples, causeCfo, causeNext, causeFrame};
@@ -140,7 +140,7 @@ fn in_order_looked(
 }
 
 // A look at the readings before a line of `more` samples: one pass for their order and for what the line makes go.
-fn first_look(t: FrequencyTracker, more: usize, at: &[u64]) -> frequency_retain::Look
+pub fn first_look(t: FrequencyTracker, more: usize, at: &[u64]) -> frequency_retain::Look
     ensures { λ r. ⌜ (r .settled ≡ true → Looked (oldestOf (t .rate) (t .signal .n + more)) (t .signal .n + ahead) (t .readings) (r .lead) (now (at .entry))) ⌝ }
 {
     let signal = t.signal;
@@ -365,6 +365,131 @@ fn first_answer(f: frequency_measure::Frequency) -> Frame1
     }
 }
 
+// ---- what an accepted call does: the public calls ask after their causes, and frequency_grown knows that there are none in what is held
+
+// What an accepted `samples` does, after a look at the readings.
+pub fn hear_line(
+    t: FrequencyTracker,
+    look: frequency_retain::Look,
+    dbm: &[f32],
+    at: &mut [u64],
+    lo: &mut [u32],
+    hz: &mut [f64],
+    tuned: &mut [u64],
+    freq: &mut [u32],
+) -> Tracked
+    requires { ⌜ (causeSamples t (lists (now at) (now lo) (now hz) (now tuned) (now freq)) (now dbm) ≡ 0)
+        × (look .settled ≡ true → Leads (oldestOf (t .rate) (t .signal .n + length (now dbm))) (t .readings) (look .lead) (now at)) ⌝ }
+    ensures { λ r. ⌜ SamplesEnd t (now (dbm .entry)) (lists (now (at .entry)) (now (lo .entry)) (now (hz .entry)) (now (tuned .entry)) (now (freq .entry)))
+        (r .refused) (r .tracker) (lists (now (at .exit)) (now (lo .exit)) (now (hz .exit)) (now (tuned .exit)) (now (freq .exit))) ⌝ }
+{
+    let before = t.signal;
+    let after = frequency_signal::hear_all(t.rate, before, dbm);
+    let n = after.n;
+    let kept = frequency_retain::retain_looked(look, t.rate, n, t.readings, at, lo, hz);
+    let left = frequency_retain::retain_tunings(t.rate, n, t.tunings, tuned, freq);
+    let requested = t.requested;
+    Tracked {
+        refused: 0,
+        tracker: FrequencyTracker {
+            rate: t.rate,
+            base_freq: t.base_freq,
+            step_hz: t.step_hz,
+            line_start: before.n,
+            readings: kept,
+            tunings: left,
+            requested: requested,
+            signal: after,
+        },
+    }
+}
+
+// What an accepted `cfo` does.
+pub fn read_line(
+    t: FrequencyTracker,
+    raw: &[u16],
+    at: &mut [u64],
+    lo: &mut [u32],
+    hz: &mut [f64],
+    tuned: &[u64],
+    freq: &[u32],
+) -> Tracked
+    requires { ⌜ causeCfo t (lists (now at) (now lo) (now hz) (now tuned) (now freq)) (now raw) ≡ 0 ⌝ }
+    ensures { λ r. ⌜ CfoEnd t (now (raw .entry)) (lists (now (at .entry)) (now (lo .entry)) (now (hz .entry)) (now (tuned .entry)) (now (freq .entry)))
+        (r .refused) (r .tracker) (lists (now (at .exit)) (now (lo .exit)) (now (hz .exit)) (now (tuned .entry)) (now (freq .entry))) ⌝ }
+{
+    let more = 1 < t.tunings;
+    let f = frequency_lists::last_freq(t.base_freq, t.tunings, freq);
+    let last = frequency_lists::last_tuned(t.tunings, tuned);
+    let count = frequency_lists::read_values(
+        t.rate,
+        t.step_hz,
+        more,
+        last,
+        f,
+        t.line_start,
+        t.readings,
+        raw,
+        at,
+        lo,
+        hz,
+    );
+    let mut next = t;
+    next.readings = count;
+    Tracked {
+        refused: 0,
+        tracker: next,
+    }
+}
+
+// What an accepted `next_tuning` does.
+pub fn choose_tuning(
+    t: FrequencyTracker,
+    at: &[u64],
+    lo: &[u32],
+    hz: &[f64],
+    tuned: &[u64],
+    freq: &[u32],
+    out: &mut [f64],
+) -> Next
+    requires { ⌜ causeNext t (lists (now at) (now lo) (now hz) (now tuned) (now freq)) (length (now out)) ≡ 0 ⌝ }
+    ensures { λ r. ⌜ NextEnd t (lists (now (at .entry)) (now (lo .entry)) (now (hz .entry)) (now (tuned .entry)) (now (freq .entry))) (now (out .entry))
+        (r .refused) (r .tracker) (r .tune) (now (out .exit)) ⌝ }
+{
+    let step = step_of(t, at, hz, out);
+    let tune = frequency_tuning::target_of(
+        t.base_freq,
+        frequency_lists::last_freq(t.base_freq, t.tunings, freq),
+        step,
+    );
+    let old = t.requested;
+    let signal = t.signal;
+    let floor = signal.floor;
+    let from = signal.frame_from;
+    let last = signal.last_signal;
+    let heard = frequency_signal::Signal {
+        n: signal.n,
+        floor: floor,
+        frame_from: from,
+        last_signal: last,
+        retuned: frequency_tuning::retuned_by(step, signal.retuned),
+    };
+    Next {
+        refused: 0,
+        tracker: FrequencyTracker {
+            rate: t.rate,
+            base_freq: t.base_freq,
+            step_hz: t.step_hz,
+            line_start: t.line_start,
+            readings: t.readings,
+            tunings: t.tunings,
+            requested: frequency_tuning::remember(tune, old),
+            signal: heard,
+        },
+        tune: tune,
+    }
+}
+
 impl FrequencyTracker {
     // A tracker that has heard nothing; refusals 1 (rate) and 9 (step).
     pub fn new(rate: u32, base_freq: u32, step_hz: f64) -> Tracked
@@ -459,25 +584,7 @@ impl FrequencyTracker {
                 tracker: self,
             };
         }
-        let before = self.signal;
-        let after = frequency_signal::hear_all(self.rate, before, dbm);
-        let n = after.n;
-        let kept = frequency_retain::retain_looked(look, self.rate, n, self.readings, at, lo, hz);
-        let left = frequency_retain::retain_tunings(self.rate, n, self.tunings, tuned, freq);
-        let requested = self.requested;
-        Tracked {
-            refused: 0,
-            tracker: FrequencyTracker {
-                rate: self.rate,
-                base_freq: self.base_freq,
-                step_hz: self.step_hz,
-                line_start: before.n,
-                readings: kept,
-                tunings: left,
-                requested: requested,
-                signal: after,
-            },
-        }
+        hear_line(self, look, dbm, at, lo, hz, tuned, freq)
     }
 
     // The raw 12-bit register values of the last line of samples, one for each 8; refusals 1, 3, 5, 8, 9.
@@ -500,28 +607,7 @@ impl FrequencyTracker {
                 tracker: self,
             };
         }
-        let more = 1 < self.tunings;
-        let f = frequency_lists::last_freq(self.base_freq, self.tunings, freq);
-        let last = frequency_lists::last_tuned(self.tunings, tuned);
-        let count = frequency_lists::read_values(
-            self.rate,
-            self.step_hz,
-            more,
-            last,
-            f,
-            self.line_start,
-            self.readings,
-            raw,
-            at,
-            lo,
-            hz,
-        );
-        let mut t = self;
-        t.readings = count;
-        Tracked {
-            refused: 0,
-            tracker: t,
-        }
+        read_line(self, raw, at, lo, hz, tuned, freq)
     }
 
     // Where to tune now: to the coarse frame 1 reading once it has settled, and back to the base frequency after a message;
@@ -546,38 +632,7 @@ impl FrequencyTracker {
                 tune: frequency_measure::Frequency::Nothing,
             };
         }
-        let step = step_of(self, at, hz, out);
-        let tune = frequency_tuning::target_of(
-            self.base_freq,
-            frequency_lists::last_freq(self.base_freq, self.tunings, freq),
-            step,
-        );
-        let old = self.requested;
-        let signal = self.signal;
-        let floor = signal.floor;
-        let from = signal.frame_from;
-        let last = signal.last_signal;
-        let heard = frequency_signal::Signal {
-            n: signal.n,
-            floor: floor,
-            frame_from: from,
-            last_signal: last,
-            retuned: frequency_tuning::retuned_by(step, signal.retuned),
-        };
-        Next {
-            refused: 0,
-            tracker: FrequencyTracker {
-                rate: self.rate,
-                base_freq: self.base_freq,
-                step_hz: self.step_hz,
-                line_start: self.line_start,
-                readings: self.readings,
-                tunings: self.tunings,
-                requested: frequency_tuning::remember(tune, old),
-                signal: heard,
-            },
-            tune: tune,
-        }
+        choose_tuning(self, at, lo, hz, tuned, freq, out)
     }
 
     // The frequency of one frame against the last receiver frequency used during it (the closest one after a retune);

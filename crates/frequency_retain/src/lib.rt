@@ -122,9 +122,9 @@ fn forget(lead: usize, count: usize, at: &mut [u64], lo: &mut [u32], hz: &mut [f
 }
 
 // How many before oldest stand in front of the first that isn't.
-fn leading(oldest: u64, count: usize, at: &[u64]) -> usize
+pub fn leading(oldest: u64, count: usize, at: &[u64]) -> usize
     requires { ⌜ count ≤ length (now at) ⌝ }
-    ensures { λ r. ⌜ (r ≤ count) × ((i : ℕ) → i < r → leb oldest (getD (now (at .entry)) i 0) ≡ false) ⌝ }
+    ensures { λ r. ⌜ (r ≤ count) × ((i : ℕ) → i < r → leb oldest (getD (now (at .entry)) i 0) ≡ false) × (r < count → leb oldest (getD (now (at .entry)) r 0) ≡ true) ⌝ }
 {
     let mut i = 0usize;
     while i < count {

@@ -7,18 +7,24 @@ use crate::rust::frequency::FrequencyTracker;
 
 const SECONDS: usize = 600;
 
-/// `samples` and `cfo` for each record, and all calls that `listen` makes.
+/// `samples` and `cfo` for each record, and all calls that `listen` makes; by the public calls, and by those of a tracker that is
+/// known to be in order.
 pub fn rows() -> Result<Vec<Row>, String> {
     let stream = records(SECONDS);
-    let calls = [(false, "`samples`, `cfo`"), (true, "all calls of `listen`")];
+    let calls = [
+        (false, false, "`samples`, `cfo`"),
+        (true, false, "all calls of `listen`"),
+        (false, true, "`samples`, `cfo`, known to be in order"),
+        (true, true, "all calls of `listen`, known to be in order"),
+    ];
     calls
-        .map(|(all, calls)| row(all, calls, stream.clone()))
+        .map(|(all, known, calls)| row(all, known, calls, stream.clone()))
         .into_iter()
         .collect()
 }
 
-fn row(all: bool, calls: &str, stream: Vec<u8>) -> Result<Row, String> {
-    let mut input = vec![u8::from(all)];
+fn row(all: bool, known: bool, calls: &str, stream: Vec<u8>) -> Result<Row, String> {
+    let mut input = vec![u8::from(all), u8::from(known)];
     input.extend(&stream);
     let what = format!("{SECONDS} s of records at 1,000/s, {calls}");
     programs::row("frequency.rs", what, "bench_tracker", &input, move || {

@@ -1,0 +1,2 @@
+-- The laws that the proofs of `bench_tracker` share.
+pub mod TrackerLaws

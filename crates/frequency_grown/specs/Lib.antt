@@ -1,0 +1,3 @@
+-- The definitions that the contracts of `frequency_grown` cite.
+pub mod Known
+pub mod Rising
