@@ -1,5 +1,4 @@
-//! The client's examples, where they stand beside the repository: the oracle prints their lines. Those of `listen` have request 04's
-//! records without a frequency, and are left out.
+//! The client's examples, where they stand beside the repository: the oracle prints their lines.
 #![cfg(has_rust)]
 
 use std::fs;
@@ -8,13 +7,17 @@ use std::path::Path;
 use host::oracle::lines;
 
 /// Examples by their files' name, and the format of each.
-const EXAMPLES: [(&str, &str); 10] = [
+const EXAMPLES: [(&str, &str); 14] = [
     ("bytes", "bytes"),
     ("charges", "charges"),
     ("depth", "burst"),
     ("depths", "depths"),
     ("fleet", "fleet"),
     ("grip", "grip"),
+    ("listen-0", "listen"),
+    ("listen-1", "listen"),
+    ("listen-2", "listen"),
+    ("listen-3", "listen"),
     ("shifts", "shifts"),
     ("shortest", "capture"),
     ("waiting", "events"),

@@ -225,14 +225,14 @@ fn lines_of(child: &mut Child) -> (Receiver<String>, thread::JoinHandle<()>) {
 #[cfg(has_rust)]
 #[test]
 fn lines_come_at_once() {
-    use host::listener::{Listener, RECORD, freq};
+    use host::listener::{Listener, RECORD};
 
     let Some(mut child) = listen() else { return };
     let mut stdin = child.stdin.take().expect("it is a pipe");
     let (lines, thread) = lines_of(&mut child);
     let input = fs::read(root().join("crates/listen/stdin")).expect("the repository has it");
     let (records, rest) = input.as_chunks::<RECORD>();
-    let mut listener = Listener::new(freq(&records[0]));
+    let mut listener = Listener::default();
     let (mut tunes, mut messages) = (0, 0);
     for record in records {
         stdin.write_all(record).expect("it reads");

@@ -191,7 +191,7 @@ failed-on read input input′ s r m places kept e st =
     never h = let z : _≡_ {A = ℕ} 0 1 = cc in omega arith
 
 pub failed-near : (s r : Reading) → r ≡ record { filled = s .filled; more = false; going = false; refused = s .refused; listener = s .listener; receiver = s .receiver } → Near 65536 (s .listener) (r .listener)
-failed-near s r e = rw e (record { samples = omega arith; frames = omega arith; messages = omega arith })
+failed-near s r e = rw e (record { passed = omega arith; samples = omega arith; frames = omega arith; messages = omega arith })
 
 -- ---- the end
 
@@ -204,7 +204,7 @@ end-part read input s m places leftover out out′ end st on e a =
     rw (a .front, k, x .state) (part-end read (x .accepted))
 
 pub fewer-room : (l : Listener) → Room 65536 l → Room most l
-fewer-room l r = record { samples = omega (arith, r .samples); frames = omega (arith, r .frames); messages = omega (arith, r .messages) }
+fewer-room l r = record { passed = omega (arith, r .passed); samples = omega (arith, r .samples); frames = omega (arith, r .frames); messages = omega (arith, r .messages) }
 
 -- ---- the start
 
@@ -237,15 +237,16 @@ started l v input places e f w =
     })
 
 pub first-near : (l : Listener) → l ≡ newListener → Near 0 newListener l
-first-near l e = rw e (record { samples = omega arith; frames = omega arith; messages = omega arith })
+first-near l e = rw e (record { passed = omega arith; samples = omega arith; frames = omega arith; messages = omega arith })
 
 -- counts over n reads
-pub reads-room : (l : Listener) (n : ℕ) → n ≤ 4398046511104 → Near (65536 * n) newListener l → Room 65536 l
-reads-room l n h k = record { samples = omega (arith, k .samples); frames = omega (arith, k .frames); messages = omega (arith, k .messages) }
+pub reads-room : (l : Listener) (n : ℕ) → n ≤ 4398046511103 → Near (65536 * n) newListener l → Room 65536 l
+reads-room l n h k = record { passed = omega (arith, k .passed); samples = omega (arith, k .samples); frames = omega (arith, k .frames); messages = omega (arith, k .messages) }
 
 pub reads-near : (l r : Listener) (most left : ℕ) → 0 < left → left ≤ most → Near (65536 * (most - left)) newListener l → Near 65536 l r → Near (65536 * (most - (left - 1))) newListener r
 reads-near l r most left h k a b =
     record {
+      passed = omega (arith, a .passed, b .passed);
       samples = omega (arith, a .samples, b .samples);
       frames = omega (arith, a .frames, b .frames);
       messages = omega (arith, a .messages, b .messages);

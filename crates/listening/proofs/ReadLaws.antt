@@ -130,7 +130,7 @@ along-start input f last l v m places out h =
           λ (read : List ℕ) (n : ℕ) (e : length read ≡ recordBytes * n) (x : Reached read n l v m places).
           let k : n + 0 ≡ n = omega arith in
           rw (z, append-nil read, k) (record { all = λ (y : true ≡ true). x; refusal = λ (y : _≡_ {A = ℕ} 0 0 → ⊥). absurd (y refl) });
-      near = record { samples = omega arith; frames = omega arith; messages = omega arith };
+      near = record { passed = omega arith; samples = omega arith; frames = omega arith; messages = omega arith };
       room = refl;
     }
 
@@ -176,6 +176,7 @@ module _ (input : List ℕ) (f last i : ℕ) (l₀ : Listener) (v₀ : SigfoxRec
               (one-more (heardOf read) next (n + (i - f)) (heard-whole read n h) (next-wide input i to e fit) l v m places x s k places′ out out′ going (g (x .ledger) (x .stands)) (b .beside) z);
           near =
               record {
+                passed = omega (arith, near .passed, more .passed);
                 samples = omega (arith, near .samples, more .samples);
                 frames = omega (arith, near .frames, more .frames);
                 messages = omega (arith, near .messages, more .messages);
@@ -206,10 +207,11 @@ along-end input f last i l₀ v₀ m₀ places₀ l v refused going m places out
 pub loop-room : (l₀ l : Listener) (k : ℕ) → k < 256 → Near (most * k) l₀ l → Room 65536 l₀ → Room most l
 loop-room l₀ l k h n r =
     record {
+      passed = omega (arith, n .passed, r .passed);
       samples = omega (arith, n .samples, r .samples);
       frames = omega (arith, n .frames, r .frames);
       messages = omega (arith, n .messages, r .messages);
     }
 
 pub loop-near : (l₀ l : Listener) (k : ℕ) → k ≤ 256 → Near (most * k) l₀ l → Near 65536 l₀ l
-loop-near l₀ l k h n = record { samples = omega (arith, n .samples); frames = omega (arith, n .frames); messages = omega (arith, n .messages) }
+loop-near l₀ l k h n = record { passed = omega (arith, n .passed); samples = omega (arith, n .samples); frames = omega (arith, n .frames); messages = omega (arith, n .messages) }

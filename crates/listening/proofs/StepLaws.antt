@@ -1,9 +1,10 @@
 -- One record of `listen`. Assumes nothing.
-use Prim.Native.Nat.{ℕ, zero, suc, _+_, _*_, _≤_}
+use Prim.Native.Nat.{ℕ, zero, suc, _+_, _*_, _^_, _≤_, _<_}
 use mathlib.Core.Path.{_≡_, refl, sym, ap, _∙_}
-use mathlib.Core.Bool.{Bool, true, false}
+use mathlib.Core.Bool.{Bool, true, false, cond}
 use mathlib.Core.List.{List, [], _∷_, _++_, append-nil, append-assoc, map}
 use native.Mathlib.Omega.{arith}
+use lib.Dec.{eqb}
 use lib.ListN.{length, take, drop, length-take, drop-of-length-le}
 use lib.Ieee.{Float}
 use Rattle.ledger.specs.Ledger.{byFrames, Ledger, Call, pushRaw, flush, dbmOf}
@@ -19,16 +20,16 @@ use Rattle.receiver.specs.Calls.{Memory}
 use Rattle.listening_lines.specs.Text.{Added}
 use Rattle.listening_lines.specs.Lines.{tuneLine, refusalLine, endLine}
 use Rattle.listening_lines.proofs.TextLaws.{behind, nothing, as-text}
-use Rattle.listening_tracker.specs.Turn.{readingPlaces, Turn, stop, on, unless, nextTurn, cfoTurn, samplesTurn, turn, Turned}
+use Rattle.listening_tracker.specs.Turn.{readingPlaces, Turn, stop, on, unless, nextTurn, cfoTurn, samplesTurn, tunedTurn, turn, Turned}
 use Rattle.listening_records.specs.declared.Told.{Told}
 use Rattle.listening_records.specs.Emission.{Emission, Asked, Tells}
 use Rattle.listening_receiver.specs.declared.Heard.{Heard}
-use Rattle.listening_receiver.specs.Hearing.{rate, heard}
+use Rattle.listening_receiver.specs.Hearing.{rate, most, heard}
 use Rattle.listening_receiver.specs.Standing.{StandsFor, Hears}
 use Rattle.listening.specs.declared.Listener.{Listener}
 use Rattle.listening.specs.declared.Stepped.{Stepped}
-use Rattle.listening.specs.Program.{State, Went, stepHz, begun, samplesEach, emission, askedOf, received, turned, refusalText, handed, unlessRefused, ending, step, rawOf, hzOf, cfoOf}
-use Rattle.listening.specs.Hand.{begunAs, stateOf, Goes, Room, Near, Steps}
+use Rattle.listening.specs.Program.{State, Went, stepHz, begun, samplesEach, emission, askedOf, waits, received, turned, passedOver, heardByBoth, refusalText, handed, unlessRefused, ending, step, rawOf, hzOf, cfoOf}
+use Rattle.listening.specs.Hand.{begunAs, passedAs, stateOf, Goes, Room, Near, Receives, Steps}
 
 -- ---- `R number`, or nothing
 
@@ -102,11 +103,20 @@ samples-fit room dbm reg s l =
     let u = samples (tracker s l) dbm in
     unless-fit (causeSamples s l dbm) s l (cfoTurn room reg (packed u) (stored u l)) (cfo-fit room reg (packed u) (stored u l))
 
+tuned-fit : (room hz : ℕ) (dbm : List Float) (reg : ℕ) (s : FrequencyTracker) (l : Lists) → Fit (tunedTurn room hz dbm reg s l)
+unfolding tunedTurn
+tuned-fit room hz dbm reg s l =
+    let u = tuned (tracker s l) hz in
+    unless-fit (causeTuned s (l .tuned) (l .freq) hz) s l (samplesTurn room dbm reg (packed u) (stored u l)) (samples-fit room dbm reg (packed u) (stored u l))
+
+either-fit : (b : Bool) (t u : Turn) → Fit t → Fit u → Fit (cond b t u)
+either-fit true t u h k = h
+either-fit false t u h k = k
+
 pub turn-fit : (room hz : ℕ) (dbm : List Float) (reg : ℕ) (s : FrequencyTracker) (l : Lists) → Fit (turn room hz dbm reg s l)
 unfolding turn
 turn-fit room hz dbm reg s l =
-    let u = tuned (tracker s l) hz in
-    unless-fit (causeTuned s (l .tuned) (l .freq) hz) s l (samplesTurn room dbm reg (packed u) (stored u l)) (samples-fit room dbm reg (packed u) (stored u l))
+    either-fit (eqb hz 0) (samplesTurn room dbm reg s l) (tunedTurn room hz dbm reg s l) (samples-fit room dbm reg s l) (tuned-fit room hz dbm reg s l)
 
 -- a refusal of the tracker's: only its line
 pub goes-stop : (s : State) (raw : List ℕ) (T : Turn) (x : Next) (m : Lists) (out out′ : List ℕ) (end : ℕ) (v : SigfoxReceiver) (places : List Float)
@@ -115,7 +125,7 @@ pub goes-stop : (s : State) (raw : List ℕ) (T : Turn) (x : Next) (m : Lists) (
     (record {
       refused = x .refused;
       end = end;
-      listener = record { started = true; samples = s .samples; frames = s .frames; messages = s .messages; tracker = x .tracker };
+      listener = record { started = true; passed = s .passed; samples = s .samples; frames = s .frames; messages = s .messages; tracker = x .tracker };
       receiver = v;
     }) m places out′
 unfolding turned Turned
@@ -134,30 +144,38 @@ unfolding Turned
 on-is (stop k t m) x l w h z = absurd (w (sym (h .0) ∙ z))
 on-is (on t g f) x l w h z = rw (h .1, h .2, h .3) refl
 
-module _ (s : State) (raw : List ℕ) (T : Turn) (x : Next) (m : Lists) (out mid out′ last : List ℕ) (end end′ : ℕ) (v : SigfoxReceiver) (b : Memory) (h : Heard) (places : List Float) (events : List ℕ) where
-  pub goes-on : Fit T → Turned T x m → x .refused ≡ 0 → StandsFor v (b .samples) (s .ledger) → Added out 0 (tuneLine (x .tune)) end mid
-      → Hears (record { tracker = x .tracker; at = m .at; lo = m .lo; hz = m .hz; room = readingPlaces }) v (pushRaw raw) b
-      (record { refused = 0; frames = s .frames; messages = s .messages; end = end }) mid h places events out′
-      → ((text : List ℕ) → Added out 0 text (h .told .end) out′ → Added out 0 (text ++ refusalText (h .told .refused)) end′ last)
-      → Goes (turned s raw T) out
+pub goes-on : (s : State) (raw : List ℕ) (T : Turn) (x : Next) (m : Lists) (out out′ : List ℕ) (r : Stepped) (places : List Float) → Fit T → Turned T x m → x .refused ≡ 0
+    → Goes
+    (received
+    (record { started = true; passed = s .passed; tracker = x .tracker; lists = m; ledger = s .ledger; samples = s .samples + samplesEach; frames = s .frames; messages = s .messages })
+    (tuneLine (x .tune)) (pushRaw raw)) out r m places out′
+    → Goes (turned s raw T) out r m places out′
+unfolding turned
+goes-on s raw T x m out out′ r places n q z g = rw (on-is T x m n q z) g
+
+-- a call of the receiver behind a text
+module _ (s : State) (c : Call) (text : List ℕ) (old out mid last : List ℕ) (end end′ : ℕ) (v : SigfoxReceiver) (b : Memory) (h : Heard) (places : List Float) (events : List ℕ) where
+  pub goes-received : StandsFor v (b .samples) (s .ledger) → Added old 0 text end out
+      → Hears (askedOf s) v c b (record { refused = 0; frames = s .frames; messages = s .messages; end = end }) out h places events mid
+      → Added mid (h .told .end) (refusalText (h .told .refused)) end′ last
+      → Goes (received s text c) old
       (record {
         refused = h .told .refused;
         end = end′;
-        listener = record { started = true; samples = s .samples + samplesEach; frames = h .told .frames; messages = h .told .messages; tracker = x .tracker };
+        listener = record { started = s .started; passed = s .passed; samples = s .samples; frames = h .told .frames; messages = h .told .messages; tracker = s .tracker };
         receiver = h .receiver;
-      }) m places last
-  unfolding turned received
-  goes-on n q z st a k r =
-      let first : Tells (emission s (tuneLine (x .tune))) out 0 (record { refused = 0; frames = s .frames; messages = s .messages; end = end }) mid
+      }) (s .lists) places last
+  unfolding received
+  goes-received st a k r =
+      let first : Tells (emission s text) old 0 (record { refused = 0; frames = s .frames; messages = s .messages; end = end }) out
       = record { refused = refl; frames = refl; messages = refl; text = a } in
-      let w = k .told (s .ledger) st out 0 _ first in
-      rw (on-is T x m n q z)
-      (record {
+      let w = k .told (s .ledger) st old 0 _ first in
+      record {
         refused = w .refused;
-        text = rw (w .refused) at (r _ (w .text));
+        text = rw (w .refused) at (behind (w .text) r);
         state = rw (w .frames, w .messages) refl;
         stands = k .stands (s .ledger) st;
-      })
+      }
 
 -- and the readings of its tracker stand in their lists
 pub still-beside : (T : Turn) (x : Next) (l : Lists) → Fit T → Turned T x l → x .refused ≡ 0 → Beside (x .tracker) (l .at) (l .lo) (l .hz)
@@ -165,27 +183,27 @@ unfolding Turned
 still-beside (stop k t m) x l w h z = absurd (w (sym (h .0) ∙ z))
 still-beside (on t g f) x l w h z = rw (h .1, h .3) w
 
--- ---- the first record makes the tracker
+-- ---- the first record that isn't 0 makes the tracker
 
-pub later-begun : (b : Bool) (n f k : ℕ) (t : FrequencyTracker) (hz : ℕ) → b ≡ true
-    → _≡_ {A = Listener} (record { started = b; samples = n; frames = f; messages = k; tracker = t }) (record { started = b; samples = n; frames = f; messages = k; tracker = begun b t hz })
-later-begun b n f k t hz e = rw e refl
+pub later-begun : (b : Bool) (p n f k : ℕ) (t : FrequencyTracker) (hz : ℕ) → b ≡ true
+    → _≡_ {A = Listener} (record { started = b; passed = p; samples = n; frames = f; messages = k; tracker = t }) (record { started = b; passed = p; samples = n; frames = f; messages = k; tracker = begun b t hz })
+later-begun b p n f k t hz e = rw e refl
 
-pub first-begun : (b : Bool) (n f k : ℕ) (t u : FrequencyTracker) (hz : ℕ) → b ≡ false → u ≡ fresh rate hz stepHz
-    → _≡_ {A = Listener} (record { started = b; samples = n; frames = f; messages = k; tracker = u }) (record { started = b; samples = n; frames = f; messages = k; tracker = begun b t hz })
-first-begun b n f k t u hz e h = rw (e, h) refl
+pub first-begun : (b : Bool) (p n f k : ℕ) (t u : FrequencyTracker) (hz : ℕ) → b ≡ false → u ≡ fresh rate hz stepHz
+    → _≡_ {A = Listener} (record { started = b; passed = p; samples = n; frames = f; messages = k; tracker = u }) (record { started = b; passed = p; samples = n; frames = f; messages = k; tracker = begun b t hz })
+first-begun b p n f k t u hz e h = rw (e, h) refl
 
 pub begun-beside : (b : Bool) (t : FrequencyTracker) (hz : ℕ) (at lo : List ℕ) (hzs : List Float) → Beside t at lo hzs → Beside (begun b t hz) at lo hzs
 begun-beside true t hz at lo hzs h = h
 begun-beside false t hz at lo hzs h = record { ats = omega arith; los = omega arith; hzs = omega arith }
 
 -- a record looks at the state's counts and ledger alone
-pub turned-same : (b c : Bool) (t u : FrequencyTracker) (m l : Lists) (g : Ledger byFrames) (n f k : ℕ) (raw : List ℕ) (T : Turn)
-    → turned (record { started = b; tracker = t; lists = m; ledger = g; samples = n; frames = f; messages = k }) raw T
-    ≡ turned (record { started = c; tracker = u; lists = l; ledger = g; samples = n; frames = f; messages = k }) raw T
+pub turned-same : (b c : Bool) (t u : FrequencyTracker) (m l : Lists) (g : Ledger byFrames) (p n f k : ℕ) (raw : List ℕ) (T : Turn)
+    → turned (record { started = b; passed = p; tracker = t; lists = m; ledger = g; samples = n; frames = f; messages = k }) raw T
+    ≡ turned (record { started = c; passed = p; tracker = u; lists = l; ledger = g; samples = n; frames = f; messages = k }) raw T
 unfolding turned received
-turned-same b c t u m l g n f k raw (stop j a d) = refl
-turned-same b c t u m l g n f k raw (on a d e) = refl
+turned-same b c t u m l g p n f k raw (stop j a d) = refl
+turned-same b c t u m l g p n f k raw (on a d e) = refl
 
 -- ---- a record's bytes
 
@@ -195,7 +213,7 @@ dbm-is raw old new e f h = let z : length old ≤ length raw = omega (arith, e, 
 
 module _ (l b : Listener) (hz : ℕ) (begun-is : b ≡ begunAs l hz) where
   pub begun-room : (k : ℕ) → Room k l → Room k b
-  begun-room k h = rw begun-is (record { samples = h .samples; frames = h .frames; messages = h .messages })
+  begun-room k h = rw begun-is (record { passed = h .passed; samples = h .samples; frames = h .frames; messages = h .messages })
 
   pub begun-lists : (at lo : List ℕ) (hzs : List Float) → Beside (l .tracker) at lo hzs → Beside (b .tracker) at lo hzs
   begun-lists at lo hzs h = rw begun-is (begun-beside (l .started) (l .tracker) hz at lo hzs h)
@@ -204,16 +222,38 @@ module _ (l b : Listener) (hz : ℕ) (begun-is : b ≡ begunAs l hz) where
   begun-steps s at lo hzs out out′ h =
       let x = rw begun-is at h in
       let n = x .near in
-      record { near = record { samples = n .samples; frames = n .frames; messages = n .messages }; end = x .end; room = x .room; beside = x .beside }
+      record { near = record { passed = n .passed; samples = n .samples; frames = n .frames; messages = n .messages }; end = x .end; room = x .room; beside = x .beside }
 
   -- fields as the code has them are those of the record
   pub step-is : (m : Lists) (g : Ledger byFrames) (bytes raw : List ℕ) (dbm : List Float) (cfo : ℕ) → raw ≡ rawOf bytes → dbm ≡ map dbmOf (rawOf bytes) → hz ≡ hzOf bytes → cfo ≡ cfoOf bytes
-      → turned (stateOf b m g) raw (turn readingPlaces hz dbm cfo (b .tracker) m) ≡ step (stateOf l m g) bytes
-  unfolding step
-  step-is m g bytes raw dbm cfo p q r d =
-      rw (begun-is, p, q, r, d)
-      (turned-same (l .started) (l .started) (begun (l .started) (l .tracker) (hzOf bytes)) (l .tracker) m m g (l .samples) (l .frames) (l .messages) (rawOf bytes)
+      → waits (l .started) hz ≡ false → turned (stateOf b m g) raw (turn readingPlaces hz dbm cfo (b .tracker) m) ≡ step (stateOf l m g) bytes
+  unfolding step heardByBoth
+  step-is m g bytes raw dbm cfo p q r d w =
+      let w′ : waits (l .started) (hzOf bytes) ≡ false = rw r at w in
+      rw (w′, begun-is, p, q, r, d)
+      (turned-same (l .started) (l .started) (begun (l .started) (l .tracker) (hzOf bytes)) (l .tracker) m m g (l .passed) (l .samples) (l .frames) (l .messages) (rawOf bytes)
       (turn readingPlaces (hzOf bytes) (map dbmOf (rawOf bytes)) (cfoOf bytes) (begun (l .started) (l .tracker) (hzOf bytes)) m))
+
+-- ---- a record that is passed over
+
+pub passed-room : (l b : Listener) → b ≡ passedAs l → Room most l → (b .passed ≤ 2 ^ 53) × (b .frames + most < 2 ^ 64) × (b .messages + most < 2 ^ 64)
+passed-room l b e r = rw e (omega (arith, r .passed), r .frames, r .messages)
+
+pub passed-is : (l b : Listener) (m : Lists) (g : Ledger byFrames) (bytes : List ℕ) (hz : ℕ) → b ≡ passedAs l → hz ≡ hzOf bytes → waits (l .started) hz ≡ true
+    → received (stateOf b m g) [] (pushRaw (rawOf bytes)) ≡ step (stateOf l m g) bytes
+unfolding step passedOver
+passed-is l b m g bytes hz e h w = let w′ : waits (l .started) (hzOf bytes) ≡ true = rw h at w in rw (w′, e) refl
+
+pub passed-steps : (l b : Listener) (s : Stepped) (at lo : List ℕ) (hz : List Float) (out out′ : List ℕ) → b ≡ passedAs l → Beside (l .tracker) at lo hz → Receives b s out out′
+    → Steps l s at lo hz out out′
+passed-steps l b s at lo hz out out′ e h r =
+    let x = rw e at r in
+    record {
+      near = record { passed = omega (arith, x .passed); samples = omega (arith, x .samples); frames = x .frames; messages = x .messages };
+      end = x .end;
+      room = x .room;
+      beside = λ z. rw (x .tracker) h;
+    }
 
 pub goes-as : {w v : Went} {out : List ℕ} {r : Stepped} {m : Lists} {places : List Float} {out′ : List ℕ} → w ≡ v → Goes w out r m places out′ → Goes v out r m places out′
 goes-as e h = rw e at h

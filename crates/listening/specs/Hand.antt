@@ -15,16 +15,16 @@ use Rattle.listening_receiver.specs.Standing.{StandsFor}
 use Rattle.listening.specs.declared.Listener.{Listener}
 use Rattle.listening.specs.declared.Stepped.{Stepped}
 use Rattle.listening.specs.declared.Listening.{Listening}
-use Rattle.listening.specs.Program.{State, Went, recordBytes, stepHz, begun, handed, step, listen, nothingHeard, after, said, Accepted}
+use Rattle.listening.specs.Program.{State, Went, recordBytes, samplesEach, stepHz, begun, handed, step, listen, nothingHeard, after, said, Accepted}
 
 -- the definition's state that the code's numbers, the tracker with its lists and a ledger are
 abbrev pub stateOf : Listener → Lists → Ledger byFrames → State
 stateOf l m g =
-    record { started = l .started; tracker = l .tracker; lists = m; ledger = g; samples = l .samples; frames = l .frames; messages = l .messages }
+    record { started = l .started; passed = l .passed; tracker = l .tracker; lists = m; ledger = g; samples = l .samples; frames = l .frames; messages = l .messages }
 
 -- nothing was read
 abbrev pub newListener : Listener
-newListener = record { started = false; samples = 0; frames = 0; messages = 0; tracker = fresh rate 0 stepHz }
+newListener = record { started = false; passed = 0; samples = 0; frames = 0; messages = 0; tracker = fresh rate 0 stepHz }
 
 -- ---- one record
 
@@ -32,9 +32,14 @@ newListener = record { started = false; samples = 0; frames = 0; messages = 0; t
 abbrev pub outPlaces : ℕ
 outPlaces = widest + widest * most + widest
 
--- the first record makes the tracker
+-- the first record that isn't 0 makes the tracker
 abbrev pub begunAs : Listener → ℕ → Listener
-begunAs l hz = record { started = l .started; samples = l .samples; frames = l .frames; messages = l .messages; tracker = begun (l .started) (l .tracker) hz }
+begunAs l hz = record { started = l .started; passed = l .passed; samples = l .samples; frames = l .frames; messages = l .messages; tracker = begun (l .started) (l .tracker) hz }
+
+-- a record that is passed over
+abbrev pub passedAs : Listener → Listener
+passedAs l =
+    record { started = l .started; passed = l .passed + samplesEach; samples = l .samples + samplesEach; frames = l .frames; messages = l .messages; tracker = l .tracker }
 
 -- what a record leaves: the refusal, the text at the start of the buffer, the state, and a receiver that stands for its ledger
 pub record Goes (w : Went) (out : List ℕ) (r : Stepped) (m : Lists) (places : List Float) (out′ : List ℕ) : Type 0 where
@@ -43,17 +48,29 @@ pub record Goes (w : Went) (out : List ℕ) (r : Stepped) (m : Lists) (places : 
   pub state : stateOf (r .listener) m (w .state .ledger) ≡ w .state
   pub stands : StandsFor (r .receiver) places (w .state .ledger)
 
--- counts that may still grow by k
+-- counts that may still grow by k; a record passes 8 samples over at the most, a 32nd of the 256 that a call may add to the other counts
 pub record Room (k : ℕ) (l : Listener) : Type 0 where
+  pub passed : 32 * l .passed + k ≤ 2 ^ 58
   pub samples : l .samples + k < 2 ^ 64
   pub frames : l .frames + k < 2 ^ 64
   pub messages : l .messages + k < 2 ^ 64
 
 -- counts that grew by k at the most
 pub record Near (k : ℕ) (l r : Listener) : Type 0 where
+  pub passed : 32 * r .passed ≤ 32 * l .passed + k
   pub samples : r .samples ≤ l .samples + k
   pub frames : r .frames ≤ l .frames + k
   pub messages : r .messages ≤ l .messages + k
+
+-- what a call of the receiver keeps, and bounds
+pub record Receives (l : Listener) (r : Stepped) (out out′ : List ℕ) : Type 0 where
+  pub tracker : r .listener .tracker ≡ l .tracker
+  pub passed : r .listener .passed ≡ l .passed
+  pub samples : r .listener .samples ≡ l .samples
+  pub frames : r .listener .frames ≤ l .frames + most
+  pub messages : r .listener .messages ≤ l .messages + most
+  pub end : r .end ≤ outPlaces
+  pub room : length out′ ≡ length out
 
 -- what bounds a record's counts and text; where none of its calls was refused, the tracker's readings stand in their lists
 pub record Steps (l : Listener) (r : Stepped) (at lo : List ℕ) (hz : List Float) (out out′ : List ℕ) : Type 0 where

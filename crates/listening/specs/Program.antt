@@ -1,8 +1,9 @@
 -- 01's program `listen` (01, frequency.rs): from the bytes of its input the text of all its lines. Assumes nothing.
 use Prim.Native.Nat.{ℕ, zero, suc, _+_, _/_, _%_}
 use mathlib.Core.Path.{_≡_}
-use mathlib.Core.Bool.{Bool, true, false}
+use mathlib.Core.Bool.{Bool, true, false, not, _&&_, cond}
 use mathlib.Core.List.{List, [], _∷_, _++_, map}
+use lib.Dec.{eqb}
 use lib.ListN.{length, take, drop, replicate}
 use lib.Ieee.{Float, binary64, ofBits}
 use Rattle.endian.specs.Bytes.{numberAt}
@@ -34,9 +35,10 @@ hzOf r = numberAt 4 r 10
 
 -- ---- between two records
 
--- whether there was a record; the tracker and its lists; the receiver, as 01's ledger; samples handed to the receiver, frames and messages counted
+-- whether a frequency that isn't 0 has come, and the samples passed over before it; the tracker and its lists; the receiver, as 01's ledger; samples handed to the receiver, frames and messages counted
 pub record State : Type 0 where
   pub started : Bool
+  pub passed : ℕ
   pub tracker : FrequencyTracker
   pub lists : Lists
   pub ledger : Ledger byFrames
@@ -58,7 +60,7 @@ stepHz = ofBits binary64 4638290351528869888
 abbrev pub tuningPlaces : ℕ
 tuningPlaces = 64
 
--- "The base frequency is the first record's"
+-- 02, request 04: "the base frequency is from now on that of the first record that isn't 0"
 abbrev pub begun : Bool → FrequencyTracker → ℕ → FrequencyTracker
 begun true t hz = t
 begun false t hz = fresh rate hz stepHz
@@ -67,7 +69,7 @@ abbrev pub emission : State → List ℕ → Emission
 emission s text = record { refused = 0; frames = s .frames; messages = s .messages; text = text }
 
 abbrev pub askedOf : State → Asked
-askedOf s = record { tracker = s .tracker; at = s .lists .at; lo = s .lists .lo; hz = s .lists .hz; room = readingPlaces }
+askedOf s = record { started = s .started; passed = s .passed; tracker = s .tracker; at = s .lists .at; lo = s .lists .lo; hz = s .lists .hz; room = readingPlaces }
 
 -- a call of the receiver: its M lines behind the text
 unfoldable pub received : State → List ℕ → Call → Went
@@ -78,6 +80,7 @@ received s text c =
       text = e .text;
       state = record {
         started = s .started;
+        passed = s .passed;
         tracker = s .tracker;
         lists = s .lists;
         ledger = ledgerAfter (s .ledger) c;
@@ -94,17 +97,43 @@ turned s raw (stop k t l) =
     record {
       refused = k;
       text = [];
-      state = record { started = true; tracker = t; lists = l; ledger = s .ledger; samples = s .samples; frames = s .frames; messages = s .messages };
+      state = record { started = true; passed = s .passed; tracker = t; lists = l; ledger = s .ledger; samples = s .samples; frames = s .frames; messages = s .messages };
     }
 turned s raw (on t l f) =
     received
-    (record { started = true; tracker = t; lists = l; ledger = s .ledger; samples = s .samples + samplesEach; frames = s .frames; messages = s .messages })
+    (record { started = true; passed = s .passed; tracker = t; lists = l; ledger = s .ledger; samples = s .samples + samplesEach; frames = s .frames; messages = s .messages })
     (tuneLine f) (pushRaw raw)
 
--- one record: "`tuned`, `samples`, `cfo`, `next_tuning`, `push_raw`"
-unfoldable pub step : State → List ℕ → Went
+-- 02, request 04: "records before it feed the receiver but not the tracker"
+unfoldable pub passedOver : State → List ℕ → Went
+unfolding received
+passedOver s raw =
+    received
+    (record {
+      started = s .started;
+      passed = s .passed + samplesEach;
+      tracker = s .tracker;
+      lists = s .lists;
+      ledger = s .ledger;
+      samples = s .samples + samplesEach;
+      frames = s .frames;
+      messages = s .messages;
+    })
+    [] (pushRaw raw)
+
+-- a record of the tracker and the receiver: "`tuned`, `samples`, `cfo`, `next_tuning`, `push_raw`"
+unfoldable pub heardByBoth : State → List ℕ → Went
 unfolding turned
-step s r = turned s (rawOf r) (turn readingPlaces (hzOf r) (map dbmOf (rawOf r)) (cfoOf r) (begun (s .started) (s .tracker) (hzOf r)) (s .lists))
+heardByBoth s r = turned s (rawOf r) (turn readingPlaces (hzOf r) (map dbmOf (rawOf r)) (cfoOf r) (begun (s .started) (s .tracker) (hzOf r)) (s .lists))
+
+-- no frequency has come, nor does it with this one
+abbrev pub waits : Bool → ℕ → Bool
+waits started hz = not started && eqb hz 0
+
+-- one record
+unfoldable pub step : State → List ℕ → Went
+unfolding passedOver heardByBoth
+step s r = cond (waits (s .started) (hzOf r)) (passedOver s (rawOf r)) (heardByBoth s r)
 
 -- ---- the whole input
 
@@ -144,6 +173,7 @@ zero64 = ofBits binary64 0
 unfoldable pub nothingHeard : State
 nothingHeard = record {
   started = false;
+  passed = 0;
   tracker = fresh rate 0 stepHz;
   lists = lists (replicate readingPlaces 0) (replicate readingPlaces 0) (replicate readingPlaces zero64) (replicate tuningPlaces 0) (replicate tuningPlaces 0);
   ledger = ledger.fresh;

@@ -65,6 +65,8 @@ pub fn finish(
     let h = listening_receiver::close(
         first,
         receiver,
+        l.started,
+        l.passed,
         tracker,
         at,
         lo,

@@ -21,15 +21,16 @@ use frequency::FrequencyTracker;
 use reading::Fetched;
 use receiver::SigfoxReceiver;
 
-// A proved loop has to end, and nothing says that the input does. A read brings a byte at least, and a stream of over 2^41 bytes is refused.
-const MOST_READS: u64 = 0x400_0000_0000;
+// A proved loop has to end, and nothing says that the input does. A read brings a byte at least, and a stream of over 2^41 bytes is refused. 2^42 − 1 reads bring under 2^53 samples, 2,048 each at the most: binary64 holds their count.
+const MOST_READS: u64 = 0x3ff_ffff_ffff;
 
 // Bytes of the input's buffer, a whole number of records.
 const BUFFER: usize = 4096;
 
-// Whether there was a record, what was counted, and the tracker.
+// Whether a frequency that isn't 0 has come, the samples passed over before it, what was counted, and the tracker.
 pub struct Listener {
     pub started: bool,
+    pub passed: u64,
     pub samples: u64,
     pub frames: u64,
     pub messages: u64,
@@ -77,6 +78,7 @@ fn fresh() -> Listener
     let tracker = t.tracker;
     Listener {
         started: false,
+        passed: 0,
         samples: 0,
         frames: 0,
         messages: 0,

@@ -1,9 +1,9 @@
 // One record of `listen`: the tracker's calls, the receiver's, and the lines that they bring.
 ghost use mathlib.Core.Path.{_≡_};
 ghost use mathlib.Core.List.{List, _++_};
-ghost use Prim.Native.Nat.{ℕ, _+_, _≤_};
+ghost use Prim.Native.Nat.{ℕ, _+_, _^_, _≤_, _<_};
 ghost use lib.ListN.{length};
-ghost use Rattle.ledger.specs.Ledger.{byFrames, Ledger};
+ghost use Rattle.ledger.specs.Ledger.{byFrames, Ledger, pushRaw};
 ghost use Rattle.frequency.specs.Lent.{lists};
 ghost use Rattle.frequency.specs.Calls.{Beside};
 ghost use Rattle.listening_lines.specs.Text.{widest, Added};
@@ -11,8 +11,8 @@ ghost use Rattle.listening_tracker.specs.Turn.{readingPlaces, turn};
 ghost use Rattle.listening_receiver.specs.Hearing.{most};
 ghost use Rattle.listening_receiver.specs.Standing.{StandsFor, Standing};
 ghost use Rattle.listening.specs.Program as program;
-ghost use Rattle.listening.specs.Program.{turned, refusalText};
-ghost use Rattle.listening.specs.Hand.{outPlaces, begunAs, stateOf, Goes, Room, Steps};
+ghost use Rattle.listening.specs.Program.{received, turned, refusalText};
+ghost use Rattle.listening.specs.Hand.{outPlaces, begunAs, passedAs, stateOf, Goes, Room, Receives, Steps};
 use crate::Listener;
 use crate::Stepped;
 use frequency::FrequencyTracker;
@@ -28,7 +28,7 @@ pub const STEP_HZ: f64 = 122.0703125;
 // Samples of a record.
 const SAMPLES: u64 = 8;
 
-// The base frequency is the first record's.
+// The base frequency is that of the first record that isn't 0 (02, request 04).
 fn begin(l: Listener, now_hz: u32) -> Listener
     ensures { λ r. ⌜ r ≡ begunAs l «now_hz» ⌝ }
 {
@@ -39,6 +39,17 @@ fn begin(l: Listener, now_hz: u32) -> Listener
     let first = t.tracker;
     let mut m = l;
     m.tracker = first;
+    m
+}
+
+// A record before that feeds the receiver, and not the tracker.
+fn pass(l: Listener) -> Listener
+    requires { ⌜ Room most l ⌝ }
+    ensures { λ r. ⌜ r ≡ passedAs l ⌝ }
+{
+    let mut m = l;
+    m.passed = l.passed + SAMPLES;
+    m.samples = l.samples + SAMPLES;
     m
 }
 
@@ -54,7 +65,66 @@ fn add_refused(out: &mut [u8], at: usize, refused: u8) -> usize
     listening_lines::add_refusal(out, at, refused)
 }
 
-// One record, its fields read: nothing after a refusal but its line.
+// `push_raw` and its M lines behind a text, then the line of a refusal.
+fn receive(
+    l: Listener,
+    receiver: SigfoxReceiver,
+    end: usize,
+    raw: &[u8],
+    at: &[u64; 8000],
+    lo: &[u32; 8000],
+    hz: &[f64; 8000],
+    samples: &mut [f32; 12000],
+    events: &mut [u8; 30720],
+    scratch32: &mut [f32; 12000],
+    scratch64: &mut [f64; 8000],
+    out: &mut [u8],
+) -> Stepped
+    requires { ⌜ Standing receiver (now samples) ⌝ }
+    requires { ⌜ (end ≤ widest) × (outPlaces ≤ length (now out)) × (l .passed ≤ 2 ^ 53) × (l .frames + most < 2 ^ 64) × (l .messages + most < 2 ^ 64) ⌝ }
+    ensures { λ r. ⌜ ((g : Ledger byFrames) (tuned freq old text : List ℕ) → StandsFor receiver (now (samples .entry)) g → Added old 0 text end (now (out .entry))
+        → Goes (received (stateOf l (lists (now (at .entry)) (now (lo .entry)) (now (hz .entry)) tuned freq) g) text (pushRaw (now (raw .entry))))
+        old r (lists (now (at .entry)) (now (lo .entry)) (now (hz .entry)) tuned freq) (now (samples .exit)) (now (out .exit))) ⌝ }
+    ensures { λ r. ⌜ Receives l r (now (out .entry)) (now (out .exit)) ⌝ }
+{
+    let tracker = l.tracker;
+    let first = Told {
+        refused: 0,
+        frames: l.frames,
+        messages: l.messages,
+        end,
+    };
+    let h = listening_receiver::hear(
+        first,
+        receiver,
+        l.started,
+        l.passed,
+        tracker,
+        raw,
+        at,
+        lo,
+        hz,
+        samples,
+        events,
+        scratch32,
+        scratch64,
+        out,
+    );
+    let told = h.told;
+    let last = add_refused(out, told.end, told.refused);
+    let mut listener = l;
+    listener.frames = told.frames;
+    listener.messages = told.messages;
+    let after = h.receiver;
+    Stepped {
+        refused: told.refused,
+        end: last,
+        listener,
+        receiver: after,
+    }
+}
+
+// A record of the tracker and the receiver, its fields read: nothing after a refusal but its line.
 pub fn step(
     l: Listener,
     receiver: SigfoxReceiver,
@@ -97,13 +167,9 @@ pub fn step(
     let next = t.tracker;
     if t.refused != 0 {
         let end = listening_lines::add_refusal(out, 0, t.refused);
-        let listener = Listener {
-            started: true,
-            samples: l.samples,
-            frames: l.frames,
-            messages: l.messages,
-            tracker: next,
-        };
+        let mut listener = l;
+        listener.started = true;
+        listener.tracker = next;
         return Stepped {
             refused: t.refused,
             end,
@@ -112,16 +178,19 @@ pub fn step(
         };
     }
     let tune = t.tune;
-    let first = Told {
-        refused: 0,
+    let end = listening_lines::add_tune(out, 0, tune);
+    let listener = Listener {
+        started: true,
+        passed: l.passed,
+        samples: l.samples + SAMPLES,
         frames: l.frames,
         messages: l.messages,
-        end: listening_lines::add_tune(out, 0, tune),
+        tracker: next,
     };
-    let h = listening_receiver::hear(
-        first,
+    receive(
+        listener,
         receiver,
-        next,
+        end,
         raw,
         at,
         lo,
@@ -131,23 +200,7 @@ pub fn step(
         scratch32,
         scratch64,
         out,
-    );
-    let told = h.told;
-    let end = add_refused(out, told.end, told.refused);
-    let listener = Listener {
-        started: true,
-        samples: l.samples + SAMPLES,
-        frames: told.frames,
-        messages: told.messages,
-        tracker: next,
-    };
-    let after = h.receiver;
-    Stepped {
-        refused: told.refused,
-        end,
-        listener,
-        receiver: after,
-    }
+    )
 }
 
 // A record of 16 bytes: the text that it brings stands at the start of `out` then.
@@ -174,6 +227,23 @@ pub fn record_step(
     ensures { λ r. ⌜ Steps l r (now (at .exit)) (now (lo .exit)) (now (hz .exit)) (now (out .entry)) (now (out .exit)) ⌝ }
 {
     let now_hz = endian::get_u32(bytes, 10);
+    let waits = !l.started & (now_hz == 0);
+    if waits {
+        return receive(
+            pass(l),
+            receiver,
+            0,
+            &bytes[..8],
+            at,
+            lo,
+            hz,
+            samples,
+            events,
+            scratch32,
+            scratch64,
+            out,
+        );
+    }
     let cfo = endian::get_u16(bytes, 8);
     let mut dbm = [0.0f32; 8];
     receiver_samples::dbm_of_all(&bytes[..8], &mut dbm);

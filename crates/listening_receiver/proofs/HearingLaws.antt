@@ -1,6 +1,7 @@
 -- A call's answer told, by the ledger that the port stands for. Assumes nothing.
 use Prim.Native.Nat.{ℕ, zero, suc, _+_, _*_, _≤_}
 use mathlib.Core.Path.{_≡_, refl, sym, ap, _∙_}
+use mathlib.Core.Bool.{Bool}
 use mathlib.Core.List.{List, [], _∷_, _++_}
 use native.Mathlib.Omega.{arith}
 use lib.ListN.{length, drop, length-append, length-drop, length-replicate}
@@ -97,8 +98,8 @@ module _ (s : SigfoxReceiver) (q : Request) (typed : Typed q) (before after : Me
       omega (arith, n, k, e)
 
   -- and they are told
-  pub call-told : (t : FrequencyTracker) (at lo : List ℕ) (hz : List Float) (room : ℕ) (p : Emission) (old out′ : List ℕ) (start : ℕ) (u : Told) → room ≡ 8000
-      → Tells (heardBy (r .refused) (record { tracker = t; at = at; lo = lo; hz = hz; room = room }) p (records.recordsIn (r .count) (after .events))) old start u out′
-      → Tells (heard (record { tracker = t; at = at; lo = lo; hz = hz; room = 8000 }) p l (callOf q)) old start u out′
+  pub call-told : (on : Bool) (passed : ℕ) (t : FrequencyTracker) (at lo : List ℕ) (hz : List Float) (room : ℕ) (p : Emission) (old out′ : List ℕ) (start : ℕ) (u : Told) → room ≡ 8000
+      → Tells (heardBy (r .refused) (record { started = on; passed = passed; tracker = t; at = at; lo = lo; hz = hz; room = room }) p (records.recordsIn (r .count) (after .events))) old start u out′
+      → Tells (heard (record { started = on; passed = passed; tracker = t; at = at; lo = lo; hz = hz; room = 8000 }) p l (callOf q)) old start u out′
   unfolding heard
-  call-told t at lo hz room p old out′ start u z h = rw (z, refused-is, records-are) at h
+  call-told on passed t at lo hz room p old out′ start u z h = rw (z, refused-is, records-are) at h

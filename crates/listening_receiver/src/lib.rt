@@ -26,6 +26,8 @@ fn answer(
     t: Told,
     refused: u8,
     count: usize,
+    started: bool,
+    passed: u64,
     tracker: FrequencyTracker,
     events: &[u8],
     at: &[u64; 8000],
@@ -34,9 +36,9 @@ fn answer(
     scratch: &mut [f64],
     out: &mut [u8],
 ) -> Told
-    requires { ⌜ (count ≤ most) × (recordSize * count ≤ length (now events)) × (t .end + widest * most ≤ length (now out)) × (t .frames + most < 2 ^ 64) × (t .messages + most < 2 ^ 64) ⌝ }
+    requires { ⌜ (count ≤ most) × (recordSize * count ≤ length (now events)) × (t .end + widest * most ≤ length (now out)) × (t .frames + most < 2 ^ 64) × (t .messages + most < 2 ^ 64) × (passed ≤ 2 ^ 53) ⌝ }
     ensures { λ r. ⌜ ((old : List ℕ) (start : ℕ) (p : Emission) → Tells p old start t (now (out .entry))
-        → Tells (heardBy refused (record { tracker = tracker; at = now (at .entry); lo = now (lo .entry); hz = now (hz .entry); room = length (now (scratch .entry)) }) p (records.recordsIn count (now (events .entry)))) old start r (now (out .exit))) ⌝ }
+        → Tells (heardBy refused (record { started = started; passed = passed; tracker = tracker; at = now (at .entry); lo = now (lo .entry); hz = now (hz .entry); room = length (now (scratch .entry)) }) p (records.recordsIn count (now (events .entry)))) old start r (now (out .exit))) ⌝ }
     ensures { λ r. ⌜ Grown most t r (now (out .entry)) (now (out .exit)) ⌝ }
 {
     if refused != 0 {
@@ -47,13 +49,27 @@ fn answer(
             end: t.end,
         };
     }
-    listening_records::tell_all(t, tracker, count, events, at, lo, hz, scratch, out)
+    listening_records::tell_all(
+        t,
+        started,
+        passed,
+        tracker,
+        count,
+        events,
+        at,
+        lo,
+        hz,
+        scratch,
+        out,
+    )
 }
 
-// `push_raw`, and its records.
+// `push_raw`, and its records: what `frame1` is asked of goes with them (02, request 04: whether a frequency has come, the samples passed over).
 pub fn hear(
     t: Told,
     receiver: SigfoxReceiver,
+    started: bool,
+    passed: u64,
     tracker: FrequencyTracker,
     raw: &[u8],
     at: &[u64; 8000],
@@ -66,8 +82,8 @@ pub fn hear(
     out: &mut [u8],
 ) -> Heard
     requires { ⌜ Standing receiver (now samples) ⌝ }
-    requires { ⌜ (t .end + widest * most ≤ length (now out)) × (t .frames + most < 2 ^ 64) × (t .messages + most < 2 ^ 64) ⌝ }
-    ensures { λ r. ⌜ Hears (record { tracker = tracker; at = now (at .entry); lo = now (lo .entry); hz = now (hz .entry); room = 8000 })
+    requires { ⌜ (t .end + widest * most ≤ length (now out)) × (t .frames + most < 2 ^ 64) × (t .messages + most < 2 ^ 64) × (passed ≤ 2 ^ 53) ⌝ }
+    ensures { λ r. ⌜ Hears (record { started = started; passed = passed; tracker = tracker; at = now (at .entry); lo = now (lo .entry); hz = now (hz .entry); room = 8000 })
         receiver (pushRaw (now (raw .entry)))
         (record { samples = now (samples .entry); events = now (events .entry); scratch32 = now (scratch32 .entry); scratch64 = now (scratch64 .entry) })
         t (now (out .entry)) r (now (samples .exit)) (now (events .exit)) (now (out .exit)) ⌝ }
@@ -79,6 +95,8 @@ pub fn hear(
         t,
         r.refused,
         r.count,
+        started,
+        passed,
         tracker,
         events,
         at,
@@ -94,10 +112,12 @@ pub fn hear(
     }
 }
 
-// `flush`, and its records.
+// `flush`, and its records, likewise.
 pub fn close(
     t: Told,
     receiver: SigfoxReceiver,
+    started: bool,
+    passed: u64,
     tracker: FrequencyTracker,
     at: &[u64; 8000],
     lo: &[u32; 8000],
@@ -109,8 +129,8 @@ pub fn close(
     out: &mut [u8],
 ) -> Heard
     requires { ⌜ Standing receiver (now samples) ⌝ }
-    requires { ⌜ (t .end + widest * most ≤ length (now out)) × (t .frames + most < 2 ^ 64) × (t .messages + most < 2 ^ 64) ⌝ }
-    ensures { λ r. ⌜ Hears (record { tracker = tracker; at = now (at .entry); lo = now (lo .entry); hz = now (hz .entry); room = 8000 })
+    requires { ⌜ (t .end + widest * most ≤ length (now out)) × (t .frames + most < 2 ^ 64) × (t .messages + most < 2 ^ 64) × (passed ≤ 2 ^ 53) ⌝ }
+    ensures { λ r. ⌜ Hears (record { started = started; passed = passed; tracker = tracker; at = now (at .entry); lo = now (lo .entry); hz = now (hz .entry); room = 8000 })
         receiver flush
         (record { samples = now (samples .entry); events = now (events .entry); scratch32 = now (scratch32 .entry); scratch64 = now (scratch64 .entry) })
         t (now (out .entry)) r (now (samples .exit)) (now (events .exit)) (now (out .exit)) ⌝ }
@@ -122,6 +142,8 @@ pub fn close(
         t,
         r.refused,
         r.count,
+        started,
+        passed,
         tracker,
         events,
         at,

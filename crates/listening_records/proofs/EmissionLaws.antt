@@ -6,7 +6,8 @@ use mathlib.Core.List.{List, [], _∷_, _++_}
 use native.Mathlib.Omega.{arith}
 use borrow.Author.Tests.{eq-eqb, ne-eqb}
 use lib.Dec.{eqb}
-use lib.Ieee.{Float}
+use lib.Ieee.{Float, binary64, ofBits, ofInt, round}
+use Rattle.floats.specs.Number.{num}
 use Rattle.frequency.specs.declared.FrequencyTracker.{FrequencyTracker}
 use lib.ListN.{length, take, drop}
 use lib.Seq.{drop-drop}
@@ -16,7 +17,7 @@ use Rattle.record.specs.Record.{frameKind}
 use Rattle.record.specs.Readers.{kindOf}
 use Rattle.frequency.specs.declared.Frame1.{Frame1}
 use Rattle.frequency.specs.declared.Frame1.the-variants as first
-use Rattle.frequency.specs.Calls.{saidFirst}
+use Rattle.frequency.specs.Calls.{saidFirst, frame1Answer}
 use Rattle.frequency_measure.specs.declared.Frequency.{Frequency}
 use Rattle.frequency_measure.specs.declared.Frequency.the-variants.{Nothing, Hz}
 use Rattle.limits.specs.Answer.{Answer}
@@ -24,7 +25,7 @@ use Rattle.listening_lines.specs.Text.{Added}
 use Rattle.listening_lines.specs.Lines.{messageLine}
 use Rattle.listening_lines.proofs.TextLaws.{behind}
 use Rattle.listening_records.specs.declared.Told.{Told}
-use Rattle.listening_records.specs.Emission.{Emission, Asked, withFrame, withLine, withMessage, answerFor, emitted, emittedAll, Tells, Within, Grown}
+use Rattle.listening_records.specs.Emission.{Emission, Asked, earlier, spansIn, downlinkIn, withFrame, withLine, withMessage, answerFor, emitted, emittedAll, Tells, Within, Grown}
 
 pub line-told : (p : Emission) (old out out′ : List ℕ) (start r : ℕ) (t : Told) (e : List ℕ) (a : Frequency) → Added out (t .end) (messageLine e a) r out′ → Tells p old start t out
     → Tells (withLine e a p) old start (record { refused = 0; frames = t .frames; messages = t .messages + 1; end = r }) out′
@@ -42,6 +43,21 @@ unknown-line p e a q = rw (← q) refl
 pub hz-line : (p : Emission) (e : List ℕ) (f : ℕ) (a : Frame1) → first.Hz f ≡ a → withLine e (Hz f) p ≡ withMessage e (saidFirst a) p
 unfolding withMessage saidFirst
 hz-line p e f a q = rw (← q) refl
+
+-- 1,000 samples a second, as the code has it
+pub rate-is : ofBits binary64 0x408f_4000_0000_0000 ≡ num 1000
+unfolding ofBits ofInt round
+rate-is = refl
+
+-- while no frequency has come, and once one has
+pub not-started : (q : Asked) (e : List ℕ) → q .started ≡ false → saidFirst first.Unknown ≡ answerFor q e
+unfolding saidFirst answerFor
+not-started q e h = rw h refl
+
+pub answered : (q : Asked) (e : List ℕ) → q .started ≡ true
+    → frame1Answer (q .tracker) (q .at) (q .lo) (q .hz) (q .room) (spansIn (earlier (q .passed)) e) (downlinkIn e) ≡ answerFor q e
+unfolding answerFor
+answered q e h = rw h refl
 
 module _ (q : Asked) (p : Emission) (e : List ℕ) where
   pub emitted-stop : (p .refused ≡ 0 → ⊥) → p ≡ emitted q p e
@@ -89,13 +105,13 @@ unfolding emittedAll recordsIn
 none-told q p events = refl
 
 -- a turn of the loop over a call's records
-pub turn-told : (t : FrequencyTracker) (at lo : List ℕ) (hz : List Float) (room room′ : ℕ) (p : Emission) (old out out′ : List ℕ) (start i : ℕ) (events e : List ℕ) (m r : Told)
+pub turn-told : (started : Bool) (passed : ℕ) (t : FrequencyTracker) (at lo : List ℕ) (hz : List Float) (room room′ : ℕ) (p : Emission) (old out out′ : List ℕ) (start i : ℕ) (events e : List ℕ) (m r : Told)
     → room′ ≡ room → e ≡ take recordSize (drop (recordSize * i) events)
-    → Tells (emittedAll (record { tracker = t; at = at; lo = lo; hz = hz; room = room }) p (recordsIn i events)) old start m out
-    → ((u : Emission) → Tells u old start m out → Tells (emitted (record { tracker = t; at = at; lo = lo; hz = hz; room = room′ }) u e) old start r out′)
-    → Tells (emittedAll (record { tracker = t; at = at; lo = lo; hz = hz; room = room }) p (recordsIn (i + 1) events)) old start r out′
-turn-told t at lo hz room room′ p old out out′ start i events e m r x y h f =
-    let q : Asked = record { tracker = t; at = at; lo = lo; hz = hz; room = room } in
+    → Tells (emittedAll (record { started = started; passed = passed; tracker = t; at = at; lo = lo; hz = hz; room = room }) p (recordsIn i events)) old start m out
+    → ((u : Emission) → Tells u old start m out → Tells (emitted (record { started = started; passed = passed; tracker = t; at = at; lo = lo; hz = hz; room = room′ }) u e) old start r out′)
+    → Tells (emittedAll (record { started = started; passed = passed; tracker = t; at = at; lo = lo; hz = hz; room = room }) p (recordsIn (i + 1) events)) old start r out′
+turn-told started passed t at lo hz room room′ p old out out′ start i events e m r x y h f =
+    let q : Asked = record { started = started; passed = passed; tracker = t; at = at; lo = lo; hz = hz; room = room } in
     as-told (emitted-last q p (recordsIn i events) (take recordSize (drop (recordSize * i) events)) ∙ ap (emittedAll q p) (records-more i events)) (rw (x, y) at (f _ h))
 
 -- a record of the event buffer, as the code takes it

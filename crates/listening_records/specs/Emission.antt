@@ -5,13 +5,15 @@ use mathlib.Core.Bool.{Bool, cond}
 use mathlib.Core.List.{List, [], _∷_, _++_}
 use lib.Dec.{eqb}
 use lib.ListN.{length}
-use lib.Ieee.{Float}
+use lib.Ieee.{Float, binary64, sub, div}
+use Rattle.floats.specs.Number.{num}
 use Rattle.record.specs.declared.FrameSpan.{FrameSpan}
 use Rattle.record.specs.Record.{frameKind}
 use Rattle.record.specs.Readers.{kindOf, flagsOf, spanRankOf, spanTimeOf, spanEndOf}
 use Rattle.frequency.specs.declared.FrequencyTracker.{FrequencyTracker}
 use Rattle.limits.specs.Answer.{Answer, refused, accepted}
 use Rattle.frequency_measure.specs.declared.Frequency.{Frequency}
+use Rattle.frequency_measure.specs.declared.Frequency.the-variants.{Nothing}
 use Rattle.frequency.specs.Calls.{frame1Answer}
 use Rattle.listening_lines.specs.Text.{Added, widest}
 use Rattle.listening_lines.specs.Lines.{messageLine}
@@ -24,12 +26,16 @@ pub record Emission : Type 0 where
   pub messages : ℕ
   pub text : List ℕ
 
--- a message's spans and flag, read off its record
-abbrev pub spanIn : List ℕ → ℕ → FrameSpan
-spanIn e i = record { rank = spanRankOf e i; time = spanTimeOf e i; end = spanEndOf e i }
+-- 02, request 04: "earlier by the samples passed over/1000", in binary64
+abbrev pub earlier : ℕ → Float
+earlier passed = div binary64 (num passed) (num 1000)
 
-abbrev pub spansIn : List ℕ → List FrameSpan
-spansIn e = spanIn e 0 ∷ spanIn e 1 ∷ spanIn e 2 ∷ []
+-- a message's spans and flag, read off its record, its times earlier by that; the rank is as it is
+abbrev pub spanIn : Float → List ℕ → ℕ → FrameSpan
+spanIn by e i = record { rank = spanRankOf e i; time = sub binary64 (spanTimeOf e i) by; end = sub binary64 (spanEndOf e i) by }
+
+abbrev pub spansIn : Float → List ℕ → List FrameSpan
+spansIn by e = spanIn by e 0 ∷ spanIn by e 1 ∷ spanIn by e 2 ∷ []
 
 -- byte 2 includes the value 1
 abbrev pub downlinkIn : List ℕ → Bool
@@ -48,17 +54,20 @@ unfoldable pub withMessage : List ℕ → Answer Frequency → Emission → Emis
 withMessage e (refused n) p = record { refused = n; frames = p .frames; messages = p .messages; text = p .text }
 withMessage e (accepted hz) p = withLine e hz p
 
--- what `frame1` is asked of: the tracker with its readings, and the room of its scratch
+-- what `frame1` is asked of: whether a frequency has come, the samples passed over before the tracker's first record, the tracker with its readings, and the room of its scratch
 pub record Asked : Type 0 where
+  pub started : Bool
+  pub passed : ℕ
   pub tracker : FrequencyTracker
   pub at : List ℕ
   pub lo : List ℕ
   pub hz : List Float
   pub room : ℕ
 
--- the answer of `frame1` for a message
+-- the answer of `frame1` for a message; 02, request 04: "A message written while no frequency has come prints `-` for hz"
 unfoldable pub answerFor : Asked → List ℕ → Answer Frequency
-answerFor q e = frame1Answer (q .tracker) (q .at) (q .lo) (q .hz) (q .room) (spansIn e) (downlinkIn e)
+answerFor q e =
+    cond (q .started) (frame1Answer (q .tracker) (q .at) (q .lo) (q .hz) (q .room) (spansIn (earlier (q .passed)) e) (downlinkIn e)) (accepted Nothing)
 
 -- one record; nothing after a refusal
 unfoldable pub emitted : Asked → Emission → List ℕ → Emission

@@ -3,6 +3,7 @@ use Prim.Native.Nat.{ℕ, zero, suc, _≤_}
 use mathlib.Core.Path.{_≡_, refl, sym, _∙_}
 use mathlib.Core.List.{List, [], _∷_}
 use native.Mathlib.Omega.{arith}
+use borrow.Author.Tests.{eq-eqb, ne-eqb}
 use lib.ListN.{length}
 use lib.Ieee.{Float}
 use Rattle.frequency_measure.specs.declared.Frequency.{Frequency}
@@ -12,7 +13,7 @@ use Rattle.frequency.specs.Lent.{Lists, lists, tracker, packed, stored}
 use Rattle.frequency.specs.Order.{causeTuned, causeSamples, causeCfo, causeNext}
 use Rattle.frequency.specs.Tracker.{tuned, samples, cfo, nextTuning, afterTuning}
 use Rattle.frequency.specs.Calls.{Beside, TunedEnd, SamplesEnd, CfoEnd, NextEnd}
-use Rattle.listening_tracker.specs.Turn.{Turn, stop, on, unless, nextTurn, cfoTurn, samplesTurn, turn, Stops, Turned}
+use Rattle.listening_tracker.specs.Turn.{Turn, stop, on, unless, nextTurn, cfoTurn, samplesTurn, tunedTurn, turn, Stops, Turned}
 
 -- a call that was refused is the last
 pub at-stop : (k : ℕ) (s : FrequencyTracker) (l m : Lists) (t : Turn) (x : Next) → (k ≡ 0 → ⊥) → Stops k s x → m ≡ l → Turned (unless k s l t) x m
@@ -63,12 +64,21 @@ samples-on s dbm l m reg room r t x n e z h =
     past (causeSamples s l dbm) s l _ x n (sym (e .refusal) ∙ z) (rw (e .state z, e .lists z) at h)
 
 module _ (s : FrequencyTracker) (hz : ℕ) (dbm : List Float) (at lo : List ℕ) (hzs : List Float) (tun fre tun′ fre′ : List ℕ) (reg room r : ℕ) (t : FrequencyTracker) (x : Next) (e : TunedEnd s hz tun fre r t tun′ fre′) where
-  pub tuned-stop : (r ≡ 0 → ⊥) → Stops r s x → Turned (turn room hz dbm reg s (lists at lo hzs tun fre)) x (lists at lo hzs tun′ fre′)
-  unfolding turn
+  pub tuned-stop : (r ≡ 0 → ⊥) → Stops r s x → Turned (tunedTurn room hz dbm reg s (lists at lo hzs tun fre)) x (lists at lo hzs tun′ fre′)
+  unfolding tunedTurn
   tuned-stop h g =
       at-stop (causeTuned s tun fre hz) s (lists at lo hzs tun fre) _ _ x (λ (z : causeTuned s tun fre hz ≡ 0). h (e .refusal ∙ z)) (as-stop r _ s x (e .refusal) g)
       (rw (e .same-lent h .0, e .same-lent h .1) refl)
 
-  pub tuned-on : (n : Lists) → r ≡ 0 → Beside s at lo hzs → Turned (samplesTurn room dbm reg t (lists at lo hzs tun′ fre′)) x n → Turned (turn room hz dbm reg s (lists at lo hzs tun fre)) x n
-  unfolding turn
+  pub tuned-on : (n : Lists) → r ≡ 0 → Beside s at lo hzs → Turned (samplesTurn room dbm reg t (lists at lo hzs tun′ fre′)) x n → Turned (tunedTurn room hz dbm reg s (lists at lo hzs tun fre)) x n
+  unfolding tunedTurn
   tuned-on n z b h = past (causeTuned s tun fre hz) s (lists at lo hzs tun fre) _ x n (sym (e .refusal) ∙ z) (rw (e .state z at lo hzs b, e .lent z at lo hzs b) at h)
+
+-- a record whose receiver frequency is 0, and one whose isn't
+pub turn-of-0 : (room hz : ℕ) (dbm : List Float) (reg : ℕ) (s : FrequencyTracker) (l m : Lists) (x : Next) → hz ≡ 0 → Turned (samplesTurn room dbm reg s l) x m → Turned (turn room hz dbm reg s l) x m
+unfolding turn
+turn-of-0 room hz dbm reg s l m x z h = rw (eq-eqb hz 0 z) h
+
+pub turn-tuned : (room hz : ℕ) (dbm : List Float) (reg : ℕ) (s : FrequencyTracker) (l m : Lists) (x : Next) → (hz ≡ 0 → ⊥) → Turned (tunedTurn room hz dbm reg s l) x m → Turned (turn room hz dbm reg s l) x m
+unfolding turn
+turn-tuned room hz dbm reg s l m x z h = rw (ne-eqb hz 0 z) h

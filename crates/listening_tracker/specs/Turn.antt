@@ -1,7 +1,9 @@
 -- What one record of `listen` does to the tracker and its lists. 01: "Per record: `tuned`, `samples`, `cfo`, `next_tuning`", and on a refusal nothing more. Assumes nothing.
 use Prim.Native.Nat.{ℕ, zero, suc}
 use mathlib.Core.Path.{_≡_}
+use mathlib.Core.Bool.{cond}
 use mathlib.Core.List.{List, [], _∷_}
+use lib.Dec.{eqb}
 use lib.Ieee.{Float}
 use Rattle.frequency_measure.specs.declared.Frequency.{Frequency}
 use Rattle.frequency_measure.specs.declared.Frequency.the-variants.{Nothing}
@@ -40,9 +42,14 @@ unfolding cfoTurn
 samplesTurn room dbm reg s l = let u = samples (tracker s l) dbm in unless (causeSamples s l dbm) s l (cfoTurn room reg (packed u) (stored u l))
 
 -- `tuned` with the record's receiver frequency, and what follows
-unfoldable pub turn : ℕ → ℕ → List Float → ℕ → FrequencyTracker → Lists → Turn
+unfoldable pub tunedTurn : ℕ → ℕ → List Float → ℕ → FrequencyTracker → Lists → Turn
 unfolding samplesTurn
-turn room hz dbm reg s l = let u = tuned (tracker s l) hz in unless (causeTuned s (l .tuned) (l .freq) hz) s l (samplesTurn room dbm reg (packed u) (stored u l))
+tunedTurn room hz dbm reg s l = let u = tuned (tracker s l) hz in unless (causeTuned s (l .tuned) (l .freq) hz) s l (samplesTurn room dbm reg (packed u) (stored u l))
+
+-- a record of the tracker; 02, request 04: "A later 0 feeds both, but `tuned` isn't called for it"
+unfoldable pub turn : ℕ → ℕ → List Float → ℕ → FrequencyTracker → Lists → Turn
+unfolding samplesTurn tunedTurn
+turn room hz dbm reg s l = cond (eqb hz 0) (samplesTurn room dbm reg s l) (tunedTurn room hz dbm reg s l)
 
 -- an answer that is a refusal: its number, the tracker as it was, and nowhere to tune
 abbrev pub Stops : ℕ → FrequencyTracker → Next → Type 0

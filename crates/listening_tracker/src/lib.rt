@@ -65,7 +65,7 @@ fn hear(
     read(next, cfo, at, lo, hz, tuned, freq, scratch)
 }
 
-// The tracker's calls for one record: `tuned`, `samples`, `cfo`, `next_tuning`; nothing after a refusal.
+// The tracker's calls for one record: `tuned`, `samples`, `cfo`, `next_tuning`; nothing after a refusal. `tuned` isn't called with 0 (02, request 04).
 pub fn track(
     t: FrequencyTracker,
     now_hz: u32,
@@ -82,6 +82,9 @@ pub fn track(
     ensures { λ r. ⌜ Turned (turn readingPlaces «now_hz» (now (dbm .entry)) cfo t (lists (now (at .entry)) (now (lo .entry)) (now (hz .entry)) (now (tuned .entry)) (now (freq .entry))))
         r (lists (now (at .exit)) (now (lo .exit)) (now (hz .exit)) (now (tuned .exit)) (now (freq .exit))) ⌝ }
 {
+    if now_hz == 0 {
+        return hear(t, dbm, cfo, at, lo, hz, tuned, freq, scratch);
+    }
     let a = t.tuned(now_hz, tuned, freq);
     if a.refused != 0 {
         return refused(t, a.refused);

@@ -2,7 +2,7 @@
 
 use super::{Row, programs};
 use crate::generate::load::records;
-use crate::listener::{Listener, RECORD, freq};
+use crate::listener::{Listener, RECORD};
 
 const SECONDS: usize = 600;
 
@@ -14,7 +14,7 @@ pub fn row() -> Result<Row, String> {
 
 fn lines(stream: &[u8]) -> String {
     let (records, rest) = stream.as_chunks::<RECORD>();
-    let mut listener = Listener::new(freq(&records[0]));
+    let mut listener = Listener::default();
     let heard: String = records.iter().map(|record| listener.hear(record)).collect();
     heard + &listener.end(rest.len())
 }

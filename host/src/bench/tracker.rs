@@ -35,11 +35,12 @@ fn row(all: bool, known: bool, calls: &str, stream: Vec<u8>) -> Result<Row, Stri
 /// What the tracker asks for, and how much it holds at the end.
 fn lines(stream: &[u8], all: bool) -> String {
     let (records, _) = stream.as_chunks::<RECORD>();
-    let mut tracker = FrequencyTracker::new(RATE, freq(&records[0]), STEP_HZ);
+    let base = freq(&records[0]).expect("every record has a frequency");
+    let mut tracker = FrequencyTracker::new(RATE, base, STEP_HZ);
     let mut out = String::new();
     for r in records {
-        if all {
-            tracker.tuned(freq(r));
+        if all && let Some(hz) = freq(r) {
+            tracker.tuned(hz);
         }
         tracker.samples(&levels(r));
         tracker.cfo(&[cfo(r)]);

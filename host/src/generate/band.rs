@@ -30,17 +30,24 @@ impl Emission {
 pub struct Band {
     pub air: Air,
     pub emissions: Vec<Emission>,
+    /// Hz by which a frame rises from sample to sample, about its middle: then the median tells which readings are in it
+    pub drift: f64,
     step: f64,
 }
 
 impl Band {
-    pub fn random(rng: &mut Rng, rate: u32, samples: usize, base: u32, step: f64) -> Self {
-        let air = Air::quiet(rate, samples, rng.real(-125.0, -105.0).floor());
-        let mut band = Self {
-            air,
+    /// Nothing is sent yet.
+    pub fn quiet(rate: u32, samples: usize, level: f64, step: f64) -> Self {
+        Self {
+            air: Air::quiet(rate, samples, level),
             emissions: vec![],
+            drift: 0.0,
             step,
-        };
+        }
+    }
+
+    pub fn random(rng: &mut Rng, rate: u32, samples: usize, base: u32, step: f64) -> Self {
+        let mut band = Self::quiet(rate, samples, rng.real(-125.0, -105.0).floor(), step);
         let mut at = rng.range(rate as usize / 2, 3 * rate as usize);
         while at < samples {
             at = band.message(rng, at, base) + rng.range(rate as usize, 15 * rate as usize);
@@ -64,16 +71,29 @@ impl Band {
         };
         let shape = Shape::random(rng, rng_level(&self.air), self.air.rate);
         for (rank, hz) in [first, first + delta, first - delta].into_iter().enumerate() {
-            let envelope = shape.envelope(&uplink.bits(rank, 18), self.air.rate);
-            let to = at + envelope.len();
-            if rng.chance(0.9) {
-                self.air.send(at, &envelope);
-                let from = at;
-                self.emissions.push(Emission { from, to, rank, hz });
-            }
-            at = to + (FRAME_GAP_S * f64::from(self.air.rate)) as usize;
+            let sent = rng.chance(0.9);
+            at = self.frame(at, &uplink, rank, &shape, sent.then_some(hz));
         }
         at
+    }
+
+    /// One repetition from a sample on, or the time that it would take; gives the sample at which the next one starts.
+    fn frame(&mut self, from: usize, uplink: &Uplink, rank: usize, shape: &Shape, sent: Option<f64>) -> usize {
+        let envelope = shape.envelope(&uplink.bits(rank, 18), self.air.rate);
+        let to = from + envelope.len();
+        if let Some(hz) = sent {
+            self.air.send(from, &envelope);
+            self.emissions.push(Emission { from, to, rank, hz });
+        }
+        to + (FRAME_GAP_S * f64::from(self.air.rate)) as usize
+    }
+
+    /// The named repetitions of a message from a sample on, the first at a frequency, none of them lost.
+    pub fn send(&mut self, mut at: usize, uplink: &Uplink, ranks: &[usize], first: f64) {
+        let shape = Shape::clean(rng_level(&self.air));
+        for (rank, hz) in [first, first + DELTA_HZ, first - DELTA_HZ].into_iter().enumerate() {
+            at = self.frame(at, uplink, rank, &shape, ranks.contains(&rank).then_some(hz));
+        }
     }
 
     /// What the register reads at a sample, tuned to `lo`: noise where nothing is sent.
@@ -82,7 +102,8 @@ impl Band {
             return rng.next() as u16 & 0xfff;
         };
         let shake = rng.real(-1.0, 1.0);
-        let steps = (e.hz - f64::from(lo)) * CFO_SCALE / self.step + shake;
+        let hz = e.hz + self.drift * (at as f64 - (e.from + e.to) as f64 / 2.0);
+        let steps = (hz - f64::from(lo)) * CFO_SCALE / self.step + shake;
         let high_bits = if rng.chance(0.1) { 0xf000 } else { 0 };
         (steps.round().clamp(-2048.0, 2047.0) as i32 as u16 & 0xfff) | high_bits
     }
@@ -96,16 +117,20 @@ fn rng_level(air: &Air) -> f64 {
 /// A receiver that obeys the tracker, some lines later.
 pub struct Receiver {
     pub lo: u32,
-    tracker: Tracker,
+    rate: u32,
+    step: f64,
+    /// None until a frequency was reported
+    tracker: Option<Tracker>,
     asked: Option<(usize, u32)>,
 }
 
 impl Receiver {
     pub fn new(rate: u32, base: u32, step: f64) -> Self {
-        let tracker = Tracker::new(rate, base, step).expect("a rate and a step in 01's ranges");
         Self {
             lo: base,
-            tracker,
+            rate,
+            step,
+            tracker: None,
             asked: None,
         }
     }
@@ -122,15 +147,18 @@ impl Receiver {
         }
     }
 
-    /// A line went by: the tracker may ask for another frequency.
-    pub fn hear(&mut self, rng: &mut Rng, dbm: &[f32], cfo: &[u16]) {
-        let done = self
-            .tracker
-            .tuned(self.lo)
-            .and(self.tracker.samples(dbm))
-            .and(self.tracker.cfo(cfo));
+    /// A line went by, which reports the frequency or doesn't: the tracker may ask for another one. It begins with the first
+    /// line that does, and without one nothing is tuned.
+    pub fn hear(&mut self, rng: &mut Rng, reports: bool, dbm: &[f32], cfo: &[u16]) {
+        if reports && self.tracker.is_none() {
+            let tracker = Tracker::new(self.rate, self.lo, self.step);
+            self.tracker = Some(tracker.expect("a rate and a step in 01's ranges"));
+        }
+        let Some(tracker) = &mut self.tracker else { return };
+        let tuned = if reports { tracker.tuned(self.lo) } else { Ok(()) };
+        let done = tuned.and(tracker.samples(dbm)).and(tracker.cfo(cfo));
         if done.is_ok()
-            && let Some(hz) = self.tracker.inner.next_tuning()
+            && let Some(hz) = tracker.inner.next_tuning()
         {
             self.asked = Some((rng.range(0, 20), hz));
         }

@@ -44,7 +44,7 @@ pub struct Format {
     pub name: &'static str,
     /// A case is a whole run, since it starts with a header
     pub stream: bool,
-    /// How many rows there are, where a case's first byte names one
+    /// How many rows there are, where cases have one (`Format::row`)
     pub rows: u8,
     pub directed: fn() -> Vec<Case>,
     pub random: fn(&mut Rng) -> Case,
@@ -160,7 +160,7 @@ pub const FORMATS: &[Format] = &[
     Format {
         name: "listen",
         stream: true,
-        rows: 0,
+        rows: listen::ROWS,
         directed: listen::directed,
         random: listen::random,
         runs: Some(listen::runs),
@@ -209,9 +209,18 @@ impl Format {
         self.choose(seed, count, None).collect()
     }
 
+    /// A case's row: its first byte; of `listen` whether a record is without a frequency.
+    fn row(&self, case: &Case) -> u8 {
+        if self.name == "listen" {
+            listen::row(case)
+        } else {
+            case.bytes[0]
+        }
+    }
+
     /// The same of one row alone, where there is one to choose.
     pub fn choose(&self, seed: u64, count: usize, row: Option<u8>) -> impl Iterator<Item = Case> {
-        let wanted = move |case: &Case| row.is_none_or(|row| case.bytes[0] == row);
+        let wanted = move |case: &Case| row.is_none_or(|row| self.row(case) == row);
         let random = self.random;
         let name = self.name;
         let random = (0..).map(move |index| random(&mut Rng::of_case(name, seed, index)));

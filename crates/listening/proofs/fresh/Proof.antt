@@ -16,7 +16,7 @@ new-requires c κs = search needs
 
 -- src/lib.rt:73:1
 returns : tie.Need-returns
-returns c = ap (λ (t : FrequencyTracker). let l : Listener = record { started = false; samples = 0; frames = 0; messages = 0; tracker = t } in l) (c .before .new .ensures .1)
+returns c = ap (λ (t : FrequencyTracker). let l : Listener = record { started = false; passed = 0; samples = 0; frames = 0; messages = 0; tracker = t } in l) (c .before .new .ensures .1)
 
 pub fresh-spec : {M : Type 1} → statement M
 fresh-spec = tie.close (tie.spec new-requires returns)

@@ -20,7 +20,7 @@ use Rattle.receiver.proofs.SigfoxReceiver.new.Reads as new-reads
 
 abbrev Inv-loop : tie.InvT-loop
 Inv-loop input₀ at₀ lo₀ hz₀ tuned₀ freq₀ samples₀ events₀ scratch32₀ scratch64₀ out₀ s₀ left₀ input at lo hz tuned freq samples events scratch32 scratch64 out s left =
-    Staged input s (lists at lo hz tuned freq) samples × Near (65536 * (4398046511104 - left)) newListener (s .listener) × (left ≤ 4398046511104) × (length input ≡ 4096) × (length out ≡ 33024)
+    Staged input s (lists at lo hz tuned freq) samples × Near (65536 * (4398046511103 - left)) newListener (s .listener) × (left ≤ 4398046511103) × (length input ≡ 4096) × (length out ≡ 33024)
 
 abbrev μ-loop : tie.MeasureT-loop
 μ-loop input₀ at₀ lo₀ hz₀ tuned₀ freq₀ samples₀ events₀ scratch32₀ scratch64₀ out₀ s₀ left₀ input at lo hz tuned freq samples events scratch32 scratch64 out s left =

@@ -42,7 +42,7 @@ answer-requires c κs =
     let y = calm _ _ _ _ _ _ _ (c .before .before .before .before .before .before .before .before .before .before .none .ensures) refl (x .ensures) in
     let k : length (x .last .1 .1 .1 .1 .0) ≡ 30720 = search needs in
     let n : x .result .count ≤ 256 = at-most _ (askFlush) tt _ _ _ y e f g _ (s .pre .0 .stands) k in
-    (n, omega (arith, n, k), s .pre .1 .0, s .pre .1 .1, s .pre .1 .2)
+    (n, omega (arith, n, k), s .pre .1 .0, s .pre .1 .1, s .pre .1 .2, s .pre .1 .3)
 
 -- src/lib.rt:96:1
 same-length : tie.Need-same-length
@@ -62,7 +62,7 @@ returns c =
     record {
       told =
           λ (l : Ledger byFrames) (st : StandsFor (s .args .receiver) (s .args .samples .now) l) (old : List ℕ) (start : ℕ) (p : Emission) (h : Tells p old start (s .args .t) (s .args .out .now)).
-          call-told _ (askFlush) tt _ _ _ y e f g l st _ _ _ _ _ p old _ start _ (omega (arith, g, x .kept .1 .1 .1 .1 .1 .1 .0)) (a .ensures .0 old start p h);
+          call-told _ (askFlush) tt _ _ _ y e f g l st _ _ _ _ _ _ _ p old _ start _ (omega (arith, g, x .kept .1 .1 .1 .1 .1 .1 .0)) (a .ensures .0 old start p h);
       stands = λ (l : Ledger byFrames) (st : StandsFor (s .args .receiver) (s .args .samples .now) l). stands-after _ (askFlush) tt _ _ _ y e f g l st;
       receiver = y .state;
       samples = y .samples;

@@ -20,7 +20,7 @@ use Rattle.listening_records.proofs.tell_message.Reads as tell-message-
 returns : tie.Need-returns
 returns c =
     let s = c .before .before .before .before .before .args in (
-      (λ (old : List ℕ) (start : ℕ) (p : Emission) (h : Tells p old start (s .t) (s .out .now)). as-told (emitted-stop (record { tracker = s .tracker; at = s .at .now; lo = s .lo .now; hz = s .hz .now; room = length (s .scratch .now) }) p (s .event .now) (omega (arith, h .refused))) h),
+      (λ (old : List ℕ) (start : ℕ) (p : Emission) (h : Tells p old start (s .t) (s .out .now)). as-told (emitted-stop (record { started = s .started; passed = s .passed; tracker = s .tracker; at = s .at .now; lo = s .lo .now; hz = s .hz .now; room = length (s .scratch .now) }) p (s .event .now) (omega (arith, h .refused))) h),
       record { end = omega arith; frames = omega arith; messages = omega arith; room = refl },
     )
 
@@ -37,7 +37,7 @@ returns-2 : tie.Need-returns-2
 returns-2 c =
     let s = c .before .before .before .before .before .before .before .before .args in (
       (λ (old : List ℕ) (start : ℕ) (p : Emission) (h : Tells p old start (s .t) (s .out .now)).
-          as-told (emitted-frame (record { tracker = s .tracker; at = s .at .now; lo = s .lo .now; hz = s .hz .now; room = length (s .scratch .now) }) p (s .event .now) (omega (arith, h .refused)) (omega (arith, c .before .before .kind-of .ensures))) (frame-told p old _ start (s .t) (omega arith) h)),
+          as-told (emitted-frame (record { started = s .started; passed = s .passed; tracker = s .tracker; at = s .at .now; lo = s .lo .now; hz = s .hz .now; room = length (s .scratch .now) }) p (s .event .now) (omega (arith, h .refused)) (omega (arith, c .before .before .kind-of .ensures))) (frame-told p old _ start (s .t) (omega arith) h)),
       record { end = omega arith; frames = omega arith; messages = omega arith; room = refl },
     )
 
@@ -65,7 +65,7 @@ returns-3 c =
     let kind = asked .before .before .before in
     let s = kind .before .before .before .before .before .before .args in (
       (λ (old : List ℕ) (start : ℕ) (p : Emission) (h : Tells p old start (s .t) (s .out .now)).
-          as-told (emitted-message (record { tracker = s .tracker; at = s .at .now; lo = s .lo .now; hz = s .hz .now; room = length (s .scratch .now) }) p (s .event .now) (saidFirst (asked .answer-for .result)) (omega (arith, h .refused)) (omega (arith, kind .kind-of .ensures)) (asked .answer-for .ensures)) (told .0 old start p h)),
+          as-told (emitted-message (record { started = s .started; passed = s .passed; tracker = s .tracker; at = s .at .now; lo = s .lo .now; hz = s .hz .now; room = length (s .scratch .now) }) p (s .event .now) (saidFirst (asked .answer-for .result)) (omega (arith, h .refused)) (omega (arith, kind .kind-of .ensures)) (asked .answer-for .ensures)) (told .0 old start p h)),
       told .1,
     )
 

@@ -15,15 +15,15 @@ use Rattle.listening_records.proofs.tell_all.Lts as lts
 use Rattle.listening_records.proofs.tell.Reads as tell-reads
 
 abbrev Inv-loop : tie.InvT-loop
-Inv-loop tracker count events at lo hz scratch₀ out₀ m₀ i₀ scratch out m i =
+Inv-loop started passed tracker count events at lo hz scratch₀ out₀ m₀ i₀ scratch out m i =
     (i ≤ count)
     × (length scratch ≡ length scratch₀)
     × Grown i m₀ m out₀ out
     × ((old : List ℕ) (start : ℕ) (p : Emission) → Tells p old start m₀ out₀
-    → Tells (emittedAll (record { tracker = tracker; at = at; lo = lo; hz = hz; room = length scratch₀ }) p (recordsIn i events)) old start m out)
+    → Tells (emittedAll (record { started = started; passed = passed; tracker = tracker; at = at; lo = lo; hz = hz; room = length scratch₀ }) p (recordsIn i events)) old start m out)
 
 abbrev μ-loop : tie.MeasureT-loop
-μ-loop tracker count events at lo hz scratch₀ out₀ m₀ i₀ scratch out m i = count - i
+μ-loop started passed tracker count events at lo hz scratch₀ out₀ m₀ i₀ scratch out m i = count - i
 
 -- src/lib.rt:147:5
 loop-holds : tie.Need-loop-holds Inv-loop μ-loop
@@ -77,7 +77,7 @@ loop-again c =
       search needs,
       grown-more (l .i) _ _ _ _ _ _ (l .inv .2) (x .ensures .1),
       (λ (old : List ℕ) (start : ℕ) (p : Emission) (h : Tells p old start (s .t) (s .out .now)).
-          turn-told (s .tracker) (s .at .now) (s .lo .now) (s .hz .now) (length (s .scratch .now)) (length (l .scratch)) p old (l .out) _ start (l .i) (s .events .now) _ (l .m) (x .result)
+          turn-told (s .started) (s .passed) (s .tracker) (s .at .now) (s .lo .now) (s .hz .now) (length (s .scratch .now)) (length (l .scratch)) p old (l .out) _ start (l .i) (s .events .now) _ (l .m) (x .result)
           (l .inv .1) (record-part (l .i) (s .events .now)) (l .inv .3 old start p h) (λ (u : Emission) (g : Tells u old start (l .m) (l .out)). x .ensures .0 old start u g)),
     )
 

@@ -105,7 +105,7 @@ fn followed(rng: &mut Rng, rate: u32) -> Calls {
             .map(|k| band.register(rng, at + 8 * k, receiver.lo))
             .collect();
         calls = calls.tuned(receiver.lo).samples(samples).cfo(&cfo).next();
-        receiver.hear(rng, samples, &cfo);
+        receiver.hear(rng, true, samples, &cfo);
         at += samples.len();
         for e in band.emissions.iter().filter(|e| (at - line..at).contains(&e.to)) {
             let (time, end) = e.span(rate);

@@ -21,7 +21,7 @@ use Rattle.listening_receiver.proofs.close.Reads as close-reads
 close-requires : tie.Need-close-requires
 close-requires c κs =
     let p = c .before .before .before .before .before .before .before .pre in
-    (p .0, (omega (arith, p .1 .1), p .1 .0 .frames, p .1 .0 .messages))
+    (p .0, (omega (arith, p .1 .1), p .1 .0 .frames, p .1 .0 .messages, omega (arith, p .1 .0 .passed)))
 
 -- src/ending.rt:77:5
 add-last-requires : tie.Need-add-last-requires
