@@ -73,14 +73,14 @@ fn form_of(text: &[u8]) -> Form {
 }
 
 // The rate that the first argument names, 0 where it is none.
-pub fn rate() -> u32 {
+pub fn given_rate() -> u32 {
     let mut text = [0u8; 64];
     let n = os::arg(1, &mut text);
     number_of(&text[..n])
 }
 
 // The form that the second argument names.
-pub fn form() -> Form {
+pub fn given_form() -> Form {
     let mut text = [0u8; 64];
     let n = os::arg(2, &mut text);
     form_of(&text[..n])

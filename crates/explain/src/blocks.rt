@@ -128,14 +128,12 @@ fn are_bits_found(bits: BurstBits) -> bool {
     }
 }
 
-// How many bits were handed over.
-fn bits_handed(bits: BurstBits) -> usize
-    ensures { λ r. ⌜ r ≤ 1024 ⌝ }
-{
+// How many bits there are; the first 1,024 are handed over.
+fn bits_handed(bits: BurstBits) -> usize {
     match bits {
         BurstBits::Refused(_) => 0,
         BurstBits::Nothing => 0,
-        BurstBits::Bits(count, _, _, _, _, _) => dips::least(count, 1024),
+        BurstBits::Bits(count, _, _, _, _, _) => count,
     }
 }
 
@@ -231,6 +229,45 @@ fn explain_frame(t: Tally, scan: Scan, b: Burst, near: Near, x: BurstFrame, how:
     }
 }
 
+fn least(a: usize, b: usize) -> usize
+    ensures { λ r. ⌜ (r ≤ a) × (r ≤ b) ⌝ }
+{
+    if a < b { a } else { b }
+}
+
+fn print_type_of(bits: bool, kind: TypeFound) {
+    if bits {
+        print_type(kind);
+    }
+}
+
+// A burst with its bits.
+fn explain_bits(
+    seg: &[f32],
+    t: Tally,
+    scan: Scan,
+    b: Burst,
+    from: f64,
+    x: BurstFrame,
+    found: BurstBits,
+    bits: &[u8],
+    scratch: &mut [f64],
+) -> Tally {
+    let n = least(bits_handed(found), bits.len());
+    let kind = type_of(&bits[..n]);
+    let known = are_bits_found(found);
+    let outcome = x.outcome;
+    let right = x.decoded.frame.crc_ok;
+    let how = ending_of(known, is_type(kind), is_frame(outcome), right);
+    let u = crate::tally::ended(t, how);
+    print_head(u.bursts, scan.rate, scan.base, b, how);
+    let near = explain_dips(seg, scan.rate, from, scratch);
+    print_clock(found);
+    print_bits(bits, n);
+    print_type_of(known, kind);
+    explain_frame(u, scan, b, near, x, how)
+}
+
 // A burst whose samples are looked at, as the receiver did when it took it.
 fn explain_segment(
     seg: &[f32],
@@ -244,25 +281,7 @@ fn explain_segment(
 ) -> Tally {
     let mut bits = [0u8; 1024];
     let found = clock::burst_bits(seg, scan.rate, &mut bits, scratch32, scratch64);
-    let n = bits_handed(found);
-    let kind = type_of(&bits[..n]);
-    let outcome = x.outcome;
-    let right = x.decoded.frame.crc_ok;
-    let how = ending_of(
-        are_bits_found(found),
-        is_type(kind),
-        is_frame(outcome),
-        right,
-    );
-    let u = crate::tally::ended(t, how);
-    print_head(u.bursts, scan.rate, scan.base, b, how);
-    let near = explain_dips(seg, scan.rate, from, scratch64);
-    print_clock(found);
-    print_bits(&bits, n);
-    if are_bits_found(found) {
-        print_type(kind);
-    }
-    explain_frame(u, scan, b, near, x, how)
+    explain_bits(seg, t, scan, b, from, x, found, &bits, scratch64)
 }
 
 // A burst that the receiver took.

@@ -91,7 +91,7 @@ fn step(w: Walk, at: f64, d: f64, depth: f64) -> Walk {
 }
 
 // All n dips of a segment that starts at a time, in seconds.
-fn walk(dips: &[f64], n: usize, rate: u32, from: f64, start: Clock) -> Near
+fn go_through(dips: &[f64], n: usize, rate: u32, from: f64, start: Clock) -> Near
     requires { ⌜ (n ≤ 3000) × (6000 ≤ length (now dips)) ⌝ }
 {
     let near = crate::tally::far();
@@ -142,7 +142,7 @@ fn print_found(dips: &[f64], n: usize, rate: u32, from: f64) -> Near
     replay::print_end();
     let nominal = clock::nominal_of(rate);
     let start = clock::start_clock(nominal, clock::anchor_of(dips, n, nominal));
-    walk(dips, n, rate, from, start)
+    go_through(dips, n, rate, from, start)
 }
 
 // The dips of a segment that starts at a time, as the clock takes them; the smallest margins of those that are accepted.

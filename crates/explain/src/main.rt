@@ -28,7 +28,7 @@ const CALL: usize = 8;
 const MOST_READS: u64 = 0x400_0000_0000;
 
 // Between two calls: the receiver, what was counted, and whether there may be more.
-struct Run {
+struct Course {
     receiver: SigfoxReceiver,
     tally: Tally,
     more: bool,
@@ -129,12 +129,12 @@ fn look(
     after: SigfoxReceiver,
     wait: usize,
     t: Tally,
-    samples: &[f32; 48000],
-    scratch32: &mut [f32; 48000],
-    scratch64: &mut [f64; limits::SCRATCH64],
+    samples: &[f32],
+    scratch32: &mut [f32],
+    scratch64: &mut [f64],
 ) -> Tally {
     let held = after.held;
-    if 48000 < held {
+    if samples.len() < held {
         return t;
     }
     let starts = before.starts;
@@ -156,19 +156,26 @@ fn look(
     scans::explain_scan(&samples[..held], t, scan, r, scratch32, scratch64)
 }
 
-// One call, and what it did.
+// One call with the first n samples, and what it did.
 fn hear(
-    s: Run,
+    s: Course,
     dbm: &[f32],
+    n: usize,
     samples: &mut [f32; 48000],
     events: &mut [u8; 30720],
     scratch32: &mut [f32; 48000],
     scratch64: &mut [f64; limits::SCRATCH64],
-) -> Run {
+) -> Course {
     let before = s.receiver;
     let closed = [0u32; 0];
+    let mut stopped = s;
+    stopped.more = false;
+    if dbm.len() < n {
+        return stopped;
+    }
+    let first: usize = 0;
     let r = before.push(
-        dbm,
+        &dbm[first..n],
         Shifts::none(),
         &closed,
         samples,
@@ -178,8 +185,6 @@ fn hear(
     );
     if r.refused != 0 {
         print_refusal(r.refused);
-        let mut stopped = s;
-        stopped.more = false;
         return stopped;
     }
     let after = r.receiver;
@@ -198,16 +203,29 @@ fn hear(
     }
     let waiting = before.waiting;
     messages::print_messages(events, r.count, waiting, time_of(after), false);
-    Run {
+    Course {
         receiver: after,
         tally: t,
         more: s.more,
     }
 }
 
+// The same with an array, whose length its type says.
+fn hear_block(
+    s: Course,
+    dbm: &[f32; 8],
+    n: usize,
+    samples: &mut [f32; 48000],
+    events: &mut [u8; 30720],
+    scratch32: &mut [f32; 48000],
+    scratch64: &mut [f64; limits::SCRATCH64],
+) -> Course {
+    hear(s, dbm, n, samples, events, scratch32, scratch64)
+}
+
 // The last call, and what it did.
 fn finish(
-    s: Run,
+    s: Course,
     samples: &mut [f32; 48000],
     events: &mut [u8; 30720],
     scratch32: &mut [f32; 48000],
@@ -235,19 +253,26 @@ fn finish(
     tally::print(u);
 }
 
+// The next n bytes of standard input, at the front of a block.
+fn fetch(block: &mut [u8], n: usize) -> Fetched
+    requires { ⌜ n ≤ length (now block) ⌝ }
+{
+    reading::fill(&mut block[..n])
+}
+
 // One block of the recording; the last one may be short.
 fn turn(
-    s: Run,
+    s: Course,
     form: Form,
     samples: &mut [f32; 48000],
     events: &mut [u8; 30720],
     scratch32: &mut [f32; 48000],
     scratch64: &mut [f64; limits::SCRATCH64],
-) -> Run {
+) -> Course {
     let mut block = [0u8; 32];
     let mut dbm = [0.0f32; 8];
     let size = size_of(form);
-    let fetched = reading::fill(&mut block[..size]);
+    let fetched = fetch(&mut block, size);
     let mut stopped = s;
     stopped.more = false;
     let Fetched::Bytes(n) = fetched else {
@@ -261,7 +286,7 @@ fn turn(
     put_samples(form, &block, count, &mut dbm);
     let mut next = s;
     next.more = count == CALL;
-    hear(next, &dbm[..count], samples, events, scratch32, scratch64)
+    hear_block(next, &dbm, count, samples, events, scratch32, scratch64)
 }
 
 // The whole recording.
@@ -272,7 +297,7 @@ fn run(rate: u32, form: Form) {
     let mut scratch64 = [0.0f64; limits::SCRATCH64];
     let receiver = SigfoxReceiver::new(rate);
     let tally = tally::new();
-    let mut s = Run {
+    let mut s = Course {
         receiver,
         tally,
         more: true,
@@ -300,8 +325,8 @@ fn is_known(form: Form) -> bool {
 }
 
 fn main() {
-    let rate = arguments::rate();
-    let form = arguments::form();
+    let rate = arguments::given_rate();
+    let form = arguments::given_form();
     if !limits::rate_ok(rate) {
         print_usage();
         return;

@@ -90,19 +90,27 @@ fn print_message(r: &[u8], waiting: Waiting, time: f64, ended: bool)
     print_reason(mask, ended, time, last_of(waiting, device, counter));
 }
 
-fn print_one(events: &[u8; 30720], i: usize, waiting: Waiting, time: f64, ended: bool)
-    requires { ⌜ i ≤ 255 ⌝ }
+fn print_record(r: &[u8], waiting: Waiting, time: f64, ended: bool)
+    requires { ⌜ 120 ≤ length (now r) ⌝ }
 {
-    let at = limits::RECORD * i;
-    let to = at + limits::RECORD;
-    let r = &events[at..to];
     if record::read::kind_of(r) == record::MESSAGE {
         print_message(r, waiting, time, ended);
     }
 }
 
+fn print_one(events: &[u8], i: usize, waiting: Waiting, time: f64, ended: bool)
+    requires { ⌜ i ≤ 255 ⌝ }
+{
+    let at = limits::RECORD * i;
+    let to = at + limits::RECORD;
+    if events.len() < to {
+        return;
+    }
+    print_record(&events[at..to], waiting, time, ended);
+}
+
 // Those among the first n records.
-pub fn print_messages(events: &[u8; 30720], n: usize, waiting: Waiting, time: f64, ended: bool) {
+pub fn print_messages(events: &[u8], n: usize, waiting: Waiting, time: f64, ended: bool) {
     let mut i: usize = 0;
     while i < 256 {
         if i == n {
