@@ -167,7 +167,7 @@ fn print_clock(bits: BurstBits) {
     match bits {
         BurstBits::Refused(_) => {}
         BurstBits::Nothing => {
-            replay::print(b"  under 8 dips on the grid: no bits\n");
+            replay::print(b"  no bits: it takes 8 dips on the grid\n");
         }
         BurstBits::Bits(count, _, ppm, _, points, _) => {
             replay::print(b"  clock error ");

@@ -135,7 +135,7 @@ fn print_found(dips: &[f64], n: usize, rate: u32, from: f64) -> Near
     replay::print(b"  ");
     crate::words::print_count(n as u64, b" dips found");
     if n < ENOUGH_DIPS {
-        replay::print(b": under 8, no clock\n");
+        replay::print(b", it takes 8 for a clock\n");
         print_loose(dips, n, rate, from);
         return crate::tally::far();
     }

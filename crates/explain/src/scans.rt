@@ -3,8 +3,10 @@ ghost use Prim.Native.Nat.{_^_, _<_};
 use crate::blocks::Scan;
 use crate::blocks::explain_left;
 use crate::blocks::explain_taken;
+use crate::blocks::seconds;
 use crate::tally::Ending;
 use crate::tally::Tally;
+use crate::words::print_parts;
 use bursts::Burst;
 use bursts::Level;
 use bursts::NextBurst;
@@ -80,6 +82,22 @@ fn end_of(scan: Scan, b: Burst) -> u64 {
     std::num::wrapping_add_u64(scan.base, b.end as u64)
 }
 
+// Where another burst follows a short one within 0.3 s: the gap between them, which was not bridged.
+fn print_gap(held: &[f32], rate: u32, b: Burst) {
+    match bursts::find_bursts(held, rate, explaining::any_options(), b.floor_dbm, b.end) {
+        NextBurst::Refused(_) => {}
+        NextBurst::Nothing => {}
+        NextBurst::Found(c) => {
+            let gap = seconds(rate, dips::back(c.start, b.end) as u64);
+            if gap < 0.3 {
+                replay::print(b"  the next loud sample comes ");
+                print_parts(gap);
+                replay::print(b" s later: a gap over 0.04 s is not bridged\n");
+            }
+        }
+    }
+}
+
 // A burst over the threshold that was not taken, and was not explained before.
 fn left(held: &[f32], t: Tally, scan: Scan, b: Burst) -> Tally {
     let mut u = t;
@@ -93,7 +111,9 @@ fn left(held: &[f32], t: Tally, scan: Scan, b: Burst) -> Tally {
     if is_spike(scan.rate, b) {
         return crate::tally::spike(u);
     }
-    explain_left(u, scan, b, Ending::Short)
+    let v = explain_left(u, scan, b, Ending::Short);
+    print_gap(held, scan.rate, b);
+    v
 }
 
 // Whether a burst ended long enough ago.

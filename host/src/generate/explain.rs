@@ -44,6 +44,12 @@ fn sent(bits: &[bool]) -> Vec<f64> {
     shape.envelope(bits, RATE)
 }
 
+/// A dip more, half a bit past a boundary.
+fn disturbed(mut envelope: Vec<f64>) -> Vec<f64> {
+    envelope[387] = LEVEL_DBM - 20.0;
+    envelope
+}
+
 fn turned(mut bits: Vec<bool>, places: &[usize]) -> Vec<bool> {
     for &place in places {
         bits[BODY + place] = !bits[BODY + place];
@@ -60,8 +66,11 @@ fn bursts() -> Vec<(usize, Vec<f64>)> {
     vec![
         // too short
         (2_000, vec![LEVEL_DBM; 200]),
+        // two pieces with 60 ms between them
+        (2_900, vec![LEVEL_DBM; 150]),
+        (3_110, vec![LEVEL_DBM; 150]),
         // under the threshold by 0.5 dB
-        (3_500, vec![FLOOR_DBM + ABOVE_DB - 0.5; 1_200]),
+        (4_000, vec![FLOOR_DBM + ABOVE_DB - 0.5; 1_200]),
         // seven dips
         (6_000, dipped(&[1.0, 3.0, 5.0, 7.0, 9.0, 11.0, 13.0], 60.0)),
         // nine dips, three of them half a bit off the grid of the others
@@ -77,7 +86,7 @@ fn bursts() -> Vec<(usize, Vec<f64>)> {
         (18_000 + REPETITION, right(1)),
         (18_000 + 2 * REPETITION, right(2)),
         // a repetition alone, whose message still waits at the end
-        (38_000, sent(&late.bits(1, PREAMBLE))),
+        (38_000, disturbed(sent(&late.bits(1, PREAMBLE)))),
     ]
 }
 
