@@ -44,10 +44,25 @@ fn print_usage() {
     );
 }
 
+// The words of a cause that a recording can have (docs/CONTRACTS.md).
+fn print_cause(n: u8) {
+    match n {
+        limits::BAD_SAMPLE => {
+            complain(b": a sample is no number from -200 to 100 dBm\n");
+        }
+        limits::STREAM => {
+            complain(b": the recording is longer than 2^40 samples\n");
+        }
+        _ => {
+            complain(b"\n");
+        }
+    }
+}
+
 fn print_refusal(n: u8) {
     complain(b"explain: refused with ");
     io::print_decimal(STDERR_FILENO, n as u64);
-    complain(b"\n");
+    print_cause(n);
 }
 
 // Bytes of a call's samples.
@@ -77,6 +92,21 @@ fn samples_in(form: Form, n: usize) -> usize
         }
         Form::Unknown => 0,
     }
+}
+
+// A line on standard error where the recording ends inside a sample or a record.
+fn print_leftover(form: Form, n: usize) {
+    let left = match form {
+        Form::Floats => n % 4,
+        Form::Records => n % 16,
+        Form::Raw | Form::Unknown => 0,
+    };
+    if left == 0 {
+        return;
+    }
+    complain(b"explain: bytes left over: ");
+    io::print_decimal(STDERR_FILENO, left as u64);
+    complain(b"\n");
 }
 
 fn put_floats(block: &[u8; 32], n: usize, dbm: &mut [f32; 8])
@@ -279,6 +309,7 @@ fn turn(
         complain(b"explain: standard input can't be read\n");
         return stopped;
     };
+    print_leftover(form, n);
     let count = samples_in(form, n);
     if count == 0 {
         return stopped;
