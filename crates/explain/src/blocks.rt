@@ -229,7 +229,8 @@ fn explain_frame(t: Tally, scan: Scan, b: Burst, near: Near, x: BurstFrame, how:
     }
 }
 
-fn least(a: usize, b: usize) -> usize
+// The lesser of two.
+pub fn least(a: usize, b: usize) -> usize
     ensures { λ r. ⌜ (r ≤ a) × (r ≤ b) ⌝ }
 {
     if a < b { a } else { b }

@@ -16,13 +16,14 @@ use arguments::Form;
 use blocks::Scan;
 use libc::STDERR_FILENO;
 use reading::Fetched;
+use receiver::Received;
 use receiver::SigfoxReceiver;
 use scans::Remembered;
 use shifts::Shifts;
 use tally::Tally;
 
-// Samples of a call, as `listen` has it.
-const CALL: usize = 8;
+// The rate of `listen`'s records.
+const RECORDS_RATE: u32 = 1000;
 
 // A proved loop has to end, and nothing says that the input does. A read brings a byte at least, and a stream of over 2^41 bytes is refused.
 const MOST_READS: u64 = 0x400_0000_0000;
@@ -40,7 +41,7 @@ fn complain(text: &[u8]) {
 
 fn print_usage() {
     complain(
-        b"usage: explain RATE FORM < RECORDING\nRATE: samples a second, 200 to 4000; FORM: raw (bytes, -2 x dBm), f32 (binary32 dBm, little-endian) or records (those of listen)\n",
+        b"usage: explain RATE FORM < RECORDING\nRATE: samples a second, 200 to 4000; FORM: raw (bytes, -2 x dBm), f32 (binary32 dBm, little-endian) or records (those of listen, RATE 1000)\n",
     );
 }
 
@@ -65,30 +66,47 @@ fn print_refusal(n: u8) {
     print_cause(n);
 }
 
+// Samples of a call: eight, as `listen` has it; four at an odd rate, so that no call meets the end of the held 12 s in its middle.
+fn call_of(form: Form, rate: u32) -> usize
+    ensures { λ r. ⌜ r ≤ 8 ⌝ }
+{
+    match form {
+        Form::Records => 8,
+        Form::Raw | Form::Floats | Form::Unknown => {
+            if rate % 2 == 0 {
+                return 8;
+            }
+            4
+        }
+    }
+}
+
 // Bytes of a call's samples.
-fn size_of(form: Form) -> usize
+fn size_of(form: Form, call: usize) -> usize
+    requires { ⌜ call ≤ 8 ⌝ }
     ensures { λ r. ⌜ r ≤ 32 ⌝ }
 {
     match form {
-        Form::Raw => 8,
-        Form::Floats => 32,
+        Form::Raw => call,
+        Form::Floats => 4 * call,
         Form::Records => 16,
         Form::Unknown => 0,
     }
 }
 
 // How many of a block's bytes are whole samples, or in front of a whole record.
-fn samples_in(form: Form, n: usize) -> usize
+fn samples_in(form: Form, n: usize, call: usize) -> usize
+    requires { ⌜ call ≤ 8 ⌝ }
     ensures { λ r. ⌜ r ≤ 8 ⌝ }
 {
     match form {
-        Form::Raw => dips::least(n, CALL),
-        Form::Floats => dips::least(n / 4, CALL),
+        Form::Raw => blocks::least(n, call),
+        Form::Floats => blocks::least(n / 4, call),
         Form::Records => {
             if n < 16 {
                 return 0;
             }
-            CALL
+            8
         }
         Form::Unknown => 0,
     }
@@ -186,62 +204,55 @@ fn look(
     scans::explain_scan(&samples[..held], t, scan, r, scratch32, scratch64)
 }
 
-// One call with the first n samples, and what it did.
-fn hear(
-    s: Course,
+// A call with the first n samples.
+fn push_first(
+    receiver: SigfoxReceiver,
     dbm: &[f32],
     n: usize,
-    samples: &mut [f32; 48000],
-    events: &mut [u8; 30720],
-    scratch32: &mut [f32; 48000],
-    scratch64: &mut [f64; limits::SCRATCH64],
-) -> Course {
-    let before = s.receiver;
+    samples: &mut [f32],
+    events: &mut [u8],
+    scratch32: &mut [f32],
+    scratch64: &mut [f64],
+) -> Received {
     let closed = [0u32; 0];
-    let mut stopped = s;
-    stopped.more = false;
-    if dbm.len() < n {
-        return stopped;
-    }
     let first: usize = 0;
-    let r = before.push(
-        &dbm[first..n],
+    let end = blocks::least(n, dbm.len());
+    receiver.push(
+        &dbm[first..end],
         Shifts::none(),
         &closed,
         samples,
         events,
         scratch32,
         scratch64,
-    );
-    if r.refused != 0 {
-        print_refusal(r.refused);
-        return stopped;
-    }
-    let after = r.receiver;
-    let mut t = s.tally;
-    if after.unscanned == 0 {
-        let u = look(
-            before,
-            after,
-            tail(after.rate),
-            t,
-            samples,
-            scratch32,
-            scratch64,
-        );
-        t = u;
-    }
-    let waiting = before.waiting;
-    messages::print_messages(events, r.count, waiting, time_of(after), false);
-    Course {
-        receiver: after,
-        tally: t,
-        more: s.more,
-    }
+    )
 }
 
-// The same with an array, whose length its type says.
-fn hear_block(
+// What a call did that scanned: nothing is left to be looked at then.
+fn scanned(
+    before: SigfoxReceiver,
+    after: SigfoxReceiver,
+    t: Tally,
+    samples: &[f32],
+    scratch32: &mut [f32],
+    scratch64: &mut [f64],
+) -> Tally {
+    if 0 < after.unscanned {
+        return t;
+    }
+    look(
+        before,
+        after,
+        tail(after.rate),
+        t,
+        samples,
+        scratch32,
+        scratch64,
+    )
+}
+
+// One call with the first n samples, and what it did.
+fn hear(
     s: Course,
     dbm: &[f32; 8],
     n: usize,
@@ -250,7 +261,24 @@ fn hear_block(
     scratch32: &mut [f32; 48000],
     scratch64: &mut [f64; limits::SCRATCH64],
 ) -> Course {
-    hear(s, dbm, n, samples, events, scratch32, scratch64)
+    let before = s.receiver;
+    let r = push_first(before, dbm, n, samples, events, scratch32, scratch64);
+    if r.refused != 0 {
+        print_refusal(r.refused);
+        let mut stopped = s;
+        stopped.more = false;
+        return stopped;
+    }
+    let after = r.receiver;
+    let t = s.tally;
+    let u = scanned(before, after, t, samples, scratch32, scratch64);
+    let waiting = before.waiting;
+    messages::print_messages(events, r.count, waiting, time_of(after), false);
+    Course {
+        receiver: after,
+        tally: u,
+        more: s.more,
+    }
 }
 
 // The last call, and what it did.
@@ -301,7 +329,8 @@ fn turn(
 ) -> Course {
     let mut block = [0u8; 32];
     let mut dbm = [0.0f32; 8];
-    let size = size_of(form);
+    let call = call_of(form, s.receiver.rate);
+    let size = size_of(form, call);
     let fetched = fetch(&mut block, size);
     let mut stopped = s;
     stopped.more = false;
@@ -310,14 +339,14 @@ fn turn(
         return stopped;
     };
     print_leftover(form, n);
-    let count = samples_in(form, n);
+    let count = samples_in(form, n, call);
     if count == 0 {
         return stopped;
     }
     put_samples(form, &block, count, &mut dbm);
     let mut next = s;
-    next.more = count == CALL;
-    hear_block(next, &dbm, count, samples, events, scratch32, scratch64)
+    next.more = count == call;
+    hear(next, &dbm, count, samples, events, scratch32, scratch64)
 }
 
 // The whole recording.
@@ -348,10 +377,12 @@ fn run(rate: u32, form: Form) {
     finish(s, &mut samples, &mut events, &mut scratch32, &mut scratch64);
 }
 
-fn is_known(form: Form) -> bool {
+// Whether a recording of this form can have the rate.
+fn fits(form: Form, rate: u32) -> bool {
     match form {
         Form::Unknown => false,
-        Form::Raw | Form::Floats | Form::Records => true,
+        Form::Raw | Form::Floats => true,
+        Form::Records => rate == RECORDS_RATE,
     }
 }
 
@@ -362,7 +393,7 @@ fn main() {
         print_usage();
         return;
     }
-    if !is_known(form) {
+    if !fits(form, rate) {
         print_usage();
         return;
     }
