@@ -10,7 +10,8 @@ const USAGE: &str = "usage: oracle NAME
        compare NAME.. [--seed N] [--cases N] [--row N]
        sample NAME.. | sample frames
        bench [WORD..]
-       draw";
+       draw
+       recording";
 
 /// What the flags say, or their defaults.
 struct Flags {
@@ -40,6 +41,7 @@ fn command(words: &[&str], flags: &[&str]) -> Result<ExitCode, String> {
         ["sample", names @ ..] if !names.is_empty() => sample::write(names),
         ["bench", words @ ..] => bench::run(words),
         ["draw"] => print(draw::signal().as_bytes()),
+        ["recording"] => print(&generate::explain::recording()),
         _ => Err(USAGE.to_string()),
     }
 }

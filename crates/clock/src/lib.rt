@@ -73,7 +73,7 @@ pub enum Fit {
 }
 
 // Samples for each bit.
-fn nominal_of(rate: u32) -> f64
+pub fn nominal_of(rate: u32) -> f64
     ensures { λ r. ⌜ r ≡ nominalOf rate ⌝ }
 {
     (rate as f64) / (dips::BIT_RATE as f64)
@@ -86,7 +86,7 @@ fn angle_of(nominal: f64, d0: f64, d: f64) -> f64
 }
 
 // The grid, anchored on the mean phase of the first dips (circular mean modulo one bit).
-fn anchor_of(dips: &[f64], n: usize, nominal: f64) -> f64
+pub fn anchor_of(dips: &[f64], n: usize, nominal: f64) -> f64
     requires { ⌜ (0 < n) × (n ≤ length (now dips)) ⌝ }
     ensures { λ r. ⌜ r ≡ anchor nominal (getD (now (dips .entry)) 0 nan) (take n (now (dips .entry))) ⌝ }
 {
@@ -132,7 +132,7 @@ fn place_of(k: f64) -> usize
     }
 }
 
-fn index_at(c: Clock, d: f64) -> f64
+pub fn index_at(c: Clock, d: f64) -> f64
     ensures { λ r. ⌜ r ≡ indexAt c d ⌝ }
 {
     floats::round_half_up((d - c.phase) / c.period)
@@ -204,7 +204,7 @@ fn sum_point(c: Clock, d: f64, k: f64) -> Clock
 }
 
 // Tracking dip by dip keeps a 1 % clock error from slipping a whole bit over a frame.
-fn track(c: Clock, d: f64) -> Step
+pub fn track(c: Clock, d: f64) -> Step
     requires { ⌜ c .count < scratch64 ⌝ }
     ensures { λ r. ⌜ r ≡ step c d ⌝ }
 {
@@ -329,7 +329,7 @@ fn ppm_of(period: f64, nominal: f64) -> i32
 }
 
 // The value at 0.9 of the sorted samples.
-fn level_of(seg: &[f32]) -> f32
+pub fn level_of(seg: &[f32]) -> f32
     requires { ⌜ (0 < length (now seg)) × (length (now seg) ≤ mostSamples) × (allDbm (now seg) ≡ true) ⌝ }
     ensures { λ r. ⌜ r ≡ quantile levelQuantile (now (seg .entry)) ⌝ }
 {
@@ -381,7 +381,7 @@ fn clocked_bits(
     )
 }
 
-fn start_clock(nominal: f64, phase: f64) -> Clock
+pub fn start_clock(nominal: f64, phase: f64) -> Clock
     ensures { λ r. ⌜ (r ≡ startClock nominal phase) × (r .count ≡ 0) ⌝ }
 {
     Clock {

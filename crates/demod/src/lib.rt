@@ -133,7 +133,7 @@ fn decode_segment(
 const PAD_PART: u32 = 50;
 
 // round(rate * 0.02), as a whole number.
-fn margin(rate: u32) -> usize
+pub fn margin(rate: u32) -> usize
     requires { ⌜ (lowestRate ≤ rate) × (rate ≤ highestRate) ⌝ }
     ensures { λ r. ⌜ (r ≡ padOf rate) × (r ≤ widestPad) ⌝ }
 {

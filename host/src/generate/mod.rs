@@ -11,6 +11,7 @@ mod charges;
 mod depths;
 mod dips;
 mod events;
+pub mod explain;
 mod fleet;
 pub(crate) mod frame;
 pub mod given;

@@ -1,0 +1,12 @@
+-- `explaining::faint_options` meets its contract. Assumes nothing.
+use mathlib.Core.Path.{refl}
+use lib.Ieee.{ofBits, ofInt, round}
+use Rattle.explaining.proofs.faint_options.Statement.{statement}
+use Rattle.explaining.proofs.faint_options.Tie as tie
+
+returns : tie.Need-returns
+unfolding ofBits ofInt round
+returns c = refl
+
+pub faint-options-spec : {M : Type 1} → statement M
+faint-options-spec = tie.close (tie.spec returns)
