@@ -27,9 +27,10 @@ use Rattle.listening_receiver.specs.declared.Heard.{Heard}
 use Rattle.listening_receiver.specs.Hearing.{rate, most, heard}
 use Rattle.listening_receiver.specs.Standing.{StandsFor, Hears}
 use Rattle.listening.specs.declared.Listener.{Listener}
+use Rattle.listening.specs.declared.Followed.{Followed}
 use Rattle.listening.specs.declared.Stepped.{Stepped}
 use Rattle.listening.specs.Program.{State, Went, stepHz, begun, samplesEach, emission, askedOf, waits, received, turned, passedOver, heardByBoth, refusalText, handed, unlessRefused, ending, step, rawOf, hzOf, cfoOf}
-use Rattle.listening.specs.Hand.{begunAs, passedAs, stateOf, Goes, Room, Near, Receives, Steps}
+use Rattle.listening.specs.Hand.{begunAs, passedAs, stateOf, Goes, Room, Near, Receives, Follows, Leads, Steps}
 
 -- ---- `R number`, or nothing
 
@@ -144,14 +145,13 @@ unfolding Turned
 on-is (stop k t m) x l w h z = absurd (w (sym (h .0) ∙ z))
 on-is (on t g f) x l w h z = rw (h .1, h .2, h .3) refl
 
-pub goes-on : (s : State) (raw : List ℕ) (T : Turn) (x : Next) (m : Lists) (out out′ : List ℕ) (r : Stepped) (places : List Float) → Fit T → Turned T x m → x .refused ≡ 0
-    → Goes
-    (received
+pub turned-on : (s : State) (raw : List ℕ) (T : Turn) (x : Next) (m : Lists) → Fit T → Turned T x m → x .refused ≡ 0
+    → received
     (record { started = true; passed = s .passed; tracker = x .tracker; lists = m; ledger = s .ledger; samples = s .samples + samplesEach; frames = s .frames; messages = s .messages })
-    (tuneLine (x .tune)) (pushRaw raw)) out r m places out′
-    → Goes (turned s raw T) out r m places out′
+    (tuneLine (x .tune)) (pushRaw raw)
+    ≡ turned s raw T
 unfolding turned
-goes-on s raw T x m out out′ r places n q z g = rw (on-is T x m n q z) g
+turned-on s raw T x m n q z = rw (on-is T x m n q z) refl
 
 -- a call of the receiver behind a text
 module _ (s : State) (c : Call) (text : List ℕ) (old out mid last : List ℕ) (end end′ : ℕ) (v : SigfoxReceiver) (b : Memory) (h : Heard) (places : List Float) (events : List ℕ) where
@@ -218,11 +218,10 @@ module _ (l b : Listener) (hz : ℕ) (begun-is : b ≡ begunAs l hz) where
   pub begun-lists : (at lo : List ℕ) (hzs : List Float) → Beside (l .tracker) at lo hzs → Beside (b .tracker) at lo hzs
   begun-lists at lo hzs h = rw begun-is (begun-beside (l .started) (l .tracker) hz at lo hzs h)
 
-  pub begun-steps : (s : Stepped) (at lo : List ℕ) (hzs : List Float) (out out′ : List ℕ) → Steps b s at lo hzs out out′ → Steps l s at lo hzs out out′
-  begun-steps s at lo hzs out out′ h =
+  pub begun-leads : (f : Followed) (at lo : List ℕ) (hzs : List Float) (out out′ : List ℕ) → Leads b f at lo hzs out out′ → Leads l f at lo hzs out out′
+  begun-leads f at lo hzs out out′ h =
       let x = rw begun-is at h in
-      let n = x .near in
-      record { near = record { passed = n .passed; samples = n .samples; frames = n .frames; messages = n .messages }; end = x .end; room = x .room; beside = x .beside }
+      record { passed = x .passed; samples = x .samples; frames = x .frames; messages = x .messages; end = x .end; room = x .room; beside = x .beside }
 
   -- fields as the code has them are those of the record
   pub step-is : (m : Lists) (g : Ledger byFrames) (bytes raw : List ℕ) (dbm : List Float) (cfo : ℕ) → raw ≡ rawOf bytes → dbm ≡ map dbmOf (rawOf bytes) → hz ≡ hzOf bytes → cfo ≡ cfoOf bytes
@@ -236,24 +235,58 @@ module _ (l b : Listener) (hz : ℕ) (begun-is : b ≡ begunAs l hz) where
 
 -- ---- a record that is passed over
 
-pub passed-room : (l b : Listener) → b ≡ passedAs l → Room most l → (b .passed ≤ 2 ^ 53) × (b .frames + most < 2 ^ 64) × (b .messages + most < 2 ^ 64)
-passed-room l b e r = rw e (omega (arith, r .passed), r .frames, r .messages)
-
 pub passed-is : (l b : Listener) (m : Lists) (g : Ledger byFrames) (bytes : List ℕ) (hz : ℕ) → b ≡ passedAs l → hz ≡ hzOf bytes → waits (l .started) hz ≡ true
     → received (stateOf b m g) [] (pushRaw (rawOf bytes)) ≡ step (stateOf l m g) bytes
 unfolding step passedOver
 passed-is l b m g bytes hz e h w = let w′ : waits (l .started) (hzOf bytes) ≡ true = rw h at w in rw (w′, e) refl
 
-pub passed-steps : (l b : Listener) (s : Stepped) (at lo : List ℕ) (hz : List Float) (out out′ : List ℕ) → b ≡ passedAs l → Beside (l .tracker) at lo hz → Receives b s out out′
-    → Steps l s at lo hz out out′
-passed-steps l b s at lo hz out out′ e h r =
-    let x = rw e at r in
+pub passed-leads : (l b : Listener) (at lo : List ℕ) (hz : List Float) (out : List ℕ) → b ≡ passedAs l → Beside (l .tracker) at lo hz
+    → Leads l (record { refused = 0; end = 0; listener = b }) at lo hz out out
+passed-leads l b at lo hz out e h =
+    rw e (record { passed = omega arith; samples = omega arith; frames = refl; messages = refl; end = omega arith; room = refl; beside = λ z. h })
+
+-- ---- the receiver's side behind the tracker's
+
+pub led-room : (l : Listener) (f : Followed) (at lo : List ℕ) (hz : List Float) (out out′ : List ℕ) → Leads l f at lo hz out out′ → Room most l
+    → (f .listener .passed ≤ 2 ^ 53) × (f .listener .frames + most < 2 ^ 64) × (f .listener .messages + most < 2 ^ 64)
+led-room l f at lo hz out out′ x r = (omega (arith, x .passed, r .passed), omega (arith, x .frames, r .frames), omega (arith, x .messages, r .messages))
+
+-- a refusal of the tracker's side
+pub stop-steps : (l : Listener) (f : Followed) (v : SigfoxReceiver) (at lo : List ℕ) (hz : List Float) (out out′ : List ℕ) → Leads l f at lo hz out out′
+    → Steps l (record { refused = f .refused; end = f .end; listener = f .listener; receiver = v }) at lo hz out out′
+stop-steps l f v at lo hz out out′ x =
     record {
-      near = record { passed = omega (arith, x .passed); samples = omega (arith, x .samples); frames = x .frames; messages = x .messages };
-      end = x .end;
+      near = record { passed = omega (arith, x .passed); samples = omega (arith, x .samples); frames = omega (arith, x .frames); messages = omega (arith, x .messages) };
+      end = omega (arith, x .end);
       room = x .room;
-      beside = λ z. rw (x .tracker) h;
+      beside = x .beside;
+    }
+
+-- or both
+pub both-steps : (l : Listener) (f : Followed) (s : Stepped) (at lo : List ℕ) (hz : List Float) (out mid out′ : List ℕ) → f .refused ≡ 0 → Leads l f at lo hz out mid → Receives (f .listener) s mid out′
+    → Steps l s at lo hz out out′
+both-steps l f s at lo hz out mid out′ z x r =
+    record {
+      near =
+          record {
+            passed = omega (arith, x .passed, r .passed);
+            samples = omega (arith, x .samples, r .samples);
+            frames = omega (arith, x .frames, r .frames);
+            messages = omega (arith, x .messages, r .messages);
+          };
+      end = r .end;
+      room = r .room ∙ x .room;
+      beside = λ w. rw (r .tracker) (x .beside z);
     }
 
 pub goes-as : {w v : Went} {out : List ℕ} {r : Stepped} {m : Lists} {places : List Float} {out′ : List ℕ} → w ≡ v → Goes w out r m places out′ → Goes v out r m places out′
 goes-as e h = rw e at h
+
+pub follows-as : {v w : Ledger byFrames → Went} {raw : List ℕ} {r : Followed} {m : Lists} {out out′ : List ℕ} → Follows v raw r m out out′ → ((g : Ledger byFrames) → v g ≡ w g) → Follows w raw r m out out′
+follows-as h e =
+    record {
+      stops = λ n g u places st. goes-as (e g) (h .stops n g u places st);
+      text = h .text;
+      added = h .added;
+      on = λ z g. h .on z g ∙ e g;
+    }

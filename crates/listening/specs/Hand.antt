@@ -5,7 +5,7 @@ use mathlib.Core.Bool.{true, false}
 use mathlib.Core.List.{List, _++_}
 use lib.ListN.{length, take, drop}
 use lib.Ieee.{Float}
-use Rattle.ledger.specs.Ledger.{byFrames, Ledger}
+use Rattle.ledger.specs.Ledger.{byFrames, Ledger, pushRaw}
 use Rattle.frequency.specs.Lent.{Lists}
 use Rattle.frequency.specs.Calls.{fresh, Beside}
 use Rattle.receiver.specs.declared.SigfoxReceiver.{SigfoxReceiver}
@@ -13,9 +13,10 @@ use Rattle.listening_lines.specs.Text.{widest, Added}
 use Rattle.listening_receiver.specs.Hearing.{rate, most}
 use Rattle.listening_receiver.specs.Standing.{StandsFor}
 use Rattle.listening.specs.declared.Listener.{Listener}
+use Rattle.listening.specs.declared.Followed.{Followed}
 use Rattle.listening.specs.declared.Stepped.{Stepped}
 use Rattle.listening.specs.declared.Listening.{Listening}
-use Rattle.listening.specs.Program.{State, Went, recordBytes, samplesEach, stepHz, begun, handed, step, listen, nothingHeard, after, said, Accepted}
+use Rattle.listening.specs.Program.{State, Went, recordBytes, samplesEach, stepHz, begun, received, handed, step, listen, nothingHeard, after, said, Accepted}
 
 -- the definition's state that the code's numbers, the tracker with its lists and a ledger are
 abbrev pub stateOf : Listener → Lists → Ledger byFrames → State
@@ -71,6 +72,24 @@ pub record Receives (l : Listener) (r : Stepped) (out out′ : List ℕ) : Type 
   pub messages : r .listener .messages ≤ l .messages + most
   pub end : r .end ≤ outPlaces
   pub room : length out′ ≡ length out
+
+-- what the tracker's side of a record leaves: where it was refused, the record's whole text and state; otherwise a text, behind which the receiver's call follows
+pub record Follows (went : Ledger byFrames → Went) (raw : List ℕ) (r : Followed) (m : Lists) (out out′ : List ℕ) : Type 0 where
+  pub stops : (r .refused ≡ 0 → ⊥) → (g : Ledger byFrames) (v : SigfoxReceiver) (places : List Float) → StandsFor v places g
+      → Goes (went g) out (record { refused = r .refused; end = r .end; listener = r .listener; receiver = v }) m places out′
+  pub text : List ℕ
+  pub added : r .refused ≡ 0 → Added out 0 text (r .end) out′
+  pub on : r .refused ≡ 0 → (g : Ledger byFrames) → received (stateOf (r .listener) m g) text (pushRaw raw) ≡ went g
+
+-- what it bounds
+pub record Leads (l : Listener) (r : Followed) (at lo : List ℕ) (hz : List Float) (out out′ : List ℕ) : Type 0 where
+  pub passed : r .listener .passed ≤ l .passed + samplesEach
+  pub samples : r .listener .samples ≤ l .samples + samplesEach
+  pub frames : r .listener .frames ≡ l .frames
+  pub messages : r .listener .messages ≡ l .messages
+  pub end : r .end ≤ widest
+  pub room : length out′ ≡ length out
+  pub beside : r .refused ≡ 0 → Beside (r .listener .tracker) at lo hz
 
 -- what bounds a record's counts and text; where none of its calls was refused, the tracker's readings stand in their lists
 pub record Steps (l : Listener) (r : Stepped) (at lo : List ℕ) (hz : List Float) (out out′ : List ℕ) : Type 0 where

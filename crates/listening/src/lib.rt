@@ -37,6 +37,13 @@ pub struct Listener {
     pub tracker: FrequencyTracker,
 }
 
+// After the tracker's side of a record: the refusal or 0, where the text ends, and that side.
+pub struct Followed {
+    pub refused: u8,
+    pub end: usize,
+    pub listener: Listener,
+}
+
 // After a record: the refusal or 0, where the text ends, and both sides.
 pub struct Stepped {
     pub refused: u8,

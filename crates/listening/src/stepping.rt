@@ -11,8 +11,9 @@ ghost use Rattle.listening_tracker.specs.Turn.{readingPlaces, turn};
 ghost use Rattle.listening_receiver.specs.Hearing.{most};
 ghost use Rattle.listening_receiver.specs.Standing.{StandsFor, Standing};
 ghost use Rattle.listening.specs.Program as program;
-ghost use Rattle.listening.specs.Program.{received, turned, refusalText};
-ghost use Rattle.listening.specs.Hand.{outPlaces, begunAs, passedAs, stateOf, Goes, Room, Receives, Steps};
+ghost use Rattle.listening.specs.Program.{rawOf, received, turned, refusalText};
+ghost use Rattle.listening.specs.Hand.{outPlaces, begunAs, passedAs, stateOf, Goes, Room, Receives, Follows, Leads, Steps};
+use crate::Followed;
 use crate::Listener;
 use crate::Stepped;
 use frequency::FrequencyTracker;
@@ -124,57 +125,39 @@ fn receive(
     }
 }
 
-// A record of the tracker and the receiver, its fields read: nothing after a refusal but its line.
-pub fn step(
+// The tracker's calls of a record, its fields read: the T line, or that of a refusal, at the start of `out`.
+fn track(
     l: Listener,
-    receiver: SigfoxReceiver,
     now_hz: u32,
     cfo: u16,
-    raw: &[u8],
     dbm: &[f32],
     at: &mut [u64; 8000],
     lo: &mut [u32; 8000],
     hz: &mut [f64; 8000],
     tuned: &mut [u64; 64],
     freq: &mut [u32; 64],
-    samples: &mut [f32; 12000],
-    events: &mut [u8; 30720],
-    scratch32: &mut [f32; 12000],
-    scratch64: &mut [f64; 8000],
+    scratch: &mut [f64; 8000],
     out: &mut [u8],
-) -> Stepped
-    requires { ⌜ Standing receiver (now samples) ⌝ }
+) -> Followed
     requires { ⌜ (Beside (l .tracker) (now at) (now lo) (now hz)) × (Room most l) × (outPlaces ≤ length (now out)) ⌝ }
-    ensures { λ r. ⌜ ((g : Ledger byFrames) → StandsFor receiver (now (samples .entry)) g
-        → Goes (turned (stateOf l (lists (now (at .entry)) (now (lo .entry)) (now (hz .entry)) (now (tuned .entry)) (now (freq .entry))) g) (now (raw .entry))
+    ensures { λ r. ⌜ ((raw : List ℕ) → Follows
+        (λ (g : Ledger byFrames). turned (stateOf l (lists (now (at .entry)) (now (lo .entry)) (now (hz .entry)) (now (tuned .entry)) (now (freq .entry))) g) raw
         (turn readingPlaces «now_hz» (now (dbm .entry)) cfo (l .tracker) (lists (now (at .entry)) (now (lo .entry)) (now (hz .entry)) (now (tuned .entry)) (now (freq .entry)))))
-        (now (out .entry)) r (lists (now (at .exit)) (now (lo .exit)) (now (hz .exit)) (now (tuned .exit)) (now (freq .exit))) (now (samples .exit)) (now (out .exit))) ⌝ }
-    ensures { λ r. ⌜ Steps l r (now (at .exit)) (now (lo .exit)) (now (hz .exit)) (now (out .entry)) (now (out .exit)) ⌝ }
+        raw r (lists (now (at .exit)) (now (lo .exit)) (now (hz .exit)) (now (tuned .exit)) (now (freq .exit))) (now (out .entry)) (now (out .exit))) ⌝ }
+    ensures { λ r. ⌜ Leads l r (now (at .exit)) (now (lo .exit)) (now (hz .exit)) (now (out .entry)) (now (out .exit)) ⌝ }
 {
     let tracker = l.tracker;
-    let t = listening_tracker::track(
-        tracker,
-        now_hz,
-        dbm,
-        cfo,
-        at,
-        lo,
-        hz,
-        tuned,
-        freq,
-        scratch64,
-    );
+    let t = listening_tracker::track(tracker, now_hz, dbm, cfo, at, lo, hz, tuned, freq, scratch);
     let next = t.tracker;
     if t.refused != 0 {
         let end = listening_lines::add_refusal(out, 0, t.refused);
         let mut listener = l;
         listener.started = true;
         listener.tracker = next;
-        return Stepped {
+        return Followed {
             refused: t.refused,
             end,
             listener,
-            receiver,
         };
     }
     let tune = t.tune;
@@ -187,18 +170,56 @@ pub fn step(
         messages: l.messages,
         tracker: next,
     };
-    receive(
-        listener,
-        receiver,
+    Followed {
+        refused: 0,
         end,
-        raw,
+        listener,
+    }
+}
+
+// The tracker's side of a record of 16 bytes: one before the first frequency is passed over.
+fn follow(
+    l: Listener,
+    bytes: &[u8],
+    at: &mut [u64; 8000],
+    lo: &mut [u32; 8000],
+    hz: &mut [f64; 8000],
+    tuned: &mut [u64; 64],
+    freq: &mut [u32; 64],
+    scratch: &mut [f64; 8000],
+    out: &mut [u8],
+) -> Followed
+    requires { ⌜ (Beside (l .tracker) (now at) (now lo) (now hz)) × (Room most l) × (outPlaces ≤ length (now out)) × (length (now bytes) ≡ 16) ⌝ }
+    ensures { λ r. ⌜ Follows
+        (λ (g : Ledger byFrames). program.step (stateOf l (lists (now (at .entry)) (now (lo .entry)) (now (hz .entry)) (now (tuned .entry)) (now (freq .entry))) g) (now (bytes .entry)))
+        (rawOf (now (bytes .entry))) r (lists (now (at .exit)) (now (lo .exit)) (now (hz .exit)) (now (tuned .exit)) (now (freq .exit))) (now (out .entry)) (now (out .exit)) ⌝ }
+    ensures { λ r. ⌜ Leads l r (now (at .exit)) (now (lo .exit)) (now (hz .exit)) (now (out .entry)) (now (out .exit)) ⌝ }
+{
+    let now_hz = endian::get_u32(bytes, 10);
+    let waits = !l.started & (now_hz == 0);
+    if waits {
+        let listener = pass(l);
+        return Followed {
+            refused: 0,
+            end: 0,
+            listener,
+        };
+    }
+    let cfo = endian::get_u16(bytes, 8);
+    let mut dbm = [0.0f32; 8];
+    receiver_samples::dbm_of_all(&bytes[..8], &mut dbm);
+    let first = begin(l, now_hz);
+    track(
+        first,
+        now_hz,
+        cfo,
+        &dbm,
         at,
         lo,
         hz,
-        samples,
-        events,
-        scratch32,
-        scratch64,
+        tuned,
+        freq,
+        scratch,
         out,
     )
 }
@@ -226,39 +247,24 @@ pub fn record_step(
         (now (out .entry)) r (lists (now (at .exit)) (now (lo .exit)) (now (hz .exit)) (now (tuned .exit)) (now (freq .exit))) (now (samples .exit)) (now (out .exit))) ⌝ }
     ensures { λ r. ⌜ Steps l r (now (at .exit)) (now (lo .exit)) (now (hz .exit)) (now (out .entry)) (now (out .exit)) ⌝ }
 {
-    let now_hz = endian::get_u32(bytes, 10);
-    let waits = !l.started & (now_hz == 0);
-    if waits {
-        return receive(
-            pass(l),
+    let f = follow(l, bytes, at, lo, hz, tuned, freq, scratch64, out);
+    let listener = f.listener;
+    if f.refused != 0 {
+        return Stepped {
+            refused: f.refused,
+            end: f.end,
+            listener,
             receiver,
-            0,
-            &bytes[..8],
-            at,
-            lo,
-            hz,
-            samples,
-            events,
-            scratch32,
-            scratch64,
-            out,
-        );
+        };
     }
-    let cfo = endian::get_u16(bytes, 8);
-    let mut dbm = [0.0f32; 8];
-    receiver_samples::dbm_of_all(&bytes[..8], &mut dbm);
-    step(
-        begin(l, now_hz),
+    receive(
+        listener,
         receiver,
-        now_hz,
-        cfo,
+        f.end,
         &bytes[..8],
-        &dbm,
         at,
         lo,
         hz,
-        tuned,
-        freq,
         samples,
         events,
         scratch32,
