@@ -1,6 +1,6 @@
 // What the program `listen` does (01, frequency.rs): the tracker and the receiver side by side on one stream of 16-byte records from standard input, a line for each retune and each message.
 mod ending; // the input's end
-mod handing; // what goes to standard output and standard error
+mod handing; // what goes to standard output
 mod records; // the whole records of the buffer
 mod stepping; // one record
 
@@ -13,11 +13,11 @@ ghost use Rattle.frequency.specs.Lent.{lists};
 ghost use Rattle.listening.specs.Hand.{outPlaces, newListener, Room, Near};
 ghost use Rattle.listening.specs.Reads.{Stage, Staged, Further, Ran};
 use crate::handing::hand_over;
-use crate::handing::print_failure;
 use crate::records::RECORD;
 use crate::stepping::RATE;
 use crate::stepping::STEP_HZ;
 use frequency::FrequencyTracker;
+use libc::STDERR_FILENO;
 use reading::Fetched;
 use receiver::SigfoxReceiver;
 
@@ -97,7 +97,7 @@ fn fresh() -> Listener
 fn fail(s: Reading) -> Reading
     ensures { λ r. ⌜ r ≡ record { filled = s .filled; more = false; going = false; refused = s .refused; listener = s .listener; receiver = s .receiver } ⌝ }
 {
-    print_failure();
+    io::write_all(STDERR_FILENO, b"listen: standard input can't be read\n");
     let mut m = s;
     m.going = false;
     m.more = false;
