@@ -25,6 +25,7 @@ use Rattle.listening.specs.declared.Reading.{Reading}
 use Rattle.listening.specs.Program.{recordBytes, tuningPlaces, zero64, ending, nothingHeard, after, Accepted}
 use Rattle.listening.specs.Hand.{newListener, stateOf, Room, Near, Reached, Refuses, GoesOn, Part}
 use Rattle.listening.specs.Reads.{buffer, Stage, Further}
+use Rattle.listening.proofs.StepLaws.{first-single}
 use Rattle.listening.proofs.Prefix.{after-more, accepted-more, accepted-less, part-end}
 use Rattle.listening.proofs.ReadLaws.{refuses-more}
 
@@ -38,7 +39,7 @@ reached-more read more n l v m places h x =
       ledger = x .ledger;
       stands = x .stands;
       state = x .state ∙ sym (after-more n nothingHeard read more h);
-      beside = x .beside;
+      single = x .single;
     }
 
 pub reached-less : (read more : List ℕ) (n : ℕ) (l : Listener) (v : SigfoxReceiver) (m : Lists) (places : List Float) → recordBytes * n ≤ length read
@@ -49,7 +50,7 @@ reached-less read more n l v m places h x =
       ledger = x .ledger;
       stands = x .stands;
       state = x .state ∙ after-more n nothingHeard read more h;
-      beside = x .beside;
+      single = x .single;
     }
 
 abbrev pub wholeOf : List ℕ → List ℕ
@@ -230,7 +231,7 @@ started l v input places e f w =
             ledger = ledger.fresh;
             stands = first-stands places w;
             state = refl;
-            beside = record { ats = omega arith; los = omega arith; hzs = omega arith };
+            single = first-single _ 0 _ (omega arith) refl;
           };
       refusal = λ (h : _≡_ {A = ℕ} 0 0 → ⊥). absurd (h refl);
       more = λ (h : true ≡ true). refl;

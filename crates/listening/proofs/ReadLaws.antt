@@ -11,7 +11,7 @@ use lib.Seq.{drop-drop, take-add, take-all, drop-at, take-append-le, drop-append
 use lib.Ieee.{Float}
 use Rattle.ledger.specs.Ledger.{byFrames, Ledger}
 use Rattle.frequency.specs.Lent.{Lists}
-use Rattle.frequency.specs.Calls.{Beside}
+use Rattle.frequency_grown.specs.Rising.{Single}
 use Rattle.receiver.specs.declared.SigfoxReceiver.{SigfoxReceiver}
 use Rattle.listening_lines.specs.Text.{Added}
 use Rattle.listening_receiver.specs.Hearing.{most}
@@ -46,7 +46,7 @@ module _ (read r : List ℕ) (n : ℕ) (whole : length read ≡ recordBytes * n)
 
   -- it was accepted, and what it was handed over went out; or it was refused
   pub one-more : (s : Stepped) (k : Lists) (places′ : List Float) (out out′ : List ℕ) (going : Bool) → Goes w out s k places′ out′
-      → (s .refused ≡ 0 → Beside (s .listener .tracker) (k .at) (k .lo) (k .hz)) → (going ≡ true → s .refused ≡ 0)
+      → Single (s .listener .tracker) k → (going ≡ true → s .refused ≡ 0)
       → GoesOn (read ++ r) (suc n) (record { going = going; refused = s .refused; listener = s .listener; receiver = s .receiver }) k places′
   one-more s k places′ out out′ going g b z =
       record {
@@ -57,7 +57,7 @@ module _ (read r : List ℕ) (n : ℕ) (whole : length read ≡ recordBytes * n)
               ledger = w .state .ledger;
               stands = g .stands;
               state = g .state ∙ sym (ap (λ (x : Went). x .state) record-is) ∙ sym (after-one n nothingHeard (read ++ r));
-              beside = b (z e);
+              single = b;
             };
         refusal =
             λ (e : s .refused ≡ 0 → ⊥).
@@ -160,7 +160,7 @@ module _ (input : List ℕ) (f last i : ℕ) (l₀ : Listener) (v₀ : SigfoxRec
         part-is (heardOf (x .read)) next (x .n + (i - f)) (heard-whole (x .read) (x .n) (x .whole)) (next-wide input i to e fit) l v m places h out out′ (s .end) (g (h .ledger) (h .stands) .text)
 
     pub along-next : (was : Bool) (on : was ≡ true) (a : Along input f last i l₀ v₀ m₀ places₀ l v refused was m places out₀ out) (s : Stepped) (k : Lists) (places′ : List Float) (out′ : List ℕ) (going : Bool) → i < last
-        → ((g : Ledger byFrames) → StandsFor v places g → Goes (step (stateOf l m g) next) out s k places′ out′) → Steps l s (k .at) (k .lo) (k .hz) out out′ → (going ≡ true → s .refused ≡ 0)
+        → ((g : Ledger byFrames) → StandsFor v places g → Goes (step (stateOf l m g) next) out s k places′ out′) → Steps l s k out out′ → (going ≡ true → s .refused ≡ 0)
         → Along input f last (i + 1) l₀ v₀ m₀ places₀ (s .listener) (s .receiver) (s .refused) going k places′ out₀ out′
     along-next was on a s k places′ out′ going less g b z =
         let near = a .near in
@@ -173,7 +173,7 @@ module _ (input : List ℕ) (f last i : ℕ) (l₀ : Listener) (v₀ : SigfoxRec
               let x = a .went read n h y .all on in
               let j : n + (i + 1 - f) ≡ suc (n + (i - f)) = omega arith in
               rw (j, records-one input f i to from e fit, ← append-assoc read (take (recordBytes * (i - f)) (drop (recordBytes * f) input)) next)
-              (one-more (heardOf read) next (n + (i - f)) (heard-whole read n h) (next-wide input i to e fit) l v m places x s k places′ out out′ going (g (x .ledger) (x .stands)) (b .beside) z);
+              (one-more (heardOf read) next (n + (i - f)) (heard-whole read n h) (next-wide input i to e fit) l v m places x s k places′ out out′ going (g (x .ledger) (x .stands)) (b .single) z);
           near =
               record {
                 passed = omega (arith, near .passed, more .passed);

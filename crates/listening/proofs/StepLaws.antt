@@ -1,20 +1,21 @@
 -- One record of `listen`. Assumes nothing.
 use Prim.Native.Nat.{ℕ, zero, suc, _+_, _*_, _^_, _≤_, _<_}
-use mathlib.Core.Path.{_≡_, refl, sym, ap, _∙_}
+use mathlib.Core.Path.{_≡_, refl, sym, ap, _∙_, subst}
 use mathlib.Core.Bool.{Bool, true, false, cond}
 use mathlib.Core.List.{List, [], _∷_, _++_, append-nil, append-assoc, map}
 use native.Mathlib.Omega.{arith}
 use lib.Dec.{eqb}
-use lib.ListN.{length, take, drop, length-take, drop-of-length-le}
-use lib.Ieee.{Float}
+use lib.ListN.{length, drop, drop-of-length-le}
+use lib.Ieee.{Float, lt, le, eq, ofBits, ofInt, round}
 use Rattle.ledger.specs.Ledger.{byFrames, Ledger, Call, pushRaw, flush, dbmOf}
-use Rattle.frequency_measure.specs.Measured.{readingsOf}
 use Rattle.frequency.specs.declared.FrequencyTracker.{FrequencyTracker}
 use Rattle.frequency.specs.declared.Next.{Next}
 use Rattle.frequency.specs.Lent.{Lists, tracker, packed, stored}
-use Rattle.frequency.specs.Order.{causeTuned, causeSamples, causeCfo, causeNext}
+use Rattle.frequency.specs.Order.{causeNew, causeTuned, causeSamples, causeCfo, causeNext}
 use Rattle.frequency.specs.Tracker.{tuned, samples, cfo, nextTuning, afterTuning}
-use Rattle.frequency.specs.Calls.{fresh, Beside}
+use Rattle.frequency.specs.Calls.{fresh}
+use Rattle.frequency_grown.specs.Rising as rising
+use Rattle.frequency_grown.specs.Rising.{Single}
 use Rattle.receiver.specs.declared.SigfoxReceiver.{SigfoxReceiver}
 use Rattle.receiver.specs.Calls.{Memory}
 use Rattle.listening_lines.specs.Text.{Added}
@@ -64,33 +65,19 @@ unfolding ending received
 ending-added s leftover h out mid out′ r t a =
     as-text (sym (append-assoc (heard (askedOf s) (emission s []) (s .ledger) flush .text) _ _)) (behind (t .text) (rw (t .refused, t .frames, t .messages) at a))
 
--- ---- the tracker stops with a number, or its readings stand in their lists again
+-- ---- the tracker stops with a number that isn't 0, or goes on
 
 abbrev pub Fit : Turn → Type 0
 Fit (stop k t l) = k ≡ 0 → ⊥
-Fit (on t m f) = Beside t (m .at) (m .lo) (m .hz)
+Fit (on t m f) = Unit
 
 unless-fit : (k : ℕ) (s : FrequencyTracker) (l : Lists) (t : Turn) → Fit t → Fit (unless k s l t)
 unless-fit zero s l t h = h
 unless-fit (suc k) s l t h = λ (z : suc k ≡ 0). omega arith
 
-readings-few : (a b : List ℕ) (c : List Float) → (length (readingsOf a b c) ≤ length a) × (length (readingsOf a b c) ≤ length b) × (length (readingsOf a b c) ≤ length c)
-unfolding readingsOf
-readings-few [] b c = (omega arith, omega arith, omega arith)
-readings-few (x ∷ a) [] c = (omega arith, omega arith, omega arith)
-readings-few (x ∷ a) (y ∷ b) [] = (omega arith, omega arith, omega arith)
-readings-few (x ∷ a) (y ∷ b) (z ∷ c) = let h = readings-few a b c in (omega (arith, h .0), omega (arith, h .1), omega (arith, h .2))
-
 next-fit : (room : ℕ) (s : FrequencyTracker) (l : Lists) → Fit (nextTurn room s l)
-unfolding nextTurn packed afterTuning tracker
-next-fit room s l =
-    let h = readings-few (take (s .readings) (l .at)) (take (s .readings) (l .lo)) (take (s .readings) (l .hz)) in
-    unless-fit (causeNext s l room) s l _
-    (record {
-      ats = omega (arith, h .0, length-take (s .readings) (l .at));
-      los = omega (arith, h .1, length-take (s .readings) (l .lo));
-      hzs = omega (arith, h .2, length-take (s .readings) (l .hz));
-    })
+unfolding nextTurn
+next-fit room s l = unless-fit (causeNext s l room) s l (on (packed (afterTuning (tracker s l))) l (nextTuning (tracker s l))) tt
 
 cfo-fit : (room reg : ℕ) (s : FrequencyTracker) (l : Lists) → Fit (cfoTurn room reg s l)
 unfolding cfoTurn
@@ -177,12 +164,6 @@ module _ (s : State) (c : Call) (text : List ℕ) (old out mid last : List ℕ) 
         stands = k .stands (s .ledger) st;
       }
 
--- and the readings of its tracker stand in their lists
-pub still-beside : (T : Turn) (x : Next) (l : Lists) → Fit T → Turned T x l → x .refused ≡ 0 → Beside (x .tracker) (l .at) (l .lo) (l .hz)
-unfolding Turned
-still-beside (stop k t m) x l w h z = absurd (w (sym (h .0) ∙ z))
-still-beside (on t g f) x l w h z = rw (h .1, h .3) w
-
 -- ---- the first record that isn't 0 makes the tracker
 
 pub later-begun : (b : Bool) (p n f k : ℕ) (t : FrequencyTracker) (hz : ℕ) → b ≡ true
@@ -193,9 +174,13 @@ pub first-begun : (b : Bool) (p n f k : ℕ) (t u : FrequencyTracker) (hz : ℕ)
     → _≡_ {A = Listener} (record { started = b; passed = p; samples = n; frames = f; messages = k; tracker = u }) (record { started = b; passed = p; samples = n; frames = f; messages = k; tracker = begun b t hz })
 first-begun b p n f k t u hz e h = rw (e, h) refl
 
-pub begun-beside : (b : Bool) (t : FrequencyTracker) (hz : ℕ) (at lo : List ℕ) (hzs : List Float) → Beside t at lo hzs → Beside (begun b t hz) at lo hzs
-begun-beside true t hz at lo hzs h = h
-begun-beside false t hz at lo hzs h = record { ats = omega arith; los = omega arith; hzs = omega arith }
+-- 01's rate and step are accepted
+taken : causeNew rate stepHz ≡ 0
+unfolding lt le eq ofBits ofInt round
+taken = refl
+
+pub first-single : (t : FrequencyTracker) (hz : ℕ) (m : Lists) → hz < 2 ^ 32 → t ≡ fresh rate hz stepHz → Single t m
+first-single t hz m h e = subst (λ (x : FrequencyTracker). Single x m) (sym e) (rising.new rate hz stepHz m h taken)
 
 -- a record looks at the state's counts and ledger alone
 pub turned-same : (b c : Bool) (t u : FrequencyTracker) (m l : Lists) (g : Ledger byFrames) (p n f k : ℕ) (raw : List ℕ) (T : Turn)
@@ -215,13 +200,10 @@ module _ (l b : Listener) (hz : ℕ) (begun-is : b ≡ begunAs l hz) where
   pub begun-room : (k : ℕ) → Room k l → Room k b
   begun-room k h = rw begun-is (record { passed = h .passed; samples = h .samples; frames = h .frames; messages = h .messages })
 
-  pub begun-lists : (at lo : List ℕ) (hzs : List Float) → Beside (l .tracker) at lo hzs → Beside (b .tracker) at lo hzs
-  begun-lists at lo hzs h = rw begun-is (begun-beside (l .started) (l .tracker) hz at lo hzs h)
-
-  pub begun-leads : (f : Followed) (at lo : List ℕ) (hzs : List Float) (out out′ : List ℕ) → Leads b f at lo hzs out out′ → Leads l f at lo hzs out out′
-  begun-leads f at lo hzs out out′ h =
+  pub begun-leads : (f : Followed) (m : Lists) (out out′ : List ℕ) → Leads b f m out out′ → Leads l f m out out′
+  begun-leads f m out out′ h =
       let x = rw begun-is at h in
-      record { passed = x .passed; samples = x .samples; frames = x .frames; messages = x .messages; end = x .end; room = x .room; beside = x .beside }
+      record { passed = x .passed; samples = x .samples; frames = x .frames; messages = x .messages; end = x .end; room = x .room; single = x .single }
 
   -- fields as the code has them are those of the record
   pub step-is : (m : Lists) (g : Ledger byFrames) (bytes raw : List ℕ) (dbm : List Float) (cfo : ℕ) → raw ≡ rawOf bytes → dbm ≡ map dbmOf (rawOf bytes) → hz ≡ hzOf bytes → cfo ≡ cfoOf bytes
@@ -240,32 +222,32 @@ pub passed-is : (l b : Listener) (m : Lists) (g : Ledger byFrames) (bytes : List
 unfolding step passedOver
 passed-is l b m g bytes hz e h w = let w′ : waits (l .started) (hzOf bytes) ≡ true = rw h at w in rw (w′, e) refl
 
-pub passed-leads : (l b : Listener) (at lo : List ℕ) (hz : List Float) (out : List ℕ) → b ≡ passedAs l → Beside (l .tracker) at lo hz
-    → Leads l (record { refused = 0; end = 0; listener = b }) at lo hz out out
-passed-leads l b at lo hz out e h =
-    rw e (record { passed = omega arith; samples = omega arith; frames = refl; messages = refl; end = omega arith; room = refl; beside = λ z. h })
+pub passed-leads : (l b : Listener) (m : Lists) (out : List ℕ) → b ≡ passedAs l → Single (l .tracker) m
+    → Leads l (record { refused = 0; end = 0; listener = b }) m out out
+passed-leads l b m out e h =
+    rw e (record { passed = omega arith; samples = omega arith; frames = refl; messages = refl; end = omega arith; room = refl; single = h })
 
 -- ---- the receiver's side behind the tracker's
 
-pub led-room : (l : Listener) (f : Followed) (at lo : List ℕ) (hz : List Float) (out out′ : List ℕ) → Leads l f at lo hz out out′ → Room most l
+pub led-room : (l : Listener) (f : Followed) (m : Lists) (out out′ : List ℕ) → Leads l f m out out′ → Room most l
     → (f .listener .passed ≤ 2 ^ 53) × (f .listener .frames + most < 2 ^ 64) × (f .listener .messages + most < 2 ^ 64)
-led-room l f at lo hz out out′ x r = (omega (arith, x .passed, r .passed), omega (arith, x .frames, r .frames), omega (arith, x .messages, r .messages))
+led-room l f m out out′ x r = (omega (arith, x .passed, r .passed), omega (arith, x .frames, r .frames), omega (arith, x .messages, r .messages))
 
 -- a refusal of the tracker's side
-pub stop-steps : (l : Listener) (f : Followed) (v : SigfoxReceiver) (at lo : List ℕ) (hz : List Float) (out out′ : List ℕ) → Leads l f at lo hz out out′
-    → Steps l (record { refused = f .refused; end = f .end; listener = f .listener; receiver = v }) at lo hz out out′
-stop-steps l f v at lo hz out out′ x =
+pub stop-steps : (l : Listener) (f : Followed) (v : SigfoxReceiver) (m : Lists) (out out′ : List ℕ) → Leads l f m out out′
+    → Steps l (record { refused = f .refused; end = f .end; listener = f .listener; receiver = v }) m out out′
+stop-steps l f v m out out′ x =
     record {
       near = record { passed = omega (arith, x .passed); samples = omega (arith, x .samples); frames = omega (arith, x .frames); messages = omega (arith, x .messages) };
       end = omega (arith, x .end);
       room = x .room;
-      beside = x .beside;
+      single = x .single;
     }
 
 -- or both
-pub both-steps : (l : Listener) (f : Followed) (s : Stepped) (at lo : List ℕ) (hz : List Float) (out mid out′ : List ℕ) → f .refused ≡ 0 → Leads l f at lo hz out mid → Receives (f .listener) s mid out′
-    → Steps l s at lo hz out out′
-both-steps l f s at lo hz out mid out′ z x r =
+pub both-steps : (l : Listener) (f : Followed) (s : Stepped) (m : Lists) (out mid out′ : List ℕ) → Leads l f m out mid → Receives (f .listener) s mid out′
+    → Steps l s m out out′
+both-steps l f s m out mid out′ x r =
     record {
       near =
           record {
@@ -276,7 +258,7 @@ both-steps l f s at lo hz out mid out′ z x r =
           };
       end = r .end;
       room = r .room ∙ x .room;
-      beside = λ w. rw (r .tracker) (x .beside z);
+      single = rw (r .tracker) (x .single);
     }
 
 pub goes-as : {w v : Went} {out : List ℕ} {r : Stepped} {m : Lists} {places : List Float} {out′ : List ℕ} → w ≡ v → Goes w out r m places out′ → Goes v out r m places out′

@@ -7,7 +7,8 @@ use lib.ListN.{length, take, drop}
 use lib.Ieee.{Float}
 use Rattle.ledger.specs.Ledger.{byFrames, Ledger, pushRaw}
 use Rattle.frequency.specs.Lent.{Lists}
-use Rattle.frequency.specs.Calls.{fresh, Beside}
+use Rattle.frequency.specs.Calls.{fresh}
+use Rattle.frequency_grown.specs.Rising.{Single}
 use Rattle.receiver.specs.declared.SigfoxReceiver.{SigfoxReceiver}
 use Rattle.listening_lines.specs.Text.{widest, Added}
 use Rattle.listening_receiver.specs.Hearing.{rate, most}
@@ -81,22 +82,22 @@ pub record Follows (went : Ledger byFrames → Went) (raw : List ℕ) (r : Follo
   pub added : r .refused ≡ 0 → Added out 0 text (r .end) out′
   pub on : r .refused ≡ 0 → (g : Ledger byFrames) → received (stateOf (r .listener) m g) text (pushRaw raw) ≡ went g
 
--- what it bounds
-pub record Leads (l : Listener) (r : Followed) (at lo : List ℕ) (hz : List Float) (out out′ : List ℕ) : Type 0 where
+-- what it bounds; the tracker is known to be in order, with one register value a record
+pub record Leads (l : Listener) (r : Followed) (m : Lists) (out out′ : List ℕ) : Type 0 where
   pub passed : r .listener .passed ≤ l .passed + samplesEach
   pub samples : r .listener .samples ≤ l .samples + samplesEach
   pub frames : r .listener .frames ≡ l .frames
   pub messages : r .listener .messages ≡ l .messages
   pub end : r .end ≤ widest
   pub room : length out′ ≡ length out
-  pub beside : r .refused ≡ 0 → Beside (r .listener .tracker) at lo hz
+  pub single : Single (r .listener .tracker) m
 
--- what bounds a record's counts and text; where none of its calls was refused, the tracker's readings stand in their lists
-pub record Steps (l : Listener) (r : Stepped) (at lo : List ℕ) (hz : List Float) (out out′ : List ℕ) : Type 0 where
+-- what bounds a record's counts and text, and the same of the tracker
+pub record Steps (l : Listener) (r : Stepped) (m : Lists) (out out′ : List ℕ) : Type 0 where
   pub near : Near most l (r .listener)
   pub end : r .end ≤ outPlaces
   pub room : length out′ ≡ length out
-  pub beside : r .refused ≡ 0 → Beside (r .listener .tracker) at lo hz
+  pub single : Single (r .listener .tracker) m
 
 -- ---- a list of records
 
@@ -106,7 +107,7 @@ pub record Reached (read : List ℕ) (n : ℕ) (l : Listener) (receiver : Sigfox
   pub ledger : Ledger byFrames
   pub stands : StandsFor receiver places ledger
   pub state : stateOf l m ledger ≡ after n nothingHeard read
-  pub beside : Beside (l .tracker) (m .at) (m .lo) (m .hz)
+  pub single : Single (l .tracker) m
 
 -- some input of whole records has brought it here
 pub record Come (l : Listener) (receiver : SigfoxReceiver) (m : Lists) (places : List Float) : Type 0 where

@@ -4,8 +4,8 @@ ghost use mathlib.Core.List.{List, _++_};
 ghost use Prim.Native.Nat.{ℕ, _+_, _^_, _≤_, _<_};
 ghost use lib.ListN.{length};
 ghost use Rattle.ledger.specs.Ledger.{byFrames, Ledger, pushRaw};
-ghost use Rattle.frequency.specs.Lent.{lists};
-ghost use Rattle.frequency.specs.Calls.{Beside};
+ghost use Rattle.frequency.specs.Lent.{Lists, lists};
+ghost use Rattle.frequency_grown.specs.Rising.{Single};
 ghost use Rattle.listening_lines.specs.Text.{widest, Added};
 ghost use Rattle.listening_tracker.specs.Turn.{readingPlaces, turn};
 ghost use Rattle.listening_receiver.specs.Hearing.{most};
@@ -32,6 +32,7 @@ const SAMPLES: u64 = 8;
 // The base frequency is that of the first record that isn't 0 (02, request 04).
 fn begin(l: Listener, now_hz: u32) -> Listener
     ensures { λ r. ⌜ r ≡ begunAs l «now_hz» ⌝ }
+    ensures { λ r. ⌜ ((m : Lists) → Single (l .tracker) m → Single (r .tracker) m) ⌝ }
 {
     if l.started {
         return l;
@@ -139,12 +140,12 @@ fn track(
     scratch: &mut [f64; 8000],
     out: &mut [u8],
 ) -> Followed
-    requires { ⌜ (Beside (l .tracker) (now at) (now lo) (now hz)) × (Room most l) × (outPlaces ≤ length (now out)) ⌝ }
+    requires { ⌜ (Single (l .tracker) (lists (now at) (now lo) (now hz) (now tuned) (now freq))) × (Room most l) × (outPlaces ≤ length (now out)) ⌝ }
     ensures { λ r. ⌜ ((raw : List ℕ) → Follows
         (λ (g : Ledger byFrames). turned (stateOf l (lists (now (at .entry)) (now (lo .entry)) (now (hz .entry)) (now (tuned .entry)) (now (freq .entry))) g) raw
         (turn readingPlaces «now_hz» (now (dbm .entry)) cfo (l .tracker) (lists (now (at .entry)) (now (lo .entry)) (now (hz .entry)) (now (tuned .entry)) (now (freq .entry)))))
         raw r (lists (now (at .exit)) (now (lo .exit)) (now (hz .exit)) (now (tuned .exit)) (now (freq .exit))) (now (out .entry)) (now (out .exit))) ⌝ }
-    ensures { λ r. ⌜ Leads l r (now (at .exit)) (now (lo .exit)) (now (hz .exit)) (now (out .entry)) (now (out .exit)) ⌝ }
+    ensures { λ r. ⌜ Leads l r (lists (now (at .exit)) (now (lo .exit)) (now (hz .exit)) (now (tuned .exit)) (now (freq .exit))) (now (out .entry)) (now (out .exit)) ⌝ }
 {
     let tracker = l.tracker;
     let t = listening_tracker::track(tracker, now_hz, dbm, cfo, at, lo, hz, tuned, freq, scratch);
@@ -189,11 +190,11 @@ fn follow(
     scratch: &mut [f64; 8000],
     out: &mut [u8],
 ) -> Followed
-    requires { ⌜ (Beside (l .tracker) (now at) (now lo) (now hz)) × (Room most l) × (outPlaces ≤ length (now out)) × (length (now bytes) ≡ 16) ⌝ }
+    requires { ⌜ (Single (l .tracker) (lists (now at) (now lo) (now hz) (now tuned) (now freq))) × (Room most l) × (outPlaces ≤ length (now out)) × (length (now bytes) ≡ 16) ⌝ }
     ensures { λ r. ⌜ Follows
         (λ (g : Ledger byFrames). program.step (stateOf l (lists (now (at .entry)) (now (lo .entry)) (now (hz .entry)) (now (tuned .entry)) (now (freq .entry))) g) (now (bytes .entry)))
         (rawOf (now (bytes .entry))) r (lists (now (at .exit)) (now (lo .exit)) (now (hz .exit)) (now (tuned .exit)) (now (freq .exit))) (now (out .entry)) (now (out .exit)) ⌝ }
-    ensures { λ r. ⌜ Leads l r (now (at .exit)) (now (lo .exit)) (now (hz .exit)) (now (out .entry)) (now (out .exit)) ⌝ }
+    ensures { λ r. ⌜ Leads l r (lists (now (at .exit)) (now (lo .exit)) (now (hz .exit)) (now (tuned .exit)) (now (freq .exit))) (now (out .entry)) (now (out .exit)) ⌝ }
 {
     let now_hz = endian::get_u32(bytes, 10);
     let waits = !l.started & (now_hz == 0);
@@ -241,11 +242,11 @@ pub fn record_step(
     out: &mut [u8],
 ) -> Stepped
     requires { ⌜ Standing receiver (now samples) ⌝ }
-    requires { ⌜ (Beside (l .tracker) (now at) (now lo) (now hz)) × (Room most l) × (outPlaces ≤ length (now out)) × (length (now bytes) ≡ 16) ⌝ }
+    requires { ⌜ (Single (l .tracker) (lists (now at) (now lo) (now hz) (now tuned) (now freq))) × (Room most l) × (outPlaces ≤ length (now out)) × (length (now bytes) ≡ 16) ⌝ }
     ensures { λ r. ⌜ ((g : Ledger byFrames) → StandsFor receiver (now (samples .entry)) g
         → Goes (program.step (stateOf l (lists (now (at .entry)) (now (lo .entry)) (now (hz .entry)) (now (tuned .entry)) (now (freq .entry))) g) (now (bytes .entry)))
         (now (out .entry)) r (lists (now (at .exit)) (now (lo .exit)) (now (hz .exit)) (now (tuned .exit)) (now (freq .exit))) (now (samples .exit)) (now (out .exit))) ⌝ }
-    ensures { λ r. ⌜ Steps l r (now (at .exit)) (now (lo .exit)) (now (hz .exit)) (now (out .entry)) (now (out .exit)) ⌝ }
+    ensures { λ r. ⌜ Steps l r (lists (now (at .exit)) (now (lo .exit)) (now (hz .exit)) (now (tuned .exit)) (now (freq .exit))) (now (out .entry)) (now (out .exit)) ⌝ }
 {
     let f = follow(l, bytes, at, lo, hz, tuned, freq, scratch64, out);
     let listener = f.listener;

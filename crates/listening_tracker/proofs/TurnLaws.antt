@@ -1,6 +1,6 @@
 -- A record's calls of the tracker, one behind the other. Assumes nothing.
 use Prim.Native.Nat.{ℕ, zero, suc, _≤_}
-use mathlib.Core.Path.{_≡_, refl, sym, _∙_}
+use mathlib.Core.Path.{_≡_, refl, sym, _∙_, subst}
 use mathlib.Core.List.{List, [], _∷_}
 use native.Mathlib.Omega.{arith}
 use borrow.Author.Tests.{eq-eqb, ne-eqb}
@@ -12,7 +12,10 @@ use Rattle.frequency.specs.declared.Next.{Next}
 use Rattle.frequency.specs.Lent.{Lists, lists, tracker, packed, stored}
 use Rattle.frequency.specs.Order.{causeTuned, causeSamples, causeCfo, causeNext}
 use Rattle.frequency.specs.Tracker.{tuned, samples, cfo, nextTuning, afterTuning}
-use Rattle.frequency.specs.Calls.{Beside, TunedEnd, SamplesEnd, CfoEnd, NextEnd}
+use Rattle.frequency.specs.Calls.{TunedEnd, SamplesEnd, CfoEnd, NextEnd}
+use Rattle.frequency.proofs.Grown.{sound, counts-of}
+use Rattle.frequency_grown.specs.Rising.{Single}
+use Rattle.frequency_grown.proofs.RisingLaws.{single-grown}
 use Rattle.listening_tracker.specs.Turn.{Turn, stop, on, unless, nextTurn, cfoTurn, samplesTurn, tunedTurn, turn, Stops, Turned}
 
 -- a call that was refused is the last
@@ -28,6 +31,10 @@ past k s l t x m e h = rw e h
 -- a refusal by another name of its number
 as-stop : (r k : ℕ) (s : FrequencyTracker) (x : Next) → r ≡ k → Stops r s x → Stops k s x
 as-stop r k s x e h = rw e at h
+
+-- the tracker that a refused call left, in the answer
+pub kept : (k : ℕ) (s t : FrequencyTracker) (m : Lists) (x : Next) → Stops k s x → t ≡ s → Single t m → Single (x .tracker) m
+kept k s t m x e h g = subst (λ (y : FrequencyTracker). Single y m) (h ∙ sym (e .1)) g
 
 -- the last call
 pub next-turned : (room : ℕ) (s : FrequencyTracker) (l : Lists) (out out′ : List Float) (x : Next) → length out ≡ room → NextEnd s l out (x .refused) (x .tracker) (x .tune) out′
@@ -70,9 +77,11 @@ module _ (s : FrequencyTracker) (hz : ℕ) (dbm : List Float) (at lo : List ℕ)
       at-stop (causeTuned s tun fre hz) s (lists at lo hzs tun fre) _ _ x (λ (z : causeTuned s tun fre hz ≡ 0). h (e .refusal ∙ z)) (as-stop r _ s x (e .refusal) g)
       (rw (e .same-lent h .0, e .same-lent h .1) refl)
 
-  pub tuned-on : (n : Lists) → r ≡ 0 → Beside s at lo hzs → Turned (samplesTurn room dbm reg t (lists at lo hzs tun′ fre′)) x n → Turned (tunedTurn room hz dbm reg s (lists at lo hzs tun fre)) x n
+  pub tuned-on : (n : Lists) → r ≡ 0 → Single s (lists at lo hzs tun fre) → Turned (samplesTurn room dbm reg t (lists at lo hzs tun′ fre′)) x n → Turned (tunedTurn room hz dbm reg s (lists at lo hzs tun fre)) x n
   unfolding tunedTurn
-  tuned-on n z b h = past (causeTuned s tun fre hz) s (lists at lo hzs tun fre) _ x n (sym (e .refusal) ∙ z) (rw (e .state z at lo hzs b, e .lent z at lo hzs b) at h)
+  tuned-on n z g h =
+      let b = counts-of s (lists at lo hzs tun fre) (sound (single-grown g)) .beside in
+      past (causeTuned s tun fre hz) s (lists at lo hzs tun fre) _ x n (sym (e .refusal) ∙ z) (rw (e .state z at lo hzs b, e .lent z at lo hzs b) at h)
 
 -- a record whose receiver frequency is 0, and one whose isn't
 pub turn-of-0 : (room hz : ℕ) (dbm : List Float) (reg : ℕ) (s : FrequencyTracker) (l m : Lists) (x : Next) → hz ≡ 0 → Turned (samplesTurn room dbm reg s l) x m → Turned (turn room hz dbm reg s l) x m

@@ -1,7 +1,7 @@
-// The tracker's side of one record of `listen` (01, frequency.rs).
+// The tracker's side of one record of `listen` (01, frequency.rs), by a tracker that is known to be in order.
 ghost use mathlib.Core.Path.{_≡_};
 ghost use Rattle.frequency.specs.Lent.{lists};
-ghost use Rattle.frequency.specs.Calls.{Beside};
+ghost use Rattle.frequency_grown.specs.Rising.{Single};
 ghost use Rattle.listening_tracker.specs.Turn.{readingPlaces, turn, samplesTurn, cfoTurn, Stops, Turned};
 use frequency::FrequencyTracker;
 use frequency::Next;
@@ -30,16 +30,18 @@ fn read(
     freq: &[u32; 64],
     scratch: &mut [f64; 8000],
 ) -> Next
+    requires { ⌜ Single t (lists (now at) (now lo) (now hz) (now tuned) (now freq)) ⌝ }
     ensures { λ r. ⌜ Turned (cfoTurn readingPlaces cfo t (lists (now (at .entry)) (now (lo .entry)) (now (hz .entry)) (now (tuned .entry)) (now (freq .entry))))
         r (lists (now (at .exit)) (now (lo .exit)) (now (hz .exit)) (now (tuned .entry)) (now (freq .entry))) ⌝ }
+    ensures { λ r. ⌜ Single (r .tracker) (lists (now (at .exit)) (now (lo .exit)) (now (hz .exit)) (now (tuned .entry)) (now (freq .entry))) ⌝ }
 {
     let register = [cfo];
-    let c = t.cfo(&register, at, lo, hz, tuned, freq);
+    let c = frequency_grown::cfo(t, &register, at, lo, hz, tuned, freq);
     if c.refused != 0 {
         return refused(t, c.refused);
     }
     let last = c.tracker;
-    last.next_tuning(at, lo, hz, tuned, freq, scratch)
+    frequency_grown::next_tuning(last, at, lo, hz, tuned, freq, scratch)
 }
 
 // `samples`, and what follows.
@@ -54,10 +56,12 @@ fn hear(
     freq: &mut [u32; 64],
     scratch: &mut [f64; 8000],
 ) -> Next
+    requires { ⌜ Single t (lists (now at) (now lo) (now hz) (now tuned) (now freq)) ⌝ }
     ensures { λ r. ⌜ Turned (samplesTurn readingPlaces (now (dbm .entry)) cfo t (lists (now (at .entry)) (now (lo .entry)) (now (hz .entry)) (now (tuned .entry)) (now (freq .entry))))
         r (lists (now (at .exit)) (now (lo .exit)) (now (hz .exit)) (now (tuned .exit)) (now (freq .exit))) ⌝ }
+    ensures { λ r. ⌜ Single (r .tracker) (lists (now (at .exit)) (now (lo .exit)) (now (hz .exit)) (now (tuned .exit)) (now (freq .exit))) ⌝ }
 {
-    let b = t.samples(dbm, at, lo, hz, tuned, freq);
+    let b = frequency_grown::samples_rising(t, dbm, at, lo, hz, tuned, freq);
     if b.refused != 0 {
         return refused(t, b.refused);
     }
@@ -78,9 +82,10 @@ pub fn track(
     freq: &mut [u32; 64],
     scratch: &mut [f64; 8000],
 ) -> Next
-    requires { ⌜ Beside t (now at) (now lo) (now hz) ⌝ }
+    requires { ⌜ Single t (lists (now at) (now lo) (now hz) (now tuned) (now freq)) ⌝ }
     ensures { λ r. ⌜ Turned (turn readingPlaces «now_hz» (now (dbm .entry)) cfo t (lists (now (at .entry)) (now (lo .entry)) (now (hz .entry)) (now (tuned .entry)) (now (freq .entry))))
         r (lists (now (at .exit)) (now (lo .exit)) (now (hz .exit)) (now (tuned .exit)) (now (freq .exit))) ⌝ }
+    ensures { λ r. ⌜ Single (r .tracker) (lists (now (at .exit)) (now (lo .exit)) (now (hz .exit)) (now (tuned .exit)) (now (freq .exit))) ⌝ }
 {
     if now_hz == 0 {
         return hear(t, dbm, cfo, at, lo, hz, tuned, freq, scratch);

@@ -59,7 +59,7 @@ record-step-requires c κs =
     let x = reached _ _ _ _ _ _ _ _ _ _ _ _ _ _ _ _ (c .before .before .before .before .before .before .before .before .before .before .before .if1 .taken) a (s .pre .0) in (
       record { ledger = x .ledger; stands = x .stands },
       (
-        x .beside,
+        x .single,
         loop-room _ _ _ (omega (arith, less, from, p .2)) (a .near) (p .3),
         omega (arith, a .room, p .4),
         next-wide (s .args .input .now) (c .before .before .before .before .before .before .before .before .before .before .before .before .before .loop .i) (16 * (c .before .before .before .before .before .before .before .before .before .before .before .before .before .loop .i) + 16) refl (omega (arith, less, p .1)),

@@ -7,7 +7,7 @@ use lib.ListN.{length, take}
 use lib.Seq.{length-take-le}
 use Rattle.ledger.specs.Ledger.{byFrames, Ledger}
 use Rattle.listening_lines.proofs.TextLaws.{nothing}
-use Rattle.listening.proofs.StepLaws.{dbm-is, begun-room, begun-lists, begun-leads, step-is, passed-is, passed-leads, follows-as}
+use Rattle.listening.proofs.StepLaws.{dbm-is, begun-room, begun-leads, step-is, passed-is, passed-leads, follows-as}
 use borrow.Author.Needs.{needs}
 use Rattle.listening.proofs.stepping.follow.Statement.{statement}
 use Rattle.listening.proofs.stepping.follow.Tie as tie
@@ -39,7 +39,7 @@ returns c =
         added = λ w. nothing _ 0;
         on = λ w g. passed-is (s .args .l) (b .result) _ g (s .args .bytes .now) _ (b .ensures) (c .before .before .before .get-u32 .ensures) (c .before .if1 .taken);
       },
-      passed-leads (s .args .l) (b .result) _ _ _ _ (b .ensures) (s .pre .0),
+      passed-leads (s .args .l) (b .result) _ _ (b .ensures) (s .pre .0),
     )
 
 -- src/stepping.rt:219:9
@@ -71,7 +71,7 @@ track-requires : tie.Need-track-requires
 track-requires c κs =
     let s = c .before .before .before .before .before .before .before .before .before .before .before .before .before .before .before .before .before .before .before in
     let b = c .before .before .before .before .before .before .before .before .begin .ensures in
-    (begun-lists _ _ _ b _ _ _ (s .pre .0), begun-room _ _ _ b _ (s .pre .1), s .pre .2)
+    (b .1 _ (s .pre .0), begun-room _ _ _ (b .0) _ (s .pre .1), s .pre .2)
 
 -- src/stepping.rt:192:1
 same-length : tie.Need-same-length
@@ -89,8 +89,8 @@ returns-2 c =
     let u = c .before .before .before .before .before .before .before .before .before .before .before .before .before .before .before .before .before .before .before .get-u32 .ensures in
     let v = c .before .before .before .before .before .before .before .before .before .before .before .before .before .before .before .before .get-u16 .ensures in
     let w = c .before .before .before .before .before .before .before .before .before .before .before .before .before .before .before .before .before .if1 .left in (
-      follows-as (x .0 raw) (λ (g : Ledger byFrames). step-is (s .args .l) (b .result) _ (b .ensures) _ g (s .args .bytes .now) _ _ _ refl d u v w),
-      begun-leads (s .args .l) (b .result) _ (b .ensures) _ _ _ _ _ _ (x .1),
+      follows-as (x .0 raw) (λ (g : Ledger byFrames). step-is (s .args .l) (b .result) _ (b .ensures .0) _ g (s .args .bytes .now) _ _ _ refl d u v w),
+      begun-leads (s .args .l) (b .result) _ (b .ensures .0) _ _ _ _ (x .1),
     )
 
 pub follow-spec : {M : Type 1} → statement M

@@ -31,7 +31,7 @@ returns c =
     let f = c .before .before .before .before .before .follow in
     let n : f .result .refused ≡ 0 → ⊥ = omega (arith, c .if1 .taken) in (
       λ (g : Ledger byFrames) (st : StandsFor (s .args .receiver) (s .args .samples .now) g). f .ensures .0 .stops n g _ _ st,
-      stop-steps (s .args .l) (f .result) _ _ _ _ _ _ (f .ensures .1),
+      stop-steps (s .args .l) (f .result) _ _ _ _ (f .ensures .1),
     )
 
 -- src/stepping.rt:275:9
@@ -43,7 +43,7 @@ receive-requires : tie.Need-receive-requires
 receive-requires c κs =
     let p = c .before .before .before .before .before .before .before .before .before .before .before .before .before .before .before .before .before .before .before .before .before .before .before .before .pre in
     let f = c .before .before .before .before .before .before .before .before .before .before .before .before .before .before .follow .ensures .1 in
-    let q = led-room _ _ _ _ _ _ _ f (p .1 .1) in
+    let q = led-room _ _ _ _ _ f (p .1 .1) in
     (p .0, (f .end, omega (arith, f .room, p .1 .2), q .0, q .1, q .2))
 
 -- src/stepping.rt:239:1
@@ -59,7 +59,7 @@ returns-2 c =
     let r = c .before .before .receive .ensures in
     let z : f .result .refused ≡ 0 = omega (arith, c .before .before .before .before .before .before .before .before .before .before .before .before .if1 .left) in (
       λ (g : Ledger byFrames) (st : StandsFor (s .args .receiver) (s .args .samples .now) g). goes-as (h .on z g) (r .0 g _ _ _ (h .text) st (h .added z)),
-      both-steps (s .args .l) (f .result) _ _ _ _ _ _ _ z (f .ensures .1) (r .1),
+      both-steps (s .args .l) (f .result) _ _ _ _ _ (f .ensures .1) (r .1),
     )
 
 pub record-step-spec : {M : Type 1} → statement M

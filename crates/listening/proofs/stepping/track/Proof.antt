@@ -4,7 +4,7 @@ use mathlib.Core.List.{List, []}
 use Prim.Native.Nat.{ℕ}
 use native.Mathlib.Omega.{arith}
 use Rattle.listening_lines.specs.Lines.{tuneLine}
-use Rattle.listening.proofs.StepLaws.{goes-stop, turned-on, turn-fit, still-beside}
+use Rattle.listening.proofs.StepLaws.{goes-stop, turned-on, turn-fit}
 use borrow.Author.Needs.{needs}
 use Rattle.listening.proofs.stepping.track.Statement.{statement}
 use Rattle.listening.proofs.stepping.track.Tie as tie
@@ -34,12 +34,12 @@ returns c =
     let n : t .result .refused ≡ 0 → ⊥ = omega (arith, c .before .before .before .before .if1 .taken) in (
       λ (raw : List ℕ).
           record {
-            stops = λ k g v places st. goes-stop _ raw _ _ _ _ _ _ v places (t .ensures) n st (a .0);
+            stops = λ k g v places st. goes-stop _ raw _ _ _ _ _ _ v places (t .ensures .0) n st (a .0);
             text = [];
             added = λ z. absurd (n z);
             on = λ z. absurd (n z);
           },
-      record { passed = omega arith; samples = omega arith; frames = refl; messages = refl; end = omega (arith, a .1); room = a .0 .room; beside = λ z. absurd (n z) },
+      record { passed = omega arith; samples = omega arith; frames = refl; messages = refl; end = omega (arith, a .1); room = a .0 .room; single = t .ensures .1 },
     )
 
 -- src/stepping.rt:175:9
@@ -66,7 +66,7 @@ returns-2 c =
             stops = λ k. absurd (k refl);
             text = tuneLine (t .result .tune);
             added = λ w. a .0;
-            on = λ w g. turned-on _ raw _ _ _ fit (t .ensures) z;
+            on = λ w g. turned-on _ raw _ _ _ fit (t .ensures .0) z;
           },
       record {
         passed = omega arith;
@@ -75,7 +75,7 @@ returns-2 c =
         messages = refl;
         end = omega (arith, a .1);
         room = a .0 .room;
-        beside = λ w. still-beside _ _ _ fit (t .ensures) z;
+        single = t .ensures .1;
       },
     )
 
