@@ -581,7 +581,47 @@ def attribute(crate):
             open(p, "w", encoding="utf-8").write("\n".join(ls))
 
 
+def derive(crate, said):
+    """Writes #[derive(Clone, Copy)] where the check says that a type of this crate is moved."""
+    done = 0
+    for full in sorted(set(re.findall(r"`([\w:]+)` does not derive `Copy`", said))):
+        parts = full.split("::")
+        if parts[0] != os.path.basename(crate):
+            print(f"{full} of another crate is moved: derive Clone, Copy there")
+            continue
+        for folder, _, files in os.walk(os.path.join(crate, "src")):
+            for n in files:
+                p = os.path.join(folder, n)
+                t = open(p, encoding="utf-8").read()
+                m = re.search(r"^([ \t]*)(#\[derive\(([^)]*)\)\]\n[ \t]*)?((?:pub )?(?:struct|enum) " + parts[-1] + r"\b)", t, re.M)
+                if m:
+                    have = [x.strip() for x in (m.group(3) or "").split(",") if x.strip()]
+                    if "Copy" in have:
+                        continue
+                    have = ["Clone", "Copy"] + [x for x in have if x not in ("Clone", "Copy", "Drop")]
+                    t = t[:m.start()] + f"{m.group(1)}#[derive({', '.join(have)})]\n{m.group(1)}{m.group(4)}" + t[m.end():]
+                    open(p, "w", encoding="utf-8").write(t)
+                    print(f"{full}: derives {', '.join(have)}")
+                    done += 1
+    return done
+
+
+def ready(crate):
+    """The check of the source alone, with what it says mended; what it says at last"""
+    for k in range(8):
+        r = subprocess.run(["rt", "check", "--generated", "/tmp/turned/source", "--old-names"], cwd=crate, stdout=subprocess.PIPE, stderr=subprocess.STDOUT)
+        said = r.stdout.decode(errors="replace")
+        if "generated=" in said:
+            return True
+        if not derive(crate, said):
+            print("the source does not check:")
+            print("\n".join(l[:400] for l in said.split("\n")[:60]))
+            return False
+
+
 def turn(crate, only):
+    if not ready(crate):
+        raise SystemExit(1)
     aside(crate, only)
     names = names_of(crate)
     for f, p in functions(crate):
