@@ -13,13 +13,13 @@ import json, os, re, shutil, subprocess, sys
 
 SAVED = os.environ.get("TURNED", "/tmp/turned")
 ID = r"[A-Za-zα-ωΑ-Ωℕ«_+\U0001D400-\U0001D7FF][\w\-'’«»₀-₉+]*"
-PATH = re.compile(r"(?<![\w.\-'«»₀-₉])((?:«[\w\-]+»|[A-Za-zα-ωκ_][\w\-'₀-₉]*)(?:\.(?:«[\w\-]+»|[A-Za-z_+][\w\-'₀-₉+]*|\d+))*)")
+PATH = re.compile(r"(?<![\w.\-'«»₀-₉])((?:«[\w\-]+»|[A-Za-zα-ωκ_][\w\-'₀-₉]*)(?:\.(?:«[\w\-]+»|[A-Za-z_+‡][\w\-'₀-₉+]*|\d+))*)")
 ROOT = {"args", "requires", "ranges", "well_formed", "utf8", "lifetimes", "type_inv_args"}
 TRIVIAL = re.compile(r"^(search rules|omega arith|omega \(arith\)|tt|\(tt, tt\)|\(omega arith, omega arith\)|\(search rules, search rules\)|\(search rules, omega arith\)|\(omega arith, search rules\))$")
 
 
 def norm(s):
-    return s.replace("-", "_").replace("«", "").replace("»", "")
+    return s.replace("-", "_").replace("«", "").replace("»", "").lower()
 
 
 def names_of(crate):
@@ -60,9 +60,13 @@ class Fn:
 class Turn:
     """The rewriting of one declaration's text."""
 
+    accessors, wants = {}, {}
+
     def __init__(self, fn, warn, defs, goalname=None):
         self.fn, self.warn, self.defs, self.goalname = fn, warn, defs, goalname
         self.env = {}
+        self.steps = {}
+        self.step = None
         self.used_places = set()
 
     def bare(self, base, p):
@@ -80,28 +84,28 @@ class Turn:
         self.warn(f"no way from {home} to {p}")
         return var
 
-    def resolve(self, comps):
-        """comps after the variable -> text, or ('place', p)"""
-
     def path(self, text):
+        """what a path is: ('text', t) of a field, ('place', base, p) of a record, or None"""
         comps = text.split(".")
         v = comps[0]
+        if v in self.steps and len(comps) > 1:
+            return ("text", ".".join([v] + self.tail(self.steps[v], [field(x) for x in comps[1:]])))
         if v not in self.env:
             return None
         base, p = self.env[v]
         rest = comps[1:]
         fn = self.fn
-        while rest and rest[0] == "before":
-            rest.pop(0)
-            if p in fn.place and fn.place[p]["parent"] is not None:
+        while rest and (rest[0] == "before" or rest[0].startswith("‡")):
+            c = rest.pop(0)
+            if c != "before":
+                p = c[1:]
+            elif p in fn.place and fn.place[p]["parent"] is not None:
                 p = fn.place[p]["parent"]
-            else:
-                self.warn(f"too many .before in {text}")
-                break
         if not rest:
             return ("place", base, p)
         var, home = base
         s = norm(rest[0])
+        s = {"pre": "requires", "well_formed": "well_formed"}.get(s, s)
         tail = [field(x) for x in rest[1:]]
         if s in ROOT:
             return ("text", ".".join([var, s] + tail))
@@ -109,20 +113,39 @@ class Turn:
         down = [q for q in fn.ancestors(home) if q not in anc][::-1]
         for k, q in enumerate(anc + down):
             if norm(fn.place[q]["step"][0]) == s:
-                if k:
-                    self.warn(f"step {rest[0]} of {text} found at {fn.place[q]['old']}, wanted at {fn.place[p]['old']}")
-                return ("text", ".".join([var, fn.place[q]["step"][1]] + tail))
+                self.step = q if not tail else None
+                return ("text", ".".join([var, fn.place[q]["step"][1]] + self.tail(q, tail)))
         # the goal's own fields
         if s in ("type_inv", "auto", "ensures", "shown", "either", "branch", "kept"):
             return ("text", ".".join([var, s] + tail))
         self.warn(f"step {rest[0]} of {text} not found from {fn.place[p]['old'] if p in fn.place else p}")
         return ("text", ".".join([var, rest[0]] + tail))
 
+    def tail(self, q, tail):
+        """the fields after a step: what a &mut argument contains afterwards goes by the parameter's name"""
+        if tail and tail[0] in ("new", "last"):
+            tail = ["new"] + tail[1:]
+            params = self.fn.d["params"].get(self.fn.place[q]["callee"] or "")
+            k = 1
+            while k < len(tail) and tail[k] == "1":
+                k += 1
+            if params and k < len(tail) and tail[k] == "0" and k - 1 < len(params):
+                tail = ["new", params[k - 1]] + tail[k + 1:]
+        return tail
+
     def body(self, text):
         """rewrite a body (after the binders are in env)"""
         # lets of places vanish
         out = []
         pos = 0
+        while self.accessors:
+            names = "|".join(re.escape(x) for x in sorted(self.accessors, key=len, reverse=True))
+            arg = PATH.pattern.replace("(?<![\\w.\\-'«»₀-₉])", "", 1)
+            m = re.search(r"\((" + names + r")\s+" + arg + r"\)|(?<![\w.\-'«»₀-₉])(" + names + r")\s+" + arg, text)
+            if not m:
+                break
+            name, what = (m.group(1), m.group(2)) if m.group(1) else (m.group(3), m.group(4))
+            text = text[:m.start()] + what + ".‡" + self.accessors[name] + text[m.end():]
         let = re.compile(r"let\s+(«?[\w\-'₀-₉]+»?)\s*=\s*")
         while True:
             m = let.search(text, pos)
@@ -135,7 +158,11 @@ class Turn:
             done = False
             if pm:
                 after = re.match(r"\s+in\b[ \t]*\n?[ \t]*", text[pm.end():])
+                self.step = None
                 r = self.path(pm.group(1)) if after else None
+                self.steps.pop(name, None)
+                if r and r[0] == "text" and self.step:
+                    self.steps[name] = self.step
                 if r and r[0] == "place":
                     self.env[name] = (r[1], r[2])
                     pos = pm.end() + after.end()
@@ -158,7 +185,10 @@ class Turn:
                 return t
             if r[0] == "text":
                 return r[1]
-            return self.bare(r[1], r[2])
+            # an argument of a helper goes to the place that the helper takes
+            w = re.search(r"(?<![\w.\-'«»₀-₉])([^\s()]+)\s+$", text[:m.start()])
+            p = self.wants.get(w.group(1), r[2]) if w else r[2]
+            return self.bare(r[1], p)
         return PATH.sub(one, text)
 
 
@@ -272,6 +302,35 @@ def binders(sigtext):
     return out
 
 
+def arrows(s):
+    """the parts of a type at its outer arrows"""
+    out, depth, cur = [], 0, ""
+    for ch in s:
+        if ch in "({[":
+            depth += 1
+        elif ch in ")}]":
+            depth -= 1
+        if ch == "→" and depth == 0:
+            out.append(cur.strip())
+            cur = ""
+        else:
+            cur += ch
+    return out + [cur.strip()]
+
+
+def explicit_args(s):
+    """[(name or None, type)] of the explicit arguments of a type, and the type that it gives"""
+    ps = arrows(s)
+    out = []
+    for q in ps[:-1]:
+        bs = binders(q)
+        if bs:
+            out += [(nm, ty) for nm, ty, ex, i, j in bs if ex]
+        elif not q.startswith("{"):
+            out.append((None, q))
+    return out, ps[-1]
+
+
 PLACE_TYPE = re.compile(r"\b(?:tie|lts)\.([A-Z][\w\-₀-₉]*)")
 
 
@@ -353,6 +412,42 @@ def invariants(fn, ds, warn):
     return out, done
 
 
+def place_of(fn, ty):
+    m = re.match(r"^\(?(?:tie|lts)\.([A-Z][\w\-₀-₉]*)", ty.strip())
+    if m and norm(m.group(1)) in fn.place:
+        return norm(m.group(1))
+    return None
+
+
+def typed(fn, tr, text, places):
+    """a type with its record types in today's names, and its paths turned"""
+    out, pos = [], 0
+    for m in re.finditer(r"\b(?:tie|lts)\.([A-Z][\w\-₀-₉]*)", text):
+        q = norm(m.group(1))
+        if q not in fn.place or m.start() < pos:
+            continue
+        out.append(tr.subst(text[pos:m.start()]))
+        # its arguments: to the end of the binder, or to the arrow
+        j, depth = m.end(), 0
+        while j < len(text):
+            ch = text[j]
+            if ch in "({":
+                depth += 1
+            elif ch in ")}":
+                if depth == 0:
+                    break
+                depth -= 1
+            elif ch == "→" and depth == 0:
+                j -= 1 if text[j - 1] == " " else 0
+                break
+            j += 1
+        places.add(fn.place[q]["new"])
+        out.append(fn.place[q]["new"])
+        pos = j
+    out.append(tr.subst(text[pos:]))
+    return "".join(out)
+
+
 def turn_file(crate, f, path, names, warn):
     key = f"Rattle-{os.path.basename(crate)}-proofs.{f.replace('/', '.')}.Lts"
     text = path
@@ -380,6 +475,22 @@ def turn_file(crate, f, path, names, warn):
             info[d["name"]] = (m.group(1), g)
             if g:
                 defs[d["name"]] = g["new"]
+    # helpers that only lead from a place to an earlier one, and the place that another helper takes first
+    Turn.accessors, Turn.wants = {}, {}
+    for d in ds:
+        if d["kind"] == "decl" and d["name"] not in info and d["name"] not in inv_done:
+            rest = re.sub(r"^((?:pub |abbrev |unfoldable )*)(\S+) :\s?", "", "\n".join(d["sig"]))
+            ex, gives = explicit_args(rest)
+            if len(ex) == 1 and place_of(fn, ex[0][1]) and place_of(fn, gives):
+                Turn.accessors[d["name"]] = place_of(fn, gives)
+            elif ex and place_of(fn, ex[0][1]):
+                Turn.wants[d["name"]] = place_of(fn, ex[0][1])
+        elif d["kind"] == "module":
+            first, _, rest = d["text"].partition(" where")
+            m = re.search(r"\(\S+ : ((?:tie|lts)\.[^()]*)", first)
+            if m and place_of(fn, m.group(1)):
+                for x in re.findall(r"^  (?:abbrev )?([^\s:(){}]+) :(?: |$)", rest, re.M):
+                    Turn.wants[x] = place_of(fn, m.group(1))
     # names that helpers have and goals would take
     helpers = {d["name"] for d in ds if d["kind"] == "decl" and d["name"] not in info and d["name"] not in inv_done}
     invnames = {d["name"]: None for d in ds if d["kind"] == "decl" and d["name"] in inv_done}
@@ -397,8 +508,8 @@ def turn_file(crate, f, path, names, warn):
             new, pos = [], 0
             for nm, ty, ex, i, j in binders(bs):
                 pm = PLACE_TYPE.search(ty)
-                if pm and norm(pm.group(1)) in fn.place:
-                    q = norm(pm.group(1))
+                if place_of(fn, ty):
+                    q = place_of(fn, ty)
                     tr.env[nm] = ((nm, q), q)
                     places.add(fn.place[q]["new"])
                     new += [bs[pos:i], f"({nm} : {fn.place[q]['new']})"]
@@ -448,52 +559,34 @@ def turn_file(crate, f, path, names, warn):
                 items.append([g["new"], txt])
         else:
             # a helper
+            if d["name"] in Turn.accessors:
+                continue
             sig = "\n".join(d["sig"])
             m = re.match(r"^((?:pub |abbrev |unfoldable )*)(\S+) :\s?", sig)
             rest = sig[m.end():]
+            ex, _gives = explicit_args(rest)
             tr = Turn(fn, lambda w, n=d["name"]: warn(f"{n}: {w}"), defs)
-            bs = binders(rest)
-            explicit = []
-            edits = []
-            for nm, ty, ex, i, j in bs:
-                pm = PLACE_TYPE.search(ty)
-                if pm and norm(pm.group(1)) in fn.place:
-                    p = norm(pm.group(1))
-                    tr.env[nm] = ((nm, p), p)
-                    edits.append((i, j, nm, fn.place[p]["new"], rest[i], [q[0] for q in bs if q[3] == i]))
-                    places.add(fn.place[p]["new"])
-                elif pm and norm(re.sub(r"^Need-", "", pm.group(1))) and pm.group(1).startswith("Need-"):
-                    pass
-                elif pm:
-                    warn(f"{d['name']}: place {pm.group(1)} unknown")
-                if ex:
-                    explicit.append(nm)
-            new, pos, seen = [], 0, set()
-            for i, j, nm, pl, op, group in sorted(edits):
-                if i in seen:
-                    continue
-                seen.add(i)
-                new.append(tr.subst(rest[pos:i]))
-                new.append(f"({' '.join(group)} : {pl})" if op == "(" else f"{{{' '.join(group)} : {pl}}}")
-                pos = j
-            new.append(tr.subst(rest[pos:]))
-            rest2 = "".join(new)
+            for nm, ty in ex:
+                q = place_of(fn, ty)
+                if q and nm:
+                    tr.env[nm] = ((nm, q), q)
+            rest2 = typed(fn, tr, rest, places)
             if "tie." in rest2 or "lts." in rest2:
                 warn(f"helper {d['name']}: a record is left in its type")
             parts = []
             for com, eq in d["eqs"]:
                 se = split_eq(eq)
-                if not se or not tr.env:
-                    # still rename answers that it cites
+                if not se:
                     t2 = Turn(fn, warn, defs)
                     parts.append((("\n".join(com) + "\n") if com else "") + t2.subst(eq))
                     continue
                 _, args, body = se
                 al = args.split()
                 t2 = Turn(fn, lambda w, n=d["name"]: warn(f"{n}: {w}"), defs)
-                for a, nm in zip(al, explicit):
-                    if nm in tr.env:
-                        t2.env[a] = ((a, tr.env[nm][1]), tr.env[nm][1])
+                for a, (nm, ty) in zip(al, ex):
+                    q = place_of(fn, ty)
+                    if q:
+                        t2.env[a] = ((a, q), q)
                 b = t2.body(body)
                 places |= t2.used_places
                 parts.append((("\n".join(com) + "\n") if com else "") + d["name"] + ((" " + args) if args else "") + " =" + ("" if b.startswith("\n") else " ") + b.rstrip())
