@@ -1,4 +1,6 @@
 // What `host/bench` measures of the receiver: raw samples in pushes of one size, each by the short way where it only adds, then a flush; it prints how many records there were.
+#![tactic(auto)]
+
 ghost use Rattle.std.specs.Prelude.{◌≡◌, ◌<◌, true, length};
 ghost use Rattle.ledger.specs.Ledger.{push_raw};
 ghost use Rattle.receiver.specs.Running.{OnlyAdds};
@@ -10,7 +12,7 @@ use receiver::SigfoxReceiver;
 use shifts::Shifts;
 
 // Between two pushes: the receiver, how many records it wrote, and the refusal of the last call or 0.
-#[derive(Drop)]
+#[derive(Clone, Copy)]
 struct State {
     receiver: SigfoxReceiver,
     records: u64,

@@ -1,5 +1,7 @@
 // What `host/bench` measures of the tracker: the records of `listen` after two bytes, which say whether all calls of `listen`
 // are made for each of them, or `samples` and `cfo` alone; and whether by the public calls, or by those of a tracker that is known to be in order.
+#![tactic(auto)]
+
 ghost use Rattle.std.specs.Prelude.{◌≡◌, List, ℕ, ◌≤◌, ◌<◌, Float};
 ghost use Rattle.frequency.specs.Lent.{Lists, lists};
 ghost use Rattle.frequency.specs.Calls.{SamplesEnd, CfoEnd, NextEnd};
@@ -14,7 +16,7 @@ const RATE: u32 = 1000;
 const STEP_HZ: f64 = 122.0703125;
 
 // Between two records: whether all calls are made, whether by what is known of the tracker, whether there may be another record, whether there was one, and the tracker.
-#[derive(Drop)]
+#[derive(Clone, Copy)]
 struct State {
     all: bool,
     known: bool,

@@ -1,5 +1,7 @@
 // A repetition's code undone eight bits at a time, by the tables of `conv_tables` (02, request 06; frame.rs deconvolve).
 // Whole bytes hold eight bits each, the first of them highest; a remainder is bits, bytes 0 or 1.
+#![tactic(auto)]
+
 ghost use Rattle.std.specs.Prelude.{◌≡◌, true, ◌++◌, ◌≤◌, ◌<◌, length, drop};
 ghost use Rattle.coding.specs.Convolution.{numbered};
 ghost use Rattle.conv_tables.specs.Tables.{decoded_byte, next_state, decoded_table, next_table};
@@ -10,14 +12,14 @@ use coding::HIGHEST_RANK;
 use conv_tables::{RANK_PLACES, STATE_PLACES};
 
 // The code's state: the last decoded bit and the one before it. Both are false where a repetition starts.
-#[derive(Drop)]
+#[derive(Clone, Copy)]
 pub struct ConvState {
     pub last: bool,
     pub second: bool,
 }
 
 // What `deconvolve_bytes` answers.
-#[derive(Drop)]
+#[derive(Clone, Copy)]
 pub enum Undone {
     // A refusal's number.
     Refused(u8),
@@ -26,7 +28,7 @@ pub enum Undone {
 }
 
 // A decoded byte, and the state after it as frame.rs's number: the last bit counts 2, the one before it 1.
-#[derive(Drop)]
+#[derive(Clone, Copy)]
 struct Step {
     byte: u8,
     state: u8,

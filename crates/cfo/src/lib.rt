@@ -1,5 +1,7 @@
 // The carrier frequency offset (CFO) register of frequency.rs: a value as a signed offset, the Hz of one step, a
 // reading's frequency, and rounding to whole Hz.
+#![tactic(auto)]
+
 ghost use Rattle.std.specs.Prelude.{◌≡◌};
 ghost use Rattle.cfo.specs.Cfo.{signed, interpolation, mantissa, said, step_hz, reading_hz, round_hz};
 
@@ -19,7 +21,7 @@ const STEPS: f64 = 4096.0;
 pub const CFO_SCALE: f64 = 0.93;
 
 // `cfo_step_hz`'s answer.
-#[derive(Drop)]
+#[derive(Clone, Copy)]
 pub enum StepHz {
     Refused(u8),
     Hz(f64),

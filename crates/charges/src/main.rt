@@ -1,4 +1,6 @@
 // What a plan takes for the month of the event records on standard input; plan and month stand in the arguments (README.md).
+#![tactic(auto)]
+
 mod words; // a number in an argument
 
 ghost use Rattle.std.specs.Prelude.{◌≡◌, ◌≤◌, length};
@@ -17,14 +19,14 @@ const STEP: usize = 2;
 const MINUS: u8 = 45;
 
 // A 32-bit number in an argument.
-#[derive(Drop)]
+#[derive(Clone, Copy)]
 enum Count {
     Is(u32),
     Wrong,
 }
 
 // A month's start in an argument.
-#[derive(Drop)]
+#[derive(Clone, Copy)]
 enum Start {
     Is(i64),
     Wrong,

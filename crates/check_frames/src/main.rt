@@ -1,4 +1,6 @@
 // 01's frame examples and literal frames, run: a line for each vector, none for one that gives no frame.
+#![tactic(auto)]
+
 mod lines; // a decoded frame's line
 mod vectors; // the literal frames
 

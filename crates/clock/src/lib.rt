@@ -1,4 +1,6 @@
 // The bit clock, recovered from the dips of a burst, and the bits between them (demod.rs `burst_bits`).
+#![tactic(auto)]
+
 ghost use Rattle.std.specs.Prelude.{◌≡◌, ◌-◌, ◌*◌, ◌/◌, ◌<◌, ◌≤◌, true, false, ◌∷◌, ◌++◌, length, take, drop, slice_index_or};
 ghost use Rattle.std.specs.Float.{nan, binary64};
 ghost use Rattle.std.specs.Float.Ieee.{lt, to_unsigned};
@@ -44,7 +46,7 @@ const MILLION: f64 = 1_000_000.0;
 
 // The bit clock: period and phase, the sums of the points that it is fitted to, their number, and the places of the first and the last.
 // A place is a bit index + 2^31.
-#[derive(Drop)]
+#[derive(Clone, Copy)]
 pub struct Clock {
     pub period: f64,
     pub phase: f64,
@@ -58,7 +60,7 @@ pub struct Clock {
 }
 
 // What a dip does to the clock.
-#[derive(Drop)]
+#[derive(Clone, Copy)]
 pub enum Step {
     Lost,
     Skipped,
@@ -66,7 +68,7 @@ pub enum Step {
 }
 
 // What all dips do.
-#[derive(Drop)]
+#[derive(Clone, Copy)]
 pub enum Fit {
     Astray,
     Fitted(Clock),
@@ -220,7 +222,7 @@ pub fn track(c: Clock, d: f64) -> Step
 
 // What `burst_bits` answers: the number of all bits, of which the first 1,024 are handed over, the period in samples, the clock's error, the
 // level, the number of points and the median of their dips' depths.
-#[derive(Drop)]
+#[derive(Clone, Copy)]
 pub enum BurstBits {
     Refused(u8),
     Nothing,

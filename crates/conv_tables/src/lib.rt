@@ -1,4 +1,6 @@
 // The tables by which a repetition's code is undone eight bits at a time (02, request 06). src/table.rt is what the program `print_conv_tables` prints.
+#![tactic(auto)]
+
 ghost use Rattle.std.specs.Prelude.{◌≡◌};
 ghost use Rattle.conv_tables.specs.Tables.{decoded_table, next_table};
 

@@ -1,4 +1,6 @@
 // The dips of a burst's envelope, at the phase reversals (demod.rs `find_dips`).
+#![tactic(auto)]
+
 ghost use Rattle.std.specs.Prelude.{◌≡◌, ◌+◌, ◌-◌, ◌*◌, ◌<◌, ◌≤◌, true, not, ◌||◌, length, slice_index_or};
 ghost use Rattle.std.proofs.Math.Seq.{slice};
 ghost use Rattle.std.specs.Float.{nan};
@@ -35,14 +37,14 @@ const HALF_UNIT: u32 = 5 * BIT_RATE;
 pub const DEPTHS: usize = 3000;
 
 // What the tests of a sample answer: a dip, with its depth, or none.
-#[derive(Drop)]
+#[derive(Clone, Copy)]
 pub enum Tested {
     Other,
     Deep(f64),
 }
 
 // What `find_dips` answers.
-#[derive(Drop)]
+#[derive(Clone, Copy)]
 pub enum DipCount {
     Refused(u8),
     Count(usize),

@@ -1,4 +1,6 @@
 // A list of event records, as 02's requests 09, 11 and 13 take it: the messages among its records, and the test of a record for refusal 12.
+#![tactic(auto)]
+
 ghost use Rattle.std.specs.Prelude.{◌≡◌, ◌≤◌, length};
 ghost use Rattle.limits.specs.Limits.{record_size};
 ghost use Rattle.event_list.specs.Events.{is_message, record_ok};

@@ -12,14 +12,14 @@ const LARGEST: u64 = 0xffff_ffff;
 
 const LARGEST_MINUTE: u64 = 0xffff;
 
-#[derive(Drop)]
+#[derive(Clone, Copy)]
 enum Decimal {
     Is(u64),
     Nothing,
 }
 
 // An argument: two numbers with a '-' between them, one number, or neither.
-#[derive(Drop)]
+#[derive(Clone, Copy)]
 enum Word {
     Minutes(u16, u16),
     Number(u32),

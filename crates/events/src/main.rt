@@ -1,5 +1,7 @@
 // The event records of a stream, 120 bytes each, on standard output as they come, each message with the mark of the shifts that the arguments give (README.md).
 // The stream is that of `listen`; of its records only the samples are read.
+#![tactic(auto)]
+
 ghost use Rattle.std.specs.Prelude.{◌<◌, ◌≤◌, length};
 
 mod arguments; // shifts
@@ -26,7 +28,7 @@ const MOST_EVENTS: usize = 256;
 const MOST_READS: u64 = 0x400_0000_0000;
 
 // Between two reads: the receiver, how many bytes stand in the buffer, whether nothing was refused or failed, and whether there may be more.
-#[derive(Drop)]
+#[derive(Clone, Copy)]
 struct Stream {
     receiver: SigfoxReceiver,
     filled: usize,

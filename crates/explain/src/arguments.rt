@@ -1,7 +1,7 @@
 // What the arguments say: the rate, and the form of the recording.
 ghost use Rattle.std.specs.Prelude.{◌≤◌, length};
 
-#[derive(Drop)]
+#[derive(Clone, Copy)]
 pub enum Form {
     Raw,
     Floats,

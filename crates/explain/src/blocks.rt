@@ -13,7 +13,7 @@ use explaining::{Segment, TypeFound};
 use receiver_waiting::Waiting;
 
 // What is known of a scan: rate, absolute sample of the first one held, how long ago a burst must have ended, the messages that waited before it and the time then.
-#[derive(Drop)]
+#[derive(Clone, Copy)]
 pub struct Scan {
     pub rate: u32,
     pub base: u64,

@@ -7,7 +7,7 @@ use clock::Clock;
 use explaining::Verdict;
 
 // The clock while it goes through the dips, and the smallest margins of those that it accepted.
-#[derive(Drop)]
+#[derive(Clone, Copy)]
 struct Walk {
     clock: Clock,
     near: Near,

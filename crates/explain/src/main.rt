@@ -1,5 +1,7 @@
 // Why each burst of a recording was read or not, and how near each number was (README.md). The recording goes through the receiver as `listen` has it, eight samples a
 // call; what a scan took and what it left is explained from the samples that it looked at.
+#![tactic(auto)]
+
 ghost use Rattle.std.specs.Prelude.{◌≤◌, length};
 
 mod arguments; // rate and form
@@ -27,7 +29,7 @@ const RECORDS_RATE: u32 = 1000;
 const MOST_READS: u64 = 0x400_0000_0000;
 
 // Between two calls: the receiver, what was counted, and whether there may be more.
-#[derive(Drop)]
+#[derive(Clone, Copy)]
 struct Course {
     receiver: SigfoxReceiver,
     tally: Tally,

@@ -8,7 +8,7 @@ use bursts::{Burst, Level, NextBurst};
 use receiver_starts::Starts;
 
 // The starts that the receiver remembered before a call and after it, each with the absolute sample that they are counted from.
-#[derive(Drop)]
+#[derive(Clone, Copy)]
 pub struct Remembered {
     pub before: Starts,
     pub before_base: u64,

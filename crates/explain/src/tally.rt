@@ -2,7 +2,7 @@
 use crate::words::{print_count, print_db, print_parts};
 
 // How a burst ended.
-#[derive(Drop)]
+#[derive(Clone, Copy)]
 pub enum Ending {
     Faint,
     Short,
@@ -15,13 +15,13 @@ pub enum Ending {
 }
 
 // How near a burst's dips came to 6 dB and to 0.35 of a bit.
-#[derive(Drop)]
+#[derive(Clone, Copy)]
 pub struct Near {
     pub dip: f64,
     pub grid: f64,
 }
 
-#[derive(Drop)]
+#[derive(Clone, Copy)]
 pub struct Tally {
     pub bursts: u64,
     pub faint: u64,

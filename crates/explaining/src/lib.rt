@@ -1,4 +1,6 @@
 // Why a burst was read or not, and how near each number was: what `explain` prints is worked out here, on the definitions that the receiver is proved against.
+#![tactic(auto)]
+
 ghost use Rattle.std.specs.Prelude.{◌≡◌, ◌^◌, ◌<◌, ◌≤◌, true, map, length};
 ghost use Rattle.coding.specs.Bits.{odd, are_bits};
 ghost use Rattle.limits.specs.Limits.{lowest_rate, highest_rate, longest_stream, most_samples, most_bits, scratch64};
@@ -72,7 +74,7 @@ pub fn margin(burst: Burst) -> f64
 }
 
 // The samples of a burst that are looked at: from one place on to another.
-#[derive(Drop)]
+#[derive(Clone, Copy)]
 pub struct Segment {
     pub from: usize,
     pub to: usize,
@@ -105,7 +107,7 @@ pub fn took(rate: u32, old: Starts, i: usize, new: Starts, j: usize) -> bool
 
 // What the clock makes of a dip: it has no bit index, it is further from the grid than it may be, its bit is not past the last one's, or it is accepted, and the
 // clock goes on from there. With it how far it is from its grid line, in bits.
-#[derive(Drop)]
+#[derive(Clone, Copy)]
 pub enum Verdict {
     Lost,
     OffGrid(f64),
@@ -166,7 +168,7 @@ pub fn grid_margin(off: f64) -> f64
 // ---- frames and messages
 
 // Where the frame type stands that decides, and what it says.
-#[derive(Drop)]
+#[derive(Clone, Copy)]
 pub enum TypeFound {
     Nowhere,
     At(usize, FrameKind),

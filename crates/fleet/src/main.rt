@@ -1,4 +1,6 @@
 // The fleet report of the event records on standard input, a line a device (README.md).
+#![tactic(auto)]
+
 ghost use Rattle.std.specs.Prelude.{◌≤◌, length};
 ghost use Rattle.fleet_sheet.specs.Tallies.{Tallied};
 

@@ -1,5 +1,7 @@
 // Calls on a tracker that is known to be in order, as one that grew from a fresh one is: only what is handed in is tested, and the
 // answers are those of the public calls.
+#![tactic(auto)]
+
 ghost use Rattle.std.specs.Prelude.{◌≡◌, true, ◌+◌, ◌^◌, ◌≤◌, ◌<◌, length, take};
 ghost use Rattle.limits.specs.Limits.{longest_stream};
 ghost use Rattle.frequency_signal.specs.Seconds.{oldest_of};

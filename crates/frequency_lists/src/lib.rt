@@ -1,5 +1,7 @@
 // The tracker's lent lists: readings as the parallel slices at, lo, hz, and tunings as tuned, freq, of which the first count
 // places are held. Tests of what is held, the last tuning, and appending.
+#![tactic(auto)]
+
 ghost use Rattle.std.specs.Prelude.{◌≡◌, ℕ, ◌+◌, ◌^◌, ◌<◌, ◌≤◌, true, not, length, take, ◌==◌, is_nan, nat_le, slice_index};
 ghost use Rattle.std.proofs.Math.Seq.{slice};
 ghost use Rattle.limits.specs.Limits.{longest_stream, most_readings};

@@ -1,11 +1,13 @@
 // What `samples` forgets: readings and tunings of more than 60 s ago, taken out of the parallel slices in place.
+#![tactic(auto)]
+
 ghost use Rattle.std.specs.Prelude.{◌≡◌, cond, true, false, map, ℕ, ◌+◌, ◌-◌, ◌≤◌, ◌<◌, ◌^◌, length, take, get_or, eqb, leb};
 ghost use Rattle.limits.specs.Limits.{longest_stream};
 ghost use Rattle.frequency_signal.specs.Seconds.{Rate, kept, oldest_of};
 ghost use Rattle.frequency_retain.specs.Retain.{moved, stays, KeptReading, Held, Leads, Looked, Moved, Compacted, KeptTuning, HeldTunings, CompactedTunings};
 
 // Whether a look at the readings has settled their order, and how many of them, in front, go.
-#[derive(Drop)]
+#[derive(Clone, Copy)]
 pub struct Look {
     pub settled: bool,
     pub lead: usize,

@@ -1,5 +1,7 @@
 // The parts of the tracker's calls that need no lists of readings: requests and steps of `next_tuning`, new tunings, and the
 // range of a step handed in.
+#![tactic(auto)]
+
 ghost use Rattle.std.specs.Prelude.{◌≡◌, cond, not, true, ◌&&◌, ◌∷◌, [], ◌+◌, ◌≤◌, length, take, eqb};
 ghost use Rattle.frequency_lists.specs.Lists.{last_or, fits_tunings};
 ghost use Rattle.frequency_measure.specs.Gathered.{Free};
@@ -11,7 +13,7 @@ ghost use Rattle.frequency_tuning.specs.Ranges.{step_ok};
 const HIGHEST_STEP: f64 = 10_000.0;
 
 // Where `next_tuning` goes: nowhere, back to the base frequency, or to the settled frame 1 reading.
-#[derive(Drop)]
+#[derive(Clone, Copy)]
 pub enum Step {
     Stay,
     Base,

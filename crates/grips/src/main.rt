@@ -1,4 +1,6 @@
 // For each grip of a bench log on standard input the record number of its message in a file of event records (README.md).
+#![tactic(auto)]
+
 mod seconds; // a number of seconds in text
 
 use grip::Nearest;

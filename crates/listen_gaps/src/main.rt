@@ -1,4 +1,6 @@
 // `listen` on a stream with frequencies of 0 in between.
+#![tactic(auto)]
+
 fn main() {
     listening::run();
 }

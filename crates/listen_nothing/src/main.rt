@@ -1,4 +1,6 @@
 // `listen` on no input.
+#![tactic(auto)]
+
 fn main() {
     listening::run();
 }

@@ -1,4 +1,6 @@
 // What the program `listen` does (01, frequency.rs): the tracker and the receiver side by side on one stream of 16-byte records from standard input, a line for each retune and each message.
+#![tactic(auto)]
+
 mod ending; // the input's end
 mod handing; // what goes to standard output
 mod records; // the whole records of the buffer
@@ -24,7 +26,7 @@ const MOST_READS: u64 = 0x3ff_ffff_ffff;
 const BUFFER: usize = 4096;
 
 // Whether a frequency that isn't 0 has come, the samples passed over before it, what was counted, and the tracker.
-#[derive(Drop)]
+#[derive(Clone, Copy)]
 pub struct Listener {
     pub started: bool,
     pub passed: u64,
@@ -35,7 +37,7 @@ pub struct Listener {
 }
 
 // After the tracker's side of a record: the refusal or 0, where the text ends, and that side.
-#[derive(Drop)]
+#[derive(Clone, Copy)]
 pub struct Followed {
     pub refused: u8,
     pub end: usize,
@@ -43,7 +45,7 @@ pub struct Followed {
 }
 
 // After a record: the refusal or 0, where the text ends, and both sides.
-#[derive(Drop)]
+#[derive(Clone, Copy)]
 pub struct Stepped {
     pub refused: u8,
     pub end: usize,
@@ -52,7 +54,7 @@ pub struct Stepped {
 }
 
 // After the records of a read: whether no call was refused and every text went out, the refusal or 0, and both sides.
-#[derive(Drop)]
+#[derive(Clone, Copy)]
 pub struct Listening {
     pub going: bool,
     pub refused: u8,
@@ -61,7 +63,7 @@ pub struct Listening {
 }
 
 // Between two reads: how many bytes stand in the buffer, whether there may be more, and what the records left.
-#[derive(Drop)]
+#[derive(Clone, Copy)]
 pub struct Reading {
     pub filled: usize,
     pub more: bool,
@@ -72,7 +74,7 @@ pub struct Reading {
 }
 
 // How the program ended: every whole record was accepted and the last text handed over; a record's call was refused; or standard input could not be read, or standard output took no more.
-#[derive(Drop)]
+#[derive(Clone, Copy)]
 pub enum Ended {
     Heard,
     Refused(u8),

@@ -1,4 +1,6 @@
 // The receiver's side of one record of `listen`, and of the input's end.
+#![tactic(auto)]
+
 ghost use Rattle.std.specs.Prelude.{◌≡◌, List, ℕ, ◌+◌, ◌*◌, ◌^◌, ◌≤◌, ◌<◌, length};
 ghost use Rattle.limits.specs.Limits.{record_size};
 ghost use Rattle.ledger.specs.Ledger.{push_raw, flush};
@@ -14,7 +16,7 @@ use receiver::SigfoxReceiver;
 use shifts::Shifts;
 
 // What was told, and the receiver.
-#[derive(Drop)]
+#[derive(Clone, Copy)]
 pub struct Heard {
     pub told: Told,
     pub receiver: SigfoxReceiver,

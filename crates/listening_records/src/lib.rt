@@ -1,4 +1,6 @@
 // What a call's records make `listen` print and count (01, frequency.rs): a frame is counted, a message counted and printed.
+#![tactic(auto)]
+
 ghost use Rattle.std.specs.Prelude.{◌≡◌, ℕ, ◌+◌, ◌*◌, ◌^◌, ◌≤◌, ◌<◌, List, length};
 ghost use Rattle.limits.specs.Limits.{record_size};
 ghost use Rattle.frequency.specs.Calls.{said_first};
@@ -14,7 +16,7 @@ use record::{FrameSpan, read};
 const RATE: f64 = 1_000.0;
 
 // The refusal or 0, what was counted, and where the text ends.
-#[derive(Drop)]
+#[derive(Clone, Copy)]
 pub struct Told {
     pub refused: u8,
     pub frames: u64,

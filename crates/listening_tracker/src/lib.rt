@@ -1,4 +1,6 @@
 // The tracker's side of one record of `listen` (01, frequency.rs), by a tracker that is known to be in order.
+#![tactic(auto)]
+
 ghost use Rattle.std.specs.Prelude.{◌≡◌};
 ghost use Rattle.frequency.specs.Lent.{lists};
 ghost use Rattle.frequency_grown.specs.Rising.{Single};

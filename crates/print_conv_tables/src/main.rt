@@ -1,5 +1,7 @@
 // Prints crates/conv_tables/src/table.rt: the constants by which a repetition's code is undone eight bits at a time (02, request 06).
 // Its `stdout` is that file's text, and .ci/run compares the two.
+#![tactic(auto)]
+
 ghost use Rattle.std.specs.Prelude.{◌<◌};
 
 use libc::STDOUT_FILENO;
@@ -13,7 +15,7 @@ const ROW: usize = 256;
 const ROWS_OF_A_RANK: usize = 4;
 
 // The eight inputs of which a byte's bits are the product, as a byte, and the state after them, bit by bit (frame.rs deconvolve).
-#[derive(Drop)]
+#[derive(Clone, Copy)]
 struct Step {
     byte: u8,
     state: u8,

@@ -1,18 +1,20 @@
 // Standard input and files as they come; an error is told from the end.
+#![tactic(auto)]
+
 ghost use Rattle.std.specs.Prelude.{◌≡◌, ◌+◌, ◌≤◌, ◌<◌, length, take};
 ghost use Rattle.reading.specs.Input.{brought};
 
 use libc::STDIN_FILENO;
 
 // What a read brings: bytes, none of them where the input has ended, or an error.
-#[derive(Drop)]
+#[derive(Clone, Copy)]
 pub enum Fetched {
     Bytes(usize),
     Failed,
 }
 
 // What comes next in a text.
-#[derive(Drop)]
+#[derive(Clone, Copy)]
 pub enum Line {
     // A line of so many bytes, without its end; those that have a place are kept.
     Bytes(usize),

@@ -1,4 +1,6 @@
 // The end of a call (receiver.rs `expire`): the records of the messages that leave, behind those of the call's frames.
+#![tactic(auto)]
+
 ghost use Rattle.std.specs.Prelude.{◌≡◌, true, cond, ◌+◌, ◌*◌, ◌≤◌, length};
 ghost use Rattle.std.proofs.lemmas.List.Edits.{sets};
 ghost use Rattle.limits.specs.Limits.{record_size};

@@ -1,4 +1,6 @@
 // Pushes on a receiver that grew from a fresh one: what it holds is in order, so that a caller that knows this has it tested no more.
+#![tactic(auto)]
+
 ghost use Rattle.std.specs.Prelude.{◌≡◌, true, length};
 ghost use Rattle.ledger.specs.Ledger.{push_raw};
 ghost use Rattle.receiver.specs.Running.{OnlyAdds};

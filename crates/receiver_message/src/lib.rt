@@ -1,4 +1,6 @@
 // One open message: how receiver.rs merges frames into it (`merge`), when it is complete, and what is written of it (`expire`).
+#![tactic(auto)]
+
 ghost use Rattle.std.specs.Prelude.{◌≡◌, cond, not, ◌&&◌, ◌||◌, eqb, leb};
 ghost use Rattle.std.proofs.Math.Option.{some};
 ghost use Rattle.std.specs.Float.Ieee.{is_nan};
@@ -23,7 +25,7 @@ const MOST_PAYLOAD: u8 = 12;
 const MOST_AUTH: u8 = 5;
 
 // What `estimate_first_frame_end` answers.
-#[derive(Drop)]
+#[derive(Clone, Copy)]
 pub enum Estimated {
     Refused(u8),
     End(FirstFrameEnd),
@@ -212,7 +214,7 @@ pub fn expires(p: Pending, now: f64) -> bool
 }
 
 // A span of rank 1 or 2, or none.
-#[derive(Drop)]
+#[derive(Clone, Copy)]
 enum LaterSpan {
     Nothing,
     Is(FrameSpan),

@@ -1,4 +1,6 @@
 // The lent sample buffer (receiver.rs `buf`): the drop of its older half, a filling, and raw bytes as dBm.
+#![tactic(auto)]
+
 ghost use Rattle.std.specs.Prelude.{◌≡◌, ◌++◌, map, ◌+◌, ◌*◌, ◌≤◌, min, length, take, drop};
 ghost use Rattle.std.proofs.Math.Seq.{paste};
 ghost use Rattle.limits.specs.Limits.{buffer_s};

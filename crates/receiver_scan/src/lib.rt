@@ -1,4 +1,6 @@
 // A scan (receiver.rs `scan`): the bursts of the held samples that are taken, their records and messages, and which starts are forgotten.
+#![tactic(auto)]
+
 ghost use Rattle.std.specs.Prelude.{◌≡◌, cond, ◌+◌, ◌*◌, ◌^◌, ◌≤◌, ◌<◌, length};
 ghost use Rattle.std.proofs.lemmas.List.Edits.{sets};
 ghost use Rattle.limits.specs.Limits.{longest_stream, record_size};
@@ -26,7 +28,7 @@ const EVENT_PLACES: usize = 256;
 const MIN_MS: f64 = 300.0;
 
 // What a scan leaves, besides the event buffer; `count` is the records of the call so far.
-#[derive(Drop)]
+#[derive(Clone, Copy)]
 pub struct Scanned {
     pub starts: Starts,
     pub waiting: Waiting,

@@ -1,4 +1,6 @@
 // The remembered starts (receiver.rs `seen`), as distances from the first held sample: which burst is one that was taken before, what is forgotten, how a drop moves them, and what 01 asks of them in a given state.
+#![tactic(auto)]
+
 ghost use Rattle.std.specs.Prelude.{◌≡◌, true, ◌&&◌, [], ◌∷◌, ◌++◌, ◌+◌, ◌-◌, ◌*◌, ◌^◌, ◌≤◌, ◌<◌, length, take, pos, neg_ℤ, ◌+ℤ◌, ◌-ℤ◌};
 ghost use Rattle.std.proofs.Math.IntN.{sub_ℕ};
 ghost use Rattle.std.specs.Int.Signed.{le_z};
@@ -17,7 +19,7 @@ const OLDEST_S: u64 = 7;
 const MIDDLE: u64 = 0x8000_0000;
 
 // Distances from the first held sample to the starts of bursts taken: the first `count` places.
-#[derive(Drop)]
+#[derive(Clone, Copy)]
 pub struct Starts {
     pub at: [i32; 96],
     pub count: usize,

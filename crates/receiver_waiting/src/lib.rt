@@ -1,4 +1,6 @@
 // The open messages (receiver.rs `pending`), in the order in which they were opened: a frame joins one or opens one, and some are kept when a call ends.
+#![tactic(auto)]
+
 ghost use Rattle.std.specs.Prelude.{◌≡◌, true, cond, ◌||◌, ◌+◌, ◌≤◌, ◌<◌, length, take};
 ghost use Rattle.std.proofs.Math.Seq.{slice};
 ghost use Rattle.ledger.specs.Merge.{expires};
@@ -22,14 +24,14 @@ pub const OPEN_PLACES: usize = 119;
 const COUNTERS: u64 = 65_536;
 
 // The first `count` places.
-#[derive(Drop)]
+#[derive(Clone, Copy)]
 pub struct Waiting {
     pub messages: [Pending; OPEN_PLACES],
     pub count: usize,
 }
 
 // What one look at every message finds.
-#[derive(Drop)]
+#[derive(Clone, Copy)]
 struct Looked {
     keys: [u64; MOST_WAITING],
     fit: bool,
@@ -38,7 +40,7 @@ struct Looked {
 }
 
 // Whether the messages are in order, whether one has a NaN, and whether a push writes one.
-#[derive(Drop)]
+#[derive(Clone, Copy)]
 pub struct Condition {
     pub ok: bool,
     pub nan: bool,

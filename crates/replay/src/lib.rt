@@ -1,4 +1,6 @@
 // What the replay programs read their cases with and print their lines with. docs/REPLAY.md has the formats.
+#![tactic(auto)]
+
 ghost use Rattle.std.specs.Prelude.{◌≡◌, ◌+◌, ◌*◌, ◌≤◌, ◌<◌, length};
 ghost use Rattle.std.proofs.lemmas.List.Edits.{sets};
 ghost use Rattle.std.specs.Float.{binary32, binary64};
@@ -13,7 +15,7 @@ use libc::{STDIN_FILENO, STDOUT_FILENO};
 pub const MOST_CASES: u64 = 0x1_0000_0000_0000;
 
 // The first bytes of a case: all of them, only some, or none, where the input had ended.
-#[derive(Drop)]
+#[derive(Clone, Copy)]
 pub enum Head {
     Whole,
     Cut,
@@ -21,14 +23,14 @@ pub enum Head {
 }
 
 // A list read: whether the input had all of it, and how many elements at the front of the slice are its own.
-#[derive(Drop)]
+#[derive(Clone, Copy)]
 pub struct Kept {
     pub whole: bool,
     pub count: usize,
 }
 
 // A frame's span in the input, and whether all of it was there.
-#[derive(Drop)]
+#[derive(Clone, Copy)]
 pub struct Span {
     pub whole: bool,
     pub rank: u8,

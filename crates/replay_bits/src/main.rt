@@ -1,4 +1,6 @@
 // The C function, bits in and a record out, one case a line (docs/REPLAY.md, `bits`).
+#![tactic(auto)]
+
 use replay::Head;
 
 // The C function's answer where the bits hold no frame.

@@ -1,4 +1,6 @@
 // The frame of a burst, one case a line (docs/REPLAY.md, `burst`).
+#![tactic(auto)]
+
 use bursts::Burst;
 use demod::{BurstFrame, DecodedFrame};
 use frame::Outcome;

@@ -1,4 +1,6 @@
 // The bits of a burst's samples, one case a line (docs/REPLAY.md, `burstbits`).
+#![tactic(auto)]
+
 use clock::BurstBits;
 use replay::Head;
 

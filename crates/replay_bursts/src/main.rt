@@ -1,9 +1,11 @@
 // The noise floor and the bursts of samples, one case after another (docs/REPLAY.md, `bursts`).
+#![tactic(auto)]
+
 use bursts::{Burst, BurstOptions, Level, NextBurst};
 use replay::Head;
 
 // What a case hands to `find_bursts` besides its samples.
-#[derive(Drop)]
+#[derive(Clone, Copy)]
 struct Asked {
     rate: u32,
     options: BurstOptions,

@@ -1,4 +1,6 @@
 // A repetition's code undone by the byte, one line a case (docs/REPLAY.md, `bytes`).
+#![tactic(auto)]
+
 ghost use Rattle.std.specs.Prelude.{◌≤◌, length};
 
 use bytewise::{ConvState, Undone};

@@ -1,4 +1,6 @@
 // The frames of a capture as records, one case after another (docs/REPLAY.md, `capture`).
+#![tactic(auto)]
+
 use demod::{Captured, Floor};
 use replay::Head;
 

@@ -1,4 +1,6 @@
 // Charges of a plan for a month, a line a case (docs/REPLAY.md, `charges`).
+#![tactic(auto)]
+
 ghost use Rattle.std.specs.Prelude.{◌≤◌};
 
 use replay::Head;

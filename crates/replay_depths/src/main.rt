@@ -1,4 +1,6 @@
 // Dips with their depths, and the median depth of a burst's bits, one case a line (docs/REPLAY.md, `depths`).
+#![tactic(auto)]
+
 use clock::BurstBits;
 use dips::DipCount;
 use replay::Head;

@@ -1,4 +1,6 @@
 // The dips of samples, one case a line (docs/REPLAY.md, `dips`).
+#![tactic(auto)]
+
 use dips::DipCount;
 use replay::Head;
 

@@ -1,4 +1,6 @@
 // Fleet reports into a lent list, a line for the answer, one a row, and one for what was kept (docs/REPLAY.md, `fleet`).
+#![tactic(auto)]
+
 ghost use Rattle.std.specs.Prelude.{◌+◌, ◌≤◌, length};
 
 use fleet_sheet::{NUMBERS, Sheet};

@@ -1,4 +1,6 @@
 // Nearest messages of grips, and messages on air in a lent list: a line for the answer, and one for what was kept of the list (docs/REPLAY.md, `grip`).
+#![tactic(auto)]
+
 ghost use Rattle.std.specs.Prelude.{◌≤◌, length};
 
 use grip::{Air, Nearest};

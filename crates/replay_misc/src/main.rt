@@ -1,4 +1,6 @@
 // The small functions, one case a line (docs/REPLAY.md, `misc`).
+#![tactic(auto)]
+
 use bursts::Level;
 use cfo::StepHz;
 use coding::Coded;

@@ -6,7 +6,7 @@ use replay::Kept;
 use shifts::{Shifts, StreamStart, Window};
 
 // What a call is given of shifts, and whether the input had all of it. Its closed dates stand in front of a list.
-#[derive(Drop)]
+#[derive(Clone, Copy)]
 pub struct Block {
     pub whole: bool,
     pub shifts: Shifts,
@@ -14,7 +14,7 @@ pub struct Block {
 }
 
 // The windows that a call takes: those past the last place are read over, and the count says how many there were.
-#[derive(Drop)]
+#[derive(Clone, Copy)]
 struct Windows {
     whole: bool,
     windows: [Window; 32],

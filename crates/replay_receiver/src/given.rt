@@ -9,19 +9,19 @@ use receiver_waiting::Waiting;
 use record::{FirstFrameEnd, FrameSpan, NO_RANK, SigfoxMessage, read};
 
 // A state, and whether the input had all of it.
-#[derive(Drop)]
+#[derive(Clone, Copy)]
 pub struct Given {
     pub whole: bool,
     pub receiver: SigfoxReceiver,
 }
 
-#[derive(Drop)]
+#[derive(Clone, Copy)]
 struct GivenStarts {
     whole: bool,
     starts: Starts,
 }
 
-#[derive(Drop)]
+#[derive(Clone, Copy)]
 struct GivenWaiting {
     whole: bool,
     waiting: Waiting,

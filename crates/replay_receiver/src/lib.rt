@@ -1,4 +1,6 @@
 // The receiver, call by call, with its state after each; with shifts behind a call's arguments or without (docs/REPLAY.md, `events` and `shifts`).
+#![tactic(auto)]
+
 mod block; // the shifts behind a call's arguments
 mod given; // a state that is handed in
 mod lines; // what is printed
@@ -10,7 +12,7 @@ use receiver::{Received, SigfoxReceiver};
 use replay::Head;
 
 // Between two calls: whether shifts stand behind their arguments, whether there may be another one, how many there were, and the receiver.
-#[derive(Drop)]
+#[derive(Clone, Copy)]
 struct State {
     shifted: bool,
     open: bool,

@@ -1,4 +1,6 @@
 // Records as they are compared and printed: a zero's sign aside. docs/REPLAY.md has the formats.
+#![tactic(auto)]
+
 pub mod spans; // frames' spans in the input
 pub mod uplinks; // an uplink's fields in the input
 

@@ -5,7 +5,7 @@ ghost use Rattle.replay_records.specs.Inputs.{span_from};
 use record::FrameSpan;
 use replay::Span;
 
-#[derive(Drop)]
+#[derive(Clone, Copy)]
 pub struct Spans {
     pub whole: bool,
     pub three: [FrameSpan; 3],

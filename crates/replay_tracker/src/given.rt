@@ -5,7 +5,7 @@ use frequency_signal::{Floor, Sample, Signal};
 use replay::Kept;
 
 // The length of each list that is lent, and of the scratch.
-#[derive(Drop)]
+#[derive(Clone, Copy)]
 pub struct Lengths {
     pub at: usize,
     pub lo: usize,
@@ -16,7 +16,7 @@ pub struct Lengths {
 }
 
 // A tracker with its lists' lengths, and whether the input had all of it.
-#[derive(Drop)]
+#[derive(Clone, Copy)]
 pub struct Given {
     pub whole: bool,
     pub tracker: FrequencyTracker,

@@ -1,4 +1,6 @@
 // The frequency tracker, one call a line (docs/REPLAY.md, `tracker`).
+#![tactic(auto)]
+
 ghost use Rattle.std.specs.Prelude.{◌≤◌};
 
 mod given; // a tracker that is handed in
@@ -22,7 +24,7 @@ const TUNINGS: usize = 64;
 const GIVEN: u8 = 7;
 
 // Between two calls: whether there may be another one, the refusal of `new` or 0, how much of each list is lent, and the tracker.
-#[derive(Drop)]
+#[derive(Clone, Copy)]
 struct State {
     open: bool,
     refused: u8,

@@ -1,4 +1,6 @@
 // Uplinks written into a lent slice, two lines a case (docs/REPLAY.md, `writer`).
+#![tactic(auto)]
+
 ghost use Rattle.std.specs.Prelude.{◌≤◌, length};
 
 use frame::header::UplinkFields;

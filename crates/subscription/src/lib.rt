@@ -1,4 +1,6 @@
 // Subscription charges (02, request 13): what a plan takes for a month of messages, in cents, over a list of event records.
+#![tactic(auto)]
+
 mod prices; // a plan, and what it takes
 mod days; // the days of a month
 
@@ -18,7 +20,7 @@ pub const DAYS: usize = 31;
 const LATEST_START: i64 = 10_000_000_000;
 
 // A fee in cents, an allowance of messages a day, and steps of extra messages, each an upper count and a price in thousandths of a cent. The last step's upper count is not read.
-#[derive(Drop)]
+#[derive(Clone, Copy)]
 pub struct Plan {
     pub fee: u32,
     pub allowance: u32,
@@ -28,7 +30,7 @@ pub struct Plan {
 }
 
 // What `charges` answers.
-#[derive(Drop)]
+#[derive(Clone, Copy)]
 pub enum Charge {
     // A refusal's number.
     Refused(u8),
@@ -36,7 +38,7 @@ pub enum Charge {
 }
 
 // What was read: how many records, whether refusal 12 does not apply to them, and whether every message lies in the month.
-#[derive(Drop)]
+#[derive(Clone, Copy)]
 pub struct Tally {
     pub records: usize,
     pub ok: bool,

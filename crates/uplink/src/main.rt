@@ -1,4 +1,6 @@
 // Test frames as bits: a line of standard input is an uplink, and its three repetitions go out as digits, a line each (README.md).
+#![tactic(auto)]
+
 mod line; // what a line means
 
 ghost use Rattle.std.specs.Prelude.{◌≤◌, length};

@@ -1,4 +1,6 @@
 // Uplinks as a device sends them (02, request 01; frame.rs encode_uplink): the bits of a message's three repetitions. Bits are bytes 0 or 1.
+#![tactic(auto)]
+
 ghost use Rattle.std.specs.Prelude.{◌≡◌, true, map, ◌+◌, ◌*◌, ◌≤◌, ◌<◌, length};
 ghost use Rattle.std.proofs.lemmas.List.Edits.{sets};
 ghost use Rattle.coding.specs.Bits.{odd, bit_of, digits, value, bytes_bits, are_bits};
@@ -16,7 +18,7 @@ use frame::header::{UplinkFields, layout_of, write_header};
 use frame::kinds::{FRAME_TYPES, SYNC};
 
 // What `write_uplink` answers.
-#[derive(Drop)]
+#[derive(Clone, Copy)]
 pub enum Written {
     // A refusal's number.
     Refused(u8),
