@@ -1,4 +1,6 @@
 // The noise floor, and the bursts that stand over it (demod.rs `noise_floor`, `find_bursts`).
+#![tactic(auto)]
+
 ghost use Rattle.std.specs.Prelude.{◌≡◌, ◌<◌, ◌≤◌, true, length, slice_index_or};
 ghost use Rattle.std.specs.Float.{nan};
 ghost use Rattle.floats.specs.Fold.{max_from};
@@ -36,7 +38,7 @@ pub struct Burst {
     pub floor_dbm: f32,
 }
 
-#[derive(Drop)]
+#[derive(Clone, Copy)]
 pub struct BurstOptions {
     pub above_db: f64,
     pub min_ms: f64,

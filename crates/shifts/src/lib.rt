@@ -1,4 +1,6 @@
 // Shift windows (02, request 03): what a call is given of the working week, when it is refused, and the mark of a message by its time.
+#![tactic(auto)]
+
 ghost use Rattle.std.specs.Prelude.{◌≡◌, true, ◌+◌, ◌≤◌, take};
 ghost use Rattle.shifts.specs.Shifts.{no_shifts, start_ok, window_ok, windows_ok, rising, shifts_ok, shifts_cause, in_range, farthest, second, among, holds, any_holds, mark_at, mark_of};
 
@@ -22,14 +24,14 @@ pub const INSIDE: u8 = 1;
 pub const OUTSIDE: u8 = 2;
 
 // The second of the week at which the stream began (Monday 00:00 is 0), or none.
-#[derive(Drop)]
+#[derive(Clone, Copy)]
 pub enum StreamStart {
     Given(u32),
     Unknown,
 }
 
 // Minutes of the week: the start belongs to the window, the end doesn't; equal ends mean the whole week.
-#[derive(Drop)]
+#[derive(Clone, Copy)]
 pub struct Window {
     pub start: u16,
     pub end: u16,
