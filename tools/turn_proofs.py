@@ -5,6 +5,7 @@ usage: turn_proofs.py turn CRATE_DIR [F ..]     write the files (all functions, 
        turn_proofs.py more CRATE_DIR SAID       read a check's output: add the short answers that were left out where a goal stays open
                                                 (also drops answers of goals that are not asked)
        turn_proofs.py auto CRATE_DIR [F ..]     #![tactic(auto)], turn, then rt check and more until nothing is added; what is said lies in SAVED/CRATE.said
+       turn_proofs.py heads CRATE_DIR            writes what the old files' heads said to the new files that have no head
        turn_proofs.py names CRATE_DIR F         print the places, steps and goals of F, old and new
 
 SAVED is /tmp/turned (or $TURNED).
@@ -251,6 +252,8 @@ def decls(text):
             while u.count("{") > u.count("}"):
                 i += 1
                 u += " " + lines[i].strip()
+            if comment and not uses and not out:
+                out.append(dict(kind="head", comment=comment))
             uses.append(u)
             comment = []
         elif l.startswith("--"):
@@ -682,23 +685,38 @@ def write(crate, f, r):
     for p in (inv, ans):
         if os.path.exists(p):
             os.remove(p)
-    head = [re.sub(r"\s*Assumes nothing\.", "", h).rstrip() for h in r["head"]]
     if r["inv"]:
         body = "\n\n".join(t for _, t in r["inv"])
         us = uses_for(r["uses"], body)
         with open(inv, "w", encoding="utf-8") as fh:
             fh.write("\n".join(us + [f"use {r['mod']}.Given as goal"]) + "\n\n" + body + "\n")
-    if any(n not in r["helpers"] for n, _ in r["items"]):
+    if any(n != "module" and n not in r["helpers"] for n, _ in r["items"]):
         body = "\n\n".join(t for _, t in r["items"])
         us = uses_for(r["uses"], body)
         pl = [p for p in r["places"] if re.search(r"(?<![\w\-])" + re.escape(p) + r"(?![\w\-])", body)]
         lines = us + ([f"use {r['mod']}.Goals.{{{', '.join(pl)}}}"] if pl else []) + [f"use {r['mod']}.Goals as goal"]
         with open(ans, "w", encoding="utf-8") as fh:
             fh.write("\n".join(lines) + "\n\n" + body + "\n")
+    heading(crate, f, r["head"])
 
 
-def saved(crate):
-    return os.path.join(SAVED, os.path.basename(crate))
+def heading(crate, f, comment):
+    """What the old file's head said beyond `it meets its contract`, at the head of a new file"""
+    s = " ".join(c.lstrip("-").strip() for c in comment)
+    s = re.sub(r"^`[^`]*` meets its contract\s*[.:;,]?\s*", "", s)
+    s = re.sub(r"\s*Assumes nothing\.\s*", " ", s).strip()
+    if len(s) < 8:
+        return
+    s = s[0].upper() + s[1:]
+    inv = os.path.join(crate, "proofs", f, "Invariants.antt")
+    ans = os.path.join(crate, "proofs", f, "Answers.antt")
+    to = [inv, ans] if re.search(r"(?i)invariant|measure", s) else [ans, inv]
+    for p in to:
+        if os.path.exists(p):
+            t = open(p, encoding="utf-8").read()
+            if not t.startswith("--"):
+                open(p, "w", encoding="utf-8").write(f"-- {s}\n{t}")
+            return
 
 
 BASE = os.environ.get("TURN_BASE", "6017a2c")
@@ -851,6 +869,10 @@ def main():
             if (" error: " in l or l.startswith("fn ") and not l.endswith(": proved") or l.startswith("logic=") or "must prove" in l):
                 print(l[:500])
         print("said:", said)
+    elif what == "heads":
+        for f, text in functions(crate):
+            _, ds = decls(text)
+            heading(crate, f, next((d["comment"] for d in ds if d["kind"] == "head"), []))
     elif what == "names":
         names = names_of(crate)
         f = sys.argv[3]
