@@ -1,4 +1,6 @@
 // Functions that the host's benchmark calls by C's convention, beside the Rust's: thin, so that the time is the callee's.
+#![tactic(auto)]
+
 ghost use Rattle.std.specs.Prelude.{◌≡◌, length};
 ghost use Rattle.std.specs.Float.{binary32, binary64};
 ghost use Rattle.bursts.specs.Bursts.{default_options, burst_answer};

@@ -1,4 +1,6 @@
 // Charges by C's convention, for the host's benchmark.
+#![tactic(auto)]
+
 ghost use Rattle.std.specs.Prelude.{◌≡◌, nat_abs};
 ghost use Rattle.limits.specs.Answer.{answer};
 ghost use Rattle.event_list.specs.Events.{events_of, messages_of};

@@ -1,4 +1,6 @@
 // The calls on grips by C's convention, for the host's benchmark.
+#![tactic(auto)]
+
 ghost use Rattle.std.specs.Prelude.{◌≡◌, length};
 ghost use Rattle.std.proofs.lemmas.List.Edits.{sets};
 ghost use Rattle.limits.specs.Answer.{answer, leaves};

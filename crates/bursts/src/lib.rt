@@ -28,7 +28,7 @@ const MOST_DB: f64 = 100.0;
 const MOST_MS: f64 = 10_000.0;
 
 // Sample indices of one burst and its levels in dBm.
-#[derive(Drop)]
+#[derive(Clone, Copy)]
 pub struct Burst {
     pub start: usize,
     pub end: usize,
@@ -36,7 +36,7 @@ pub struct Burst {
     pub floor_dbm: f32,
 }
 
-#[derive(Drop)]
+#[derive(Clone, Copy)]
 pub struct BurstOptions {
     pub above_db: f64,
     pub min_ms: f64,
@@ -64,7 +64,7 @@ impl BurstOptions {
 }
 
 // What `find_bursts` answers.
-#[derive(Drop)]
+#[derive(Clone, Copy)]
 pub enum NextBurst {
     Refused(u8),
     Nothing,
@@ -72,7 +72,7 @@ pub enum NextBurst {
 }
 
 // What `noise_floor` answers.
-#[derive(Drop)]
+#[derive(Clone, Copy)]
 pub enum Level {
     Refused(u8),
     Dbm(f32),

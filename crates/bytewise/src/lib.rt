@@ -10,14 +10,14 @@ use coding::HIGHEST_RANK;
 use conv_tables::{RANK_PLACES, STATE_PLACES};
 
 // The code's state: the last decoded bit and the one before it. Both are false where a repetition starts.
-#[derive(Drop)]
+#[derive(Clone, Copy)]
 pub struct ConvState {
     pub last: bool,
     pub second: bool,
 }
 
 // What `deconvolve_bytes` answers.
-#[derive(Drop)]
+#[derive(Clone, Copy)]
 pub enum Undone {
     // A refusal's number.
     Refused(u8),
@@ -26,7 +26,7 @@ pub enum Undone {
 }
 
 // A decoded byte, and the state after it as frame.rs's number: the last bit counts 2, the one before it 1.
-#[derive(Drop)]
+#[derive(Clone, Copy)]
 struct Step {
     byte: u8,
     state: u8,

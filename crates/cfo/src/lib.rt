@@ -19,7 +19,7 @@ const STEPS: f64 = 4096.0;
 pub const CFO_SCALE: f64 = 0.93;
 
 // `cfo_step_hz`'s answer.
-#[derive(Drop)]
+#[derive(Clone, Copy)]
 pub enum StepHz {
     Refused(u8),
     Hz(f64),

@@ -44,7 +44,7 @@ const MILLION: f64 = 1_000_000.0;
 
 // The bit clock: period and phase, the sums of the points that it is fitted to, their number, and the places of the first and the last.
 // A place is a bit index + 2^31.
-#[derive(Drop)]
+#[derive(Clone, Copy)]
 pub struct Clock {
     pub period: f64,
     pub phase: f64,
@@ -58,7 +58,7 @@ pub struct Clock {
 }
 
 // What a dip does to the clock.
-#[derive(Drop)]
+#[derive(Clone, Copy)]
 pub enum Step {
     Lost,
     Skipped,
@@ -66,7 +66,7 @@ pub enum Step {
 }
 
 // What all dips do.
-#[derive(Drop)]
+#[derive(Clone, Copy)]
 pub enum Fit {
     Astray,
     Fitted(Clock),
@@ -220,7 +220,7 @@ pub fn track(c: Clock, d: f64) -> Step
 
 // What `burst_bits` answers: the number of all bits, of which the first 1,024 are handed over, the period in samples, the clock's error, the
 // level, the number of points and the median of their dips' depths.
-#[derive(Drop)]
+#[derive(Clone, Copy)]
 pub enum BurstBits {
     Refused(u8),
     Nothing,

@@ -73,7 +73,7 @@ pub fn coded_bit(b: u8, rank: u8, p: u8, q: u8) -> u8
 }
 
 // What `convolve` and `deconvolve` answer.
-#[derive(Drop)]
+#[derive(Clone, Copy)]
 pub enum Coded {
     // A refusal's number.
     Refused(u8),

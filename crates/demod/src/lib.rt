@@ -11,7 +11,7 @@ ghost use Rattle.clock.specs.Bits.{outcome};
 ghost use Rattle.demod.specs.Decode.{widest_pad, without, time_at, depth_byte, with_burst, heard_in, decode_burst, burst_ok, shown, decode_cause, decode_answer};
 ghost use Rattle.demod.specs.Capture.{floor_of, floor_ok, reception_of, record_of, captured, joined, said, capture_answer, in_front};
 
-#[derive(Drop)]
+#[derive(Clone, Copy)]
 pub struct DecodedFrame {
     pub frame: frame::UplinkFrame,
     // Start and end of the burst, in seconds.
@@ -24,21 +24,21 @@ pub struct DecodedFrame {
 }
 
 // What `decode_burst` answers: all zero besides the outcome where there is no frame.
-#[derive(Drop)]
+#[derive(Clone, Copy)]
 pub struct BurstFrame {
     pub outcome: frame::Outcome,
     pub decoded: DecodedFrame,
 }
 
 // The noise floor of a capture.
-#[derive(Drop)]
+#[derive(Clone, Copy)]
 pub enum Floor {
     Measured,
     Given(f32),
 }
 
 // What `decode_capture` answers: the number of records written.
-#[derive(Drop)]
+#[derive(Clone, Copy)]
 pub enum Captured {
     Refused(u8),
     Count(usize),

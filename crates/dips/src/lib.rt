@@ -35,14 +35,14 @@ const HALF_UNIT: u32 = 5 * BIT_RATE;
 pub const DEPTHS: usize = 3000;
 
 // What the tests of a sample answer: a dip, with its depth, or none.
-#[derive(Drop)]
+#[derive(Clone, Copy)]
 pub enum Tested {
     Other,
     Deep(f64),
 }
 
 // What `find_dips` answers.
-#[derive(Drop)]
+#[derive(Clone, Copy)]
 pub enum DipCount {
     Refused(u8),
     Count(usize),

@@ -72,7 +72,7 @@ pub fn margin(burst: Burst) -> f64
 }
 
 // The samples of a burst that are looked at: from one place on to another.
-#[derive(Drop)]
+#[derive(Clone, Copy)]
 pub struct Segment {
     pub from: usize,
     pub to: usize,
@@ -105,7 +105,7 @@ pub fn took(rate: u32, old: Starts, i: usize, new: Starts, j: usize) -> bool
 
 // What the clock makes of a dip: it has no bit index, it is further from the grid than it may be, its bit is not past the last one's, or it is accepted, and the
 // clock goes on from there. With it how far it is from its grid line, in bits.
-#[derive(Drop)]
+#[derive(Clone, Copy)]
 pub enum Verdict {
     Lost,
     OffGrid(f64),
@@ -166,7 +166,7 @@ pub fn grid_margin(off: f64) -> f64
 // ---- frames and messages
 
 // Where the frame type stands that decides, and what it says.
-#[derive(Drop)]
+#[derive(Clone, Copy)]
 pub enum TypeFound {
     Nowhere,
     At(usize, FrameKind),

@@ -23,7 +23,7 @@ pub const NUMBERS: usize = 9;
 pub const SHEET: usize = 2304;
 
 // What `fleet_report` answers.
-#[derive(Drop)]
+#[derive(Clone, Copy)]
 pub enum Sheet {
     // A refusal's number.
     Refused(u8),
@@ -32,7 +32,7 @@ pub enum Sheet {
 }
 
 // What was read: how many records, whether refusal 12 does not apply to them, and how many devices have a row, one more than the table holds where there are more.
-#[derive(Drop)]
+#[derive(Clone, Copy)]
 pub struct Tally {
     pub records: usize,
     pub ok: bool,

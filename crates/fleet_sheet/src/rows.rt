@@ -8,7 +8,7 @@ ghost use Rattle.fleet_sheet.specs.Table.{single, merge, Small, numbers, row_at}
 
 use record::read;
 
-#[derive(Drop)]
+#[derive(Clone, Copy)]
 pub struct Row {
     pub messages: i64,
     pub one: i64,

@@ -69,7 +69,7 @@ fn plain_byte(body: &[u8], rank: u8, s: Splice, from: usize, last: u8) -> u8
 }
 
 // The plain bytes of a body, zeros after them, and whether their CRC is right.
-#[derive(Drop)]
+#[derive(Clone, Copy)]
 pub struct Plaintext {
     pub bytes: [u8; 22],
     pub crc_ok: bool,
@@ -109,7 +109,7 @@ fn long(x: u8) -> usize
 }
 
 // Some bytes from the front of a body: how many, their CRC's register, and the last of them.
-#[derive(Drop)]
+#[derive(Clone, Copy)]
 pub struct Prefix {
     pub bytes: usize,
     pub crc: u16,

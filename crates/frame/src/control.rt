@@ -3,7 +3,7 @@ ghost use Rattle.std.specs.Prelude.{◌≡◌, ◌≤◌, ◌<◌};
 ghost use Rattle.limits.specs.Answer.{accepted};
 ghost use Rattle.frame.specs.Control.{signed_below, minus, celsius, rssi_of, control_of, said};
 
-#[derive(Drop)]
+#[derive(Clone, Copy)]
 pub enum ControlMessage {
     Unknown,
     KeepAlive {

@@ -8,7 +8,7 @@ use crate::SingleBit;
 use crate::bodies::{HEADER, MOST_PAYLOAD, auth_size, copy_into, put_byte};
 
 // The fields that an uplink carries besides its payload.
-#[derive(Drop)]
+#[derive(Clone, Copy)]
 pub struct UplinkFields {
     pub device_id: u32,
     // Message counter; its low 12 bits are sent.
@@ -17,7 +17,7 @@ pub struct UplinkFields {
     pub downlink: bool,
 }
 
-#[derive(Drop)]
+#[derive(Clone, Copy)]
 pub enum UplinkHeader {
     // A refusal's number.
     Refused(u8),
@@ -32,7 +32,7 @@ pub enum UplinkHeader {
 const MOST_HEADER: usize = 18;
 
 // The size class and LI of a message.
-#[derive(Drop)]
+#[derive(Clone, Copy)]
 pub struct Layout {
     pub class: u8,
     pub li: u8,

@@ -18,7 +18,7 @@ pub mod bodies; // plain bytes of a body and their fields
 pub mod splices; // repairs, as the code makes and tries them
 
 // A single bit error in a frame's body, undone at a bit index after the frame type (the Rust's Option<Repair>).
-#[derive(Drop)]
+#[derive(Clone, Copy)]
 pub enum Repair {
     Unchanged,
     Inserted(bool, usize),
@@ -27,13 +27,13 @@ pub enum Repair {
 }
 
 // The bit of a single-bit message (the Rust's Option<bool>).
-#[derive(Drop)]
+#[derive(Clone, Copy)]
 pub enum SingleBit {
     Absent,
     Is(bool),
 }
 
-#[derive(Drop)]
+#[derive(Clone, Copy)]
 pub struct UplinkFrame {
     // 0, 1, 2: first, second, third transmission.
     pub rank: u8,
@@ -55,7 +55,7 @@ pub struct UplinkFrame {
     pub repaired: Repair,
 }
 
-#[derive(Drop)]
+#[derive(Clone, Copy)]
 pub enum Outcome {
     // A refusal's number.
     Refused(u8),
@@ -63,7 +63,7 @@ pub enum Outcome {
     Frame,
 }
 
-#[derive(Drop)]
+#[derive(Clone, Copy)]
 pub struct DecodedUplink {
     pub outcome: Outcome,
     // All zero where there is none.

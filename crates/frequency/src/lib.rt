@@ -14,7 +14,7 @@ ghost use Rattle.frequency.specs.Waiting.{Settling, settled_of, step_by};
 const AHEAD: u64 = 32760;
 
 // The tracker; its lists are lent: readings as at, lo, hz, and tunings as tuned, freq, of which the counts are held.
-#[derive(Drop)]
+#[derive(Clone, Copy)]
 pub struct FrequencyTracker {
     pub rate: u32,
     pub base_freq: u32,
@@ -27,14 +27,14 @@ pub struct FrequencyTracker {
 }
 
 // A call's answer: 0 and the tracker, or the number of its refusal and the tracker as it was.
-#[derive(Drop)]
+#[derive(Clone, Copy)]
 pub struct Tracked {
     pub refused: u8,
     pub tracker: FrequencyTracker,
 }
 
 // `next_tuning`'s answer, with what to tune to.
-#[derive(Drop)]
+#[derive(Clone, Copy)]
 pub struct Next {
     pub refused: u8,
     pub tracker: FrequencyTracker,
@@ -42,14 +42,14 @@ pub struct Next {
 }
 
 // `freq`'s answer.
-#[derive(Drop)]
+#[derive(Clone, Copy)]
 pub enum Freq {
     Refused(u8),
     Hz(u32),
 }
 
 // `frame_frequency`'s answer: a frame's frequency and the receiver frequency it was measured against.
-#[derive(Drop)]
+#[derive(Clone, Copy)]
 pub enum FrameFrequency {
     Refused(u8),
     Unknown,
@@ -57,7 +57,7 @@ pub enum FrameFrequency {
 }
 
 // `frame1`'s answer.
-#[derive(Drop)]
+#[derive(Clone, Copy)]
 pub enum Frame1 {
     Refused(u8),
     Unknown,

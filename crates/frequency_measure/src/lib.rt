@@ -27,21 +27,21 @@ const SPACING_HIGH: f64 = 2.5;
 const SETTLE_S: f64 = 0.3;
 
 // A frequency in whole Hz, or none: the Rust's Option<u32>.
-#[derive(Drop)]
+#[derive(Clone, Copy)]
 pub enum Frequency {
     Nothing,
     Hz(u32),
 }
 
 // A frame's frequency and the receiver frequency it was measured against, or none: the Rust's Option<FrameFrequency>.
-#[derive(Drop)]
+#[derive(Clone, Copy)]
 pub enum Measured {
     Unmeasured,
     Found(f64, u32),
 }
 
 // How many readings lie in a frame, and the receiver frequency of the last.
-#[derive(Drop)]
+#[derive(Clone, Copy)]
 struct Scan {
     seen: usize,
     lo: u32,

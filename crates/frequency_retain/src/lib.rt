@@ -5,7 +5,7 @@ ghost use Rattle.frequency_signal.specs.Seconds.{Rate, kept, oldest_of};
 ghost use Rattle.frequency_retain.specs.Retain.{moved, stays, KeptReading, Held, Leads, Looked, Moved, Compacted, KeptTuning, HeldTunings, CompactedTunings};
 
 // Whether a look at the readings has settled their order, and how many of them, in front, go.
-#[derive(Drop)]
+#[derive(Clone, Copy)]
 pub struct Look {
     pub settled: bool,
     pub lead: usize,

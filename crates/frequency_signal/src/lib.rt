@@ -25,21 +25,21 @@ const QUIET_S: u64 = 10;
 const KEEP_S: u64 = 60;
 
 // The index of a sample; `Never` stands for the Rust's None, and for its frame start -1.
-#[derive(Drop)]
+#[derive(Clone, Copy)]
 pub enum Sample {
     Never,
     At(u64),
 }
 
 // The noise floor in dBm.
-#[derive(Drop)]
+#[derive(Clone, Copy)]
 pub enum Floor {
     Unknown,
     Dbm(f64),
 }
 
 // What the samples so far say.
-#[derive(Drop)]
+#[derive(Clone, Copy)]
 pub struct Signal {
     pub n: u64,
     pub floor: Floor,

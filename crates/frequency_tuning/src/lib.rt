@@ -11,7 +11,7 @@ ghost use Rattle.frequency_tuning.specs.Ranges.{step_ok};
 const HIGHEST_STEP: f64 = 10_000.0;
 
 // Where `next_tuning` goes: nowhere, back to the base frequency, or to the settled frame 1 reading.
-#[derive(Drop)]
+#[derive(Clone, Copy)]
 pub enum Step {
     Stay,
     Base,

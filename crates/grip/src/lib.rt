@@ -19,7 +19,7 @@ const INFINITY: u64 = 0x7ff0_0000_0000_0000;
 const MARKS: usize = 125_000;
 
 // What `nearest_message` answers.
-#[derive(Drop)]
+#[derive(Clone, Copy)]
 pub enum Nearest {
     // A refusal's number.
     Refused(u8),
@@ -30,7 +30,7 @@ pub enum Nearest {
 }
 
 // What `on_air` answers.
-#[derive(Drop)]
+#[derive(Clone, Copy)]
 pub enum Air {
     // A refusal's number.
     Refused(u8),
@@ -39,7 +39,7 @@ pub enum Air {
 }
 
 // What was read: how many records, whether refusal 12 does not apply to them, and the nearest message among them, if one qualifies.
-#[derive(Drop)]
+#[derive(Clone, Copy)]
 pub struct Best {
     pub count: usize,
     pub ok: bool,

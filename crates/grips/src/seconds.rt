@@ -14,7 +14,7 @@ const NO_DIGIT: usize = 10;
 const ROOM: usize = 100_000_000_000_000;
 
 // A text's number, if it is one.
-#[derive(Drop)]
+#[derive(Clone, Copy)]
 pub struct Seconds {
     pub is_number: bool,
     pub value: f64,

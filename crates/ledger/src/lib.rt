@@ -2,7 +2,7 @@
 use record::SigfoxMessage;
 
 // receiver.rs `Pending`: the message so far, and the time of the frame that joined last.
-#[derive(Drop)]
+#[derive(Clone, Copy)]
 pub struct Pending {
     pub message: SigfoxMessage,
     pub last: f64,

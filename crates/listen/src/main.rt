@@ -1,4 +1,6 @@
 // 01's program: the tracker and the receiver on one stream from standard input.
-fn main() {
-    listening::run();
+#![tactic(auto)]
+
+fn main(rt: HostRuntime) {
+    listening::run(&rt);
 }

@@ -1,4 +1,6 @@
 // `listen` on a stream with 65 tunings, which ends in a refusal.
-fn main() {
-    listening::run();
+#![tactic(auto)]
+
+fn main(rt: HostRuntime) {
+    listening::run(&rt);
 }

@@ -1,4 +1,6 @@
 // `listen` on a stream with frequencies of 0 in between.
-fn main() {
-    listening::run();
+#![tactic(auto)]
+
+fn main(rt: HostRuntime) {
+    listening::run(&rt);
 }

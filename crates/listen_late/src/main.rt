@@ -1,4 +1,6 @@
 // `listen` on a stream whose first frequencies are 0.
-fn main() {
-    listening::run();
+#![tactic(auto)]
+
+fn main(rt: HostRuntime) {
+    listening::run(&rt);
 }

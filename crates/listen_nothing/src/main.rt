@@ -1,4 +1,6 @@
 // `listen` on no input.
-fn main() {
-    listening::run();
+#![tactic(auto)]
+
+fn main(rt: HostRuntime) {
+    listening::run(&rt);
 }

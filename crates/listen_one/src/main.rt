@@ -1,4 +1,6 @@
 // `listen` on 01's example: one record of eight 200s, CFO 0, 868130000 Hz.
-fn main() {
-    listening::run();
+#![tactic(auto)]
+
+fn main(rt: HostRuntime) {
+    listening::run(&rt);
 }

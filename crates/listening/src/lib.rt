@@ -1,4 +1,6 @@
 // What the program `listen` does (01, frequency.rs): the tracker and the receiver side by side on one stream of 16-byte records from standard input, a line for each retune and each message.
+#![tactic(auto)]
+
 mod ending; // the input's end
 mod handing; // what goes to standard output
 mod records; // the whole records of the buffer
@@ -13,7 +15,6 @@ use crate::handing::hand_over;
 use crate::records::RECORD;
 use crate::stepping::{RATE, STEP_HZ};
 use frequency::FrequencyTracker;
-use libc::STDERR_FILENO;
 use reading::Fetched;
 use receiver::SigfoxReceiver;
 
@@ -24,7 +25,7 @@ const MOST_READS: u64 = 0x3ff_ffff_ffff;
 const BUFFER: usize = 4096;
 
 // Whether a frequency that isn't 0 has come, the samples passed over before it, what was counted, and the tracker.
-#[derive(Drop)]
+#[derive(Clone, Copy)]
 pub struct Listener {
     pub started: bool,
     pub passed: u64,
@@ -35,7 +36,7 @@ pub struct Listener {
 }
 
 // After the tracker's side of a record: the refusal or 0, where the text ends, and that side.
-#[derive(Drop)]
+#[derive(Clone, Copy)]
 pub struct Followed {
     pub refused: u8,
     pub end: usize,
@@ -43,7 +44,7 @@ pub struct Followed {
 }
 
 // After a record: the refusal or 0, where the text ends, and both sides.
-#[derive(Drop)]
+#[derive(Clone, Copy)]
 pub struct Stepped {
     pub refused: u8,
     pub end: usize,
@@ -52,7 +53,7 @@ pub struct Stepped {
 }
 
 // After the records of a read: whether no call was refused and every text went out, the refusal or 0, and both sides.
-#[derive(Drop)]
+#[derive(Clone, Copy)]
 pub struct Listening {
     pub going: bool,
     pub refused: u8,
@@ -61,7 +62,7 @@ pub struct Listening {
 }
 
 // Between two reads: how many bytes stand in the buffer, whether there may be more, and what the records left.
-#[derive(Drop)]
+#[derive(Clone, Copy)]
 pub struct Reading {
     pub filled: usize,
     pub more: bool,
@@ -72,7 +73,7 @@ pub struct Reading {
 }
 
 // How the program ended: every whole record was accepted and the last text handed over; a record's call was refused; or standard input could not be read, or standard output took no more.
-#[derive(Drop)]
+#[derive(Clone, Copy)]
 pub enum Ended {
     Heard,
     Refused(u8),
@@ -96,10 +97,10 @@ fn fresh() -> Listener
 }
 
 // After a read that failed: a line on standard error, and nothing more on standard output.
-fn fail(s: Reading) -> Reading
+fn fail(rt: &impl Eprint, s: Reading) -> Reading
     ensures { result ≡ record { filled = s.filled; more = false; going = false; refused = s.refused; listener = s.listener; receiver = s.receiver } }
 {
-    io::write_all(STDERR_FILENO, b"listen: standard input can't be read\n");
+    let _ = rt.eprintln("listen: standard input can't be read");
     let mut m = s;
     m.going = false;
     m.more = false;
@@ -108,6 +109,7 @@ fn fail(s: Reading) -> Reading
 
 // One read, and every record that is whole with it.
 fn turn(
+    rt: &(impl Input + Print + Eprint),
     s: Reading,
     input: &mut [u8],
     at: &mut [u64; 8000],
@@ -128,16 +130,16 @@ fn turn(
     ensures near { Near 65536 s.listener result.listener }
 {
     let from = s.filled;
-    let fetched = reading::fetch(input, from);
+    let fetched = reading::fetch(rt, input, from);
     let Fetched::Bytes(n) = fetched else {
-        return fail(s);
+        return fail(rt, s);
     };
     let end = from + n;
     let l = s.listener;
     let first = s.receiver;
     let r = records::hear(
-        l, first, input, from, end, at, lo, hz, tuned, freq, samples, events, scratch32, scratch64,
-        out,
+        rt, l, first, input, from, end, at, lo, hz, tuned, freq, samples, events, scratch32,
+        scratch64, out,
     );
     let listener = r.listener;
     let receiver = r.receiver;
@@ -153,6 +155,7 @@ fn turn(
 
 // The end of the input: the last calls and lines. Nothing after a refusal, or where standard input or output failed.
 fn conclude(
+    rt: &impl Print,
     s: Reading,
     at: &[u64; 8000],
     lo: &[u32; 8000],
@@ -182,12 +185,12 @@ fn conclude(
     let end = ending::finish(
         l, receiver, leftover, at, lo, hz, samples, events, scratch32, scratch64, out,
     );
-    hand_over(out, end);
+    hand_over(rt, out, end);
     Ended::Heard
 }
 
 // The whole stream.
-pub fn run() -> Ended
+pub fn run(rt: &(impl Input + Print + Eprint)) -> Ended
     ensures { Ran result }
 {
     let mut input = [0u8; 4096];
@@ -214,6 +217,7 @@ pub fn run() -> Ended
     let mut left = MOST_READS;
     while left > 0 && s.more {
         s = turn(
+            rt,
             s,
             &mut input,
             &mut at,
@@ -230,6 +234,7 @@ pub fn run() -> Ended
         left -= 1;
     }
     conclude(
+        rt,
         s,
         &at,
         &lo,

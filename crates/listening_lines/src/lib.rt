@@ -1,4 +1,6 @@
 // The lines of `listen` as text (01, frequency.rs): each is put into a lent buffer, behind what stands there.
+#![tactic(auto)]
+
 mod writing; // text and numbers behind what stands in a buffer
 
 ghost use Rattle.std.specs.Prelude.{◌≡◌, ◌+◌, ◌≤◌, length};

@@ -14,7 +14,7 @@ use receiver::SigfoxReceiver;
 use shifts::Shifts;
 
 // What was told, and the receiver.
-#[derive(Drop)]
+#[derive(Clone, Copy)]
 pub struct Heard {
     pub told: Told,
     pub receiver: SigfoxReceiver,

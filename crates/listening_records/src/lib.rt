@@ -14,7 +14,7 @@ use record::{FrameSpan, read};
 const RATE: f64 = 1_000.0;
 
 // The refusal or 0, what was counted, and where the text ends.
-#[derive(Drop)]
+#[derive(Clone, Copy)]
 pub struct Told {
     pub refused: u8,
     pub frames: u64,

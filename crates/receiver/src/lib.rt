@@ -16,7 +16,7 @@ use receiver_waiting::Waiting;
 use shifts::Shifts;
 
 // Rate, samples held in the lent buffer, absolute index of its first, samples not looked at yet, remembered starts, open messages.
-#[derive(Drop)]
+#[derive(Clone, Copy)]
 pub struct SigfoxReceiver {
     pub rate: u32,
     pub held: usize,
@@ -27,7 +27,7 @@ pub struct SigfoxReceiver {
 }
 
 // A call's answer: 0, how many records it wrote and the receiver, or the number of its refusal, no records and the receiver as it was.
-#[derive(Drop)]
+#[derive(Clone, Copy)]
 pub struct Received {
     pub refused: u8,
     pub count: usize,
@@ -35,7 +35,7 @@ pub struct Received {
 }
 
 // Lengths of what is lent: samples, events, scratch.
-#[derive(Drop)]
+#[derive(Clone, Copy)]
 pub struct Lengths {
     pub samples: usize,
     pub events: usize,

@@ -23,7 +23,7 @@ const MOST_PAYLOAD: u8 = 12;
 const MOST_AUTH: u8 = 5;
 
 // What `estimate_first_frame_end` answers.
-#[derive(Drop)]
+#[derive(Clone, Copy)]
 pub enum Estimated {
     Refused(u8),
     End(FirstFrameEnd),
@@ -212,7 +212,7 @@ pub fn expires(p: Pending, now: f64) -> bool
 }
 
 // A span of rank 1 or 2, or none.
-#[derive(Drop)]
+#[derive(Clone, Copy)]
 enum LaterSpan {
     Nothing,
     Is(FrameSpan),

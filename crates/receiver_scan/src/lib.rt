@@ -26,7 +26,7 @@ const EVENT_PLACES: usize = 256;
 const MIN_MS: f64 = 300.0;
 
 // What a scan leaves, besides the event buffer; `count` is the records of the call so far.
-#[derive(Drop)]
+#[derive(Clone, Copy)]
 pub struct Scanned {
     pub starts: Starts,
     pub waiting: Waiting,

@@ -17,7 +17,7 @@ const OLDEST_S: u64 = 7;
 const MIDDLE: u64 = 0x8000_0000;
 
 // Distances from the first held sample to the starts of bursts taken: the first `count` places.
-#[derive(Drop)]
+#[derive(Clone, Copy)]
 pub struct Starts {
     pub at: [i32; 96],
     pub count: usize,

@@ -22,14 +22,14 @@ pub const OPEN_PLACES: usize = 119;
 const COUNTERS: u64 = 65_536;
 
 // The first `count` places.
-#[derive(Drop)]
+#[derive(Clone, Copy)]
 pub struct Waiting {
     pub messages: [Pending; OPEN_PLACES],
     pub count: usize,
 }
 
 // What one look at every message finds.
-#[derive(Drop)]
+#[derive(Clone, Copy)]
 struct Looked {
     keys: [u64; MOST_WAITING],
     fit: bool,
@@ -38,7 +38,7 @@ struct Looked {
 }
 
 // Whether the messages are in order, whether one has a NaN, and whether a push writes one.
-#[derive(Drop)]
+#[derive(Clone, Copy)]
 pub struct Condition {
     pub ok: bool,
     pub nan: bool,

@@ -1,4 +1,6 @@
 // The 120-byte event record of 01's table: what makes one of a frame or of a message, what reads its fields, and the C function that decodes bits into one.
+#![tactic(auto)]
+
 ghost use Rattle.std.specs.Prelude.{◌≡◌, ◌+◌, ◌≤◌, length};
 ghost use Rattle.std.proofs.lemmas.List.Edits.{sets};
 ghost use Rattle.limits.specs.Limits.{record_size};
@@ -23,7 +25,7 @@ pub const MESSAGE: u8 = 2;
 pub const NO_RANK: u8 = 255;
 
 // What a receiver adds to a frame.
-#[derive(Drop)]
+#[derive(Clone, Copy)]
 pub struct Reception {
     pub clock_error_ppm: i32,
     pub rssi: f32,
@@ -36,7 +38,7 @@ pub struct Reception {
 }
 
 // When a frame of a message was on air; rank 255: no span in this place.
-#[derive(Drop)]
+#[derive(Clone, Copy)]
 pub struct FrameSpan {
     pub rank: u8,
     pub time: f64,
@@ -44,13 +46,13 @@ pub struct FrameSpan {
 }
 
 // The end of a message's first frame (receiver.rs, Option<f64>).
-#[derive(Drop)]
+#[derive(Clone, Copy)]
 pub enum FirstFrameEnd {
     Known(f64),
     Unknown,
 }
 
-#[derive(Drop)]
+#[derive(Clone, Copy)]
 pub struct SigfoxMessage {
     pub device_id: u32,
     pub counter: u16,
@@ -165,8 +167,7 @@ pub fn put_message(m: SigfoxMessage, mark: u8, out: &mut [u8], at: usize)
 }
 
 // Decodes bits, a byte 0 or 1 each, into one record: 0 and the record, 255 and nothing written for no frame, or a refusal.
-#[unsafe(no_mangle)]
-pub extern "C" fn sigfox_decode_bits(bits: &[u8], record: &mut [u8]) -> u8
+pub fn sigfox_decode_bits(bits: &[u8], record: &mut [u8]) -> u8
     ensures { (result ≡ decode_number bits.now «record».old) × («record».new ≡ decode_record bits.now «record».old) }
 {
     if record.len() < limits::RECORD {

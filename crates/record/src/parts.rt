@@ -7,7 +7,7 @@ use crate::FrameSpan;
 use frame::bodies::{copy_into, put_byte};
 
 // Bytes 0 to 7.
-#[derive(Drop)]
+#[derive(Clone, Copy)]
 pub struct Head {
     pub kind: u8,
     pub rank: u8,
@@ -19,7 +19,7 @@ pub struct Head {
 }
 
 // Bytes 33 to 35: what 02 adds to a record.
-#[derive(Drop)]
+#[derive(Clone, Copy)]
 pub struct Marks {
     pub depth: u8,
     pub shift: u8,

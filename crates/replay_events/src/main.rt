@@ -1,4 +1,6 @@
 // The receiver, call by call (docs/REPLAY.md, `events`).
-fn main() {
-    replay_receiver::run(false);
+#![tactic(auto)]
+
+fn main(rt: HostRuntime) {
+    replay_receiver::run(&rt, false);
 }

@@ -1,4 +1,6 @@
 // The receiver, call by call, with shifts behind the arguments of each (docs/REPLAY.md, `shifts`).
-fn main() {
-    replay_receiver::run(true);
+#![tactic(auto)]
+
+fn main(rt: HostRuntime) {
+    replay_receiver::run(&rt, true);
 }

@@ -22,21 +22,21 @@ pub const INSIDE: u8 = 1;
 pub const OUTSIDE: u8 = 2;
 
 // The second of the week at which the stream began (Monday 00:00 is 0), or none.
-#[derive(Drop)]
+#[derive(Clone, Copy)]
 pub enum StreamStart {
     Given(u32),
     Unknown,
 }
 
 // Minutes of the week: the start belongs to the window, the end doesn't; equal ends mean the whole week.
-#[derive(Drop)]
+#[derive(Clone, Copy)]
 pub struct Window {
     pub start: u16,
     pub end: u16,
 }
 
 // The first `count` windows. Closed dates stand beside it, as a lent slice of day numbers.
-#[derive(Drop)]
+#[derive(Clone, Copy)]
 pub struct Shifts {
     pub start: StreamStart,
     pub windows: [Window; 32],

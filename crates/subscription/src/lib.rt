@@ -18,7 +18,7 @@ pub const DAYS: usize = 31;
 const LATEST_START: i64 = 10_000_000_000;
 
 // A fee in cents, an allowance of messages a day, and steps of extra messages, each an upper count and a price in thousandths of a cent. The last step's upper count is not read.
-#[derive(Drop)]
+#[derive(Clone, Copy)]
 pub struct Plan {
     pub fee: u32,
     pub allowance: u32,
@@ -28,7 +28,7 @@ pub struct Plan {
 }
 
 // What `charges` answers.
-#[derive(Drop)]
+#[derive(Clone, Copy)]
 pub enum Charge {
     // A refusal's number.
     Refused(u8),
@@ -36,7 +36,7 @@ pub enum Charge {
 }
 
 // What was read: how many records, whether refusal 12 does not apply to them, and whether every message lies in the month.
-#[derive(Drop)]
+#[derive(Clone, Copy)]
 pub struct Tally {
     pub records: usize,
     pub ok: bool,

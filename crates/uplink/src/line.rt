@@ -17,7 +17,7 @@ const HIGHEST_DEVICE: u64 = 0xffff_ffff;
 const MOST_COUNTER: u64 = 0xffff;
 
 // What a line says, if it is a frame's.
-#[derive(Drop)]
+#[derive(Clone, Copy)]
 pub struct Parsed {
     pub is_frame: bool,
     pub fields: UplinkFields,

@@ -16,7 +16,7 @@ use frame::header::{UplinkFields, layout_of, write_header};
 use frame::kinds::{FRAME_TYPES, SYNC};
 
 // What `write_uplink` answers.
-#[derive(Drop)]
+#[derive(Clone, Copy)]
 pub enum Written {
     // A refusal's number.
     Refused(u8),
