@@ -1,4 +1,6 @@
 // The noise floor, and the bursts that stand over it (demod.rs `noise_floor`, `find_bursts`).
+#![tactic(auto)]
+
 ghost use Rattle.std.specs.Prelude.{◌≡◌, ◌<◌, ◌≤◌, true, length, slice_index_or};
 ghost use Rattle.std.specs.Float.{nan};
 ghost use Rattle.floats.specs.Fold.{max_from};

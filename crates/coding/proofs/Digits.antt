@@ -14,20 +14,20 @@ use borrow.Author.Tests.{ne_eqb}
 use Rattle.coding.specs.Bits.{plus, odd, digits, value}
 use Rattle.coding.specs.Crc.{onto}
 
-bit_xor : (x y : ℕ) → x < 2 → y < 2 → eqb (bit_xor x y) 1 ≡ plus (eqb x 1) (eqb y 1)
-bit_xor zero zero h k = refl
-bit_xor zero (suc zero) h k = refl
-bit_xor (suc zero) zero h k = refl
-bit_xor (suc zero) (suc zero) h k = refl
-bit_xor zero (suc (suc y)) h k = absurd (not-suc-le-zero (le_of_suc-le-suc (le_of_suc-le-suc k)))
-bit_xor (suc zero) (suc (suc y)) h k = absurd (not-suc-le-zero (le_of_suc-le-suc (le_of_suc-le-suc k)))
-bit_xor (suc (suc x)) y h k = absurd (not-suc-le-zero (le_of_suc-le-suc (le_of_suc-le-suc h)))
+bit_xor_units : (x y : ℕ) → x < 2 → y < 2 → eqb (bit_xor x y) 1 ≡ plus (eqb x 1) (eqb y 1)
+bit_xor_units zero zero h k = refl
+bit_xor_units zero (suc zero) h k = refl
+bit_xor_units (suc zero) zero h k = refl
+bit_xor_units (suc zero) (suc zero) h k = refl
+bit_xor_units zero (suc (suc y)) h k = absurd (not-suc-le-zero (le_of_suc-le-suc (le_of_suc-le-suc k)))
+bit_xor_units (suc zero) (suc (suc y)) h k = absurd (not-suc-le-zero (le_of_suc-le-suc (le_of_suc-le-suc k)))
+bit_xor_units (suc (suc x)) y h k = absurd (not-suc-le-zero (le_of_suc-le-suc (le_of_suc-le-suc h)))
 
 two_pos : zero < 2
 two_pos = omega arith
 
 pub odd_xor : (a b : ℕ) → odd (bit_xor a b) ≡ plus (odd a) (odd b)
-odd_xor a b = ap (λ (x : ℕ). eqb x 1) (xor_mod a b 1) ∙ bit_xor (a % 2) (b % 2) (mod-lt a two_pos) (mod-lt b two_pos)
+odd_xor a b = ap (λ (x : ℕ). eqb x 1) (xor_mod a b 1) ∙ bit_xor_units (a % 2) (b % 2) (mod-lt a two_pos) (mod-lt b two_pos)
 
 pub digits_xor : (n a b : ℕ) → digits n (bit_xor a b) ≡ onto (digits n a) (digits n b)
 unfolding digits onto

@@ -1,4 +1,6 @@
 // The frame's CRC-16 and convolutional codes (frame.rs crc16, convolve, deconvolve). Bits are bytes 0 or 1.
+#![tactic(auto)]
+
 ghost use Rattle.std.specs.Prelude.{◌≡◌, true, cond, ◌++◌, map, ◌<◌, ◌≤◌, length, drop};
 ghost use Rattle.coding.specs.Bits.{odd, bit_of, plus, digits, are_bits};
 ghost use Rattle.coding.specs.Crc.{crc_of};

@@ -1,4 +1,6 @@
 // Little-endian bytes of numbers: put into a lent slice at a place, and read from one.
+#![tactic(auto)]
+
 ghost use Rattle.std.specs.Prelude.{◌≡◌, ◌+◌, ◌≤◌, length};
 ghost use Rattle.std.proofs.lemmas.List.Edits.{sets};
 ghost use Rattle.std.specs.Float.{binary32, binary64};

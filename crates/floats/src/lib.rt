@@ -1,4 +1,6 @@
 // Floats: floor, rounding, Rust's casts and magnitude from the bits, choice and maximum, and 01's sine, cosine and arctangent.
+#![tactic(auto)]
+
 ghost use Rattle.std.specs.Prelude.{◌≡◌, ◌^◌, ◌<◌, ◌≤◌, false, not, T, pos, if◌then◌else◌, is_nan};
 ghost use Rattle.std.specs.Float.{binary64};
 ghost use Rattle.std.specs.Float.Ieee.{round, lt, of_int, to_unsigned, to_signed};

@@ -1,4 +1,6 @@
 // The numbers of 01's table of causes, and those that 02 adds: refusals, ranges and sizes, each under one name, and the tests of rates, samples and times that the modules share.
+#![tactic(auto)]
+
 ghost use Rattle.std.specs.Prelude.{◌≡◌, ◌&&◌};
 ghost use Rattle.limits.specs.Samples.{rate_ok, is_dbm, time_ok, all_dbm};
 

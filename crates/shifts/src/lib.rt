@@ -1,4 +1,6 @@
 // Shift windows (02, request 03): what a call is given of the working week, when it is refused, and the mark of a message by its time.
+#![tactic(auto)]
+
 ghost use Rattle.std.specs.Prelude.{◌≡◌, true, ◌+◌, ◌≤◌, take};
 ghost use Rattle.shifts.specs.Shifts.{no_shifts, start_ok, window_ok, windows_ok, rising, shifts_ok, shifts_cause, in_range, farthest, second, among, holds, any_holds, mark_at, mark_of};
 

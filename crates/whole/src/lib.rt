@@ -1,4 +1,6 @@
 // Whole numbers: the lesser and the greater of two, one of two by a test, and a test as a number. A name without a width is of usize.
+#![tactic(auto)]
+
 ghost use Rattle.std.specs.Prelude.{◌≡◌, cond, ◌≤◌, min, max};
 
 pub fn least(a: usize, b: usize) -> usize
