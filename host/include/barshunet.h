@@ -1,4 +1,4 @@
-/* The C function of Barshunet: target/staticlib/librecord.a, made by `rt staticlib record`. */
+/* The C function of Barshunet: target/staticlib/librecord.a, made by `tools/build record_c`. */
 #ifndef BARSHUNET_H
 #define BARSHUNET_H
 

@@ -62,7 +62,7 @@ impl Run {
         let program = bin(&program_name(format.name));
         if !program.is_file() {
             let name = program_name(format.name);
-            return Err(format!("{} is not there; rt check {name} makes it", program.display()));
+            return Err(format!("{} is not there; tools/build {name} makes it", program.display()));
         }
         let folder = root().join("target/compare");
         fs::create_dir_all(&folder).map_err(|e| format!("{}: {e}", folder.display()))?;

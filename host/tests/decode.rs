@@ -1,4 +1,4 @@
-//! The port's C function against the Rust: needs librecord.a (`rt staticlib record`) and the Rust's text.
+//! The port's C function against the Rust: needs librecord.a (`tools/build record_c`) and the Rust's text.
 #![cfg(all(has_rust, has_record))]
 
 use host::decode::{Decoded, RECORD, decode_bits};

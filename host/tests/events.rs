@@ -1,4 +1,4 @@
-//! The arguments of the program `events`: marks, refusals, and what is no argument. Needs target/bin/events (`rt check events`); each test says so
+//! The arguments of the program `events`: marks, refusals, and what is no argument. Needs target/bin/events (`tools/build events`); each test says so
 //! where it isn't there. The stream is the stored one of `listen`, whose five messages come at 6.025, 26.551, 52.635, 61.663 and 67.272 s.
 
 use std::fs::{self, File};
@@ -23,7 +23,7 @@ fn run(arguments: &str) -> Option<(Vec<u8>, String)> {
     if !program.is_file() {
         // not `eprintln!`, which the tests' runner keeps to itself
         let mut stderr = std::io::stderr();
-        writeln!(stderr, "SKIPPED: no target/bin/events; rt check events makes it").expect("it can be written");
+        writeln!(stderr, "SKIPPED: no target/bin/events; tools/build events makes it").expect("it can be written");
         return None;
     }
     let stream = File::open(root().join("crates/listen/stdin")).expect("a stored stream");

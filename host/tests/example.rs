@@ -1,4 +1,4 @@
-//! The C example of README.md: compiled with the header and the static library, and run. Needs librecord.a (`rt staticlib record`) and `cc`.
+//! The C example of README.md: compiled with the header and the static library, and run. Needs librecord.a (`tools/build record_c`) and `cc`.
 #![cfg(has_record)]
 
 use std::io::Write;

@@ -1,5 +1,5 @@
 //! `explain` says of every burst what the receiver did with it: its frames and messages are the records of `events` on the same stream. Needs target/bin/explain and
-//! target/bin/events (`rt check explain events`); it says so where one isn't there.
+//! target/bin/events (`tools/build explain events`); it says so where one isn't there.
 
 use std::fs;
 use std::io::Write;
@@ -20,7 +20,7 @@ fn run(program: &str, arguments: &[&str], input: &[u8]) -> Option<Vec<u8>> {
     if !path.is_file() {
         // not `eprintln!`, which the tests' runner keeps to itself
         let mut stderr = std::io::stderr();
-        writeln!(stderr, "SKIPPED: no target/bin/{program}; rt check {program} makes it").expect("it can be written");
+        writeln!(stderr, "SKIPPED: no target/bin/{program}; tools/build {program} makes it").expect("it can be written");
         return None;
     }
     let mut command = Command::new(path);

@@ -1,4 +1,4 @@
-//! How the program `listen` ends, and when its lines come. Needs target/bin/listen (`rt check listen`); each test says so where it isn't there.
+//! How the program `listen` ends, and when its lines come. Needs target/bin/listen (`tools/build listen`); each test says so where it isn't there.
 
 use std::fs::{self, File};
 use std::io::{BufRead, BufReader, Read, Write};
@@ -22,7 +22,7 @@ fn program() -> Option<PathBuf> {
     if !program.is_file() {
         // not `eprintln!`, which the tests' runner keeps to itself
         let mut stderr = std::io::stderr();
-        writeln!(stderr, "SKIPPED: no target/bin/listen; rt check listen makes it").expect("it can be written");
+        writeln!(stderr, "SKIPPED: no target/bin/listen; tools/build listen makes it").expect("it can be written");
         return None;
     }
     Some(program)

@@ -1,5 +1,5 @@
 //! The names of include/barshunet.h: they stand in docs/RECORD.md with the same numbers, and records have the fields there.
-//! That table needs nothing, a record as the Rust's fields give it the Rust, one of the port librecord.a (`rt staticlib record`).
+//! That table needs nothing, a record as the Rust's fields give it the Rust, one of the port librecord.a (`tools/build record_c`).
 
 use std::collections::BTreeMap;
 use std::fs;

@@ -108,7 +108,7 @@ fn libraries() -> Vec<Row> {
 
 #[cfg(not(all(has_record, has_bench, has_bench_fleet, has_bench_grip, has_bench_charges)))]
 fn missing(library: &str, of: &str) -> Vec<Row> {
-    eprintln!("no rows of {of}: rt staticlib {library} makes their library");
+    eprintln!("no rows of {of}: tools/build {library} makes their library");
     vec![]
 }
 

@@ -48,7 +48,7 @@ pub fn row(
     let path = bin(program);
     let there = path.is_file();
     if !there {
-        eprintln!("{} is not there; rt check {program} makes it", path.display());
+        eprintln!("{} is not there; tools/build {program} makes it", path.display());
     } else if printed(&path, &file) != rust() {
         return Err(format!("{of}, {what}: the port does not print what the Rust does"));
     }
