@@ -109,7 +109,7 @@ fn long(x: u8) -> usize
 }
 
 // Some bytes from the front of a body: how many, their CRC's register, and the last of them.
-#[derive(Drop)]
+#[derive(Clone, Copy)]
 pub struct Prefix {
     pub bytes: usize,
     pub crc: u16,

@@ -6,7 +6,7 @@ ghost use Rattle.frame.specs.Kinds.{kinds, blank_kind, kind_of, sync_size};
 use coding::wide;
 
 // What a frame type says of a frame.
-#[derive(Drop)]
+#[derive(Clone, Copy)]
 pub struct FrameKind {
     pub rank: u8,
     // 0: no byte or a bit, 1: 1 byte, 2: 2 to 4, 3: 5 to 8, 4: 9 to 12 bytes.

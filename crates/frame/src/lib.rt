@@ -1,4 +1,6 @@
 // Sigfox uplink frames (frame.rs): the frame type is searched, the body parsed as it is and after single-bit repairs. Bits are bytes 0 or 1.
+#![tactic(auto)]
+
 ghost use Rattle.std.specs.Prelude.{◌≡◌, true, false, map, ◌+◌, ◌*◌, ◌≤◌, length};
 ghost use Rattle.coding.specs.Bits.{odd, are_bits};
 ghost use Rattle.limits.specs.Limits.{most_bits};
@@ -18,7 +20,7 @@ pub mod bodies; // plain bytes of a body and their fields
 pub mod splices; // repairs, as the code makes and tries them
 
 // A single bit error in a frame's body, undone at a bit index after the frame type (the Rust's Option<Repair>).
-#[derive(Drop)]
+#[derive(Clone, Copy)]
 pub enum Repair {
     Unchanged,
     Inserted(bool, usize),
@@ -27,7 +29,7 @@ pub enum Repair {
 }
 
 // The bit of a single-bit message (the Rust's Option<bool>).
-#[derive(Drop)]
+#[derive(Clone, Copy)]
 pub enum SingleBit {
     Absent,
     Is(bool),

@@ -7,7 +7,7 @@ ghost use Rattle.frame.specs.Splices.{spliced, SpliceOk, placed, keeping, insert
 use crate::Repair;
 
 // `skip` bits at `at` are replaced by `put` bits `bit`.
-#[derive(Drop)]
+#[derive(Clone, Copy)]
 pub struct Splice {
     pub at: usize,
     pub put: usize,
