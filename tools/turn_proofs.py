@@ -37,7 +37,8 @@ class Fn:
         self.place = {}
         for i, (old, parent, step, callee, *_rest) in enumerate(d["places"]):
             new = d["places_by_name"][i] if i < len(d["places_by_name"]) else old
-            self.place[norm(old)] = dict(old=old, parent=norm(parent) if parent else None, step=step, new=new, callee=callee)
+            arm = d["arms"][i] if i < len(d.get("arms", [])) else None
+            self.place[norm(old)] = dict(arm=arm, old=old, parent=norm(parent) if parent else None, step=step, new=new, callee=callee)
         self.goal = {}
         for i, (old, new) in enumerate(d["needs"]):
             at = d["asked_at"][i] if i < len(d["asked_at"]) else ["Start", "Start"]
@@ -67,7 +68,7 @@ class Turn:
         self.fn, self.warn, self.defs, self.goalname = fn, warn, defs, goalname
         self.env = {}
         self.steps = {}
-        self.arm_alias = {}
+        self.prefix, self.prefixes = None, {}
         self.args = set()
         self.step = None
         self.used_places = set()
@@ -95,11 +96,15 @@ class Turn:
             if re.fullmatch(r"t\d+", comps[1]) and self.own and comps[1] not in self.own and int(comps[1][1:]) <= len(self.own):
                 comps[1] = self.own[int(comps[1][1:]) - 1]
             return ("text", ".".join(comps))
+        if v in self.prefixes:
+            var, home, front = self.prefixes[v]
+            full = front + comps[1:]
+            a = self.arm(var, home, full[0], full[1:])
+            if a:
+                return ("text", a)
+            if v not in self.steps:
+                self.warn(f"{text}: the arm has no such field")
         if v in self.steps and len(comps) > 1:
-            for c2, p2 in self.arm_alias.get(v, []):
-                a = self.arm(c2, p2, self.fn.place[p2]["step"][0], comps[1:])
-                if a:
-                    return ("text", a)
             return ("text", ".".join([v] + self.tail(self.steps[v], [field(x) for x in comps[1:]])))
         if v not in self.env:
             return None
@@ -127,7 +132,8 @@ class Turn:
         for k, q in enumerate(anc + down):
             if norm(fn.place[q]["step"][0]) == s:
                 self.step = q if not tail else None
-                arm = self.arm(var, q, rest[0], tail)
+                arm = self.arm(var, home, rest[0], tail)
+                self.prefix = (var, home, [rest[0]] + tail) if not arm and self.opens(home, rest[0], tail) else None
                 if arm:
                     return ("text", arm)
                 return ("text", ".".join([var, fn.place[q]["step"][1]] + self.tail(q, tail)))
@@ -137,19 +143,28 @@ class Turn:
         self.warn(f"step {rest[0]} of {text} not found from {fn.place[p]['old'] if p in fn.place else p}")
         return ("text", ".".join([var, rest[0]] + tail))
 
-    def arm(self, var, q, step, tail):
-        """what a step that a pattern makes gives, as a field of its arm"""
-        if tail[:2] not in (["given", "1"], ["given", "0"]):
-            return None
-        m = next((x for x in self.fn.ancestors(q) if norm(self.fn.place[x]["step"][0]).startswith("match")), None)
-        if m is None:
-            return None
-        arm = f"{var}.{self.fn.place[m]['step'][1]}"
-        if tail[1] == "1":
-            return ".".join([arm, "is"] + tail[2:])
-        if tail[2:3] == ["0"]:
-            return ".".join([arm, step] + tail[3:])
+    def arm(self, var, home, step, tail):
+        """what a step that a pattern makes gives, as a field of its arm (names.json has the old paths under `arms`)"""
+        best = None
+        for q in self.fn.ancestors(home):
+            a = self.fn.place[q].get("arm")
+            if not a:
+                continue
+            for new, old, path in a[2]:
+                if path and norm(old) == norm(step) and tail[:len(path)] == path and (best is None or len(path) > best[2]):
+                    best = (a[0], new, len(path))
+        if best:
+            return ".".join([var, best[0], best[1]] + tail[best[2]:])
         return None
+
+    def opens(self, home, step, tail):
+        """whether a path is the beginning of one that an arm has"""
+        for q in self.fn.ancestors(home):
+            a = self.fn.place[q].get("arm")
+            for new, old, path in (a[2] if a else []):
+                if path and norm(old) == norm(step) and len(path) > len(tail) and path[:len(tail)] == tail:
+                    return True
+        return False
 
     def tail(self, q, tail):
         """the fields after a step: what a &mut argument contains afterwards goes by the parameter's name"""
@@ -192,15 +207,21 @@ class Turn:
             done = False
             if pm:
                 after = re.match(r"\s+in\b[ \t]*\n?[ \t]*", text[pm.end():])
-                self.step = None
+                self.step = self.prefix = None
                 r = self.path(pm.group(1)) if after else None
                 self.steps.pop(name, None)
+                self.prefixes.pop(name, None)
+                if r and r[0] == "text" and self.prefix:
+                    self.prefixes[name] = self.prefix
+                    if self.step is None:
+                        self.env.pop(name, None)
+                        pos = pm.end() + after.end()
+                        continue
                 self.args.discard(name)
                 if r and r[0] == "text" and r[1].endswith(".args"):
                     self.args.add(name)
                 if r and r[0] == "text" and self.step:
                     self.steps[name] = self.step
-                    self.arm_alias[name] = [(r[1].split(".")[0], self.step)]
                 if r and r[0] == "place":
                     self.env[name] = (r[1], r[2])
                     pos = pm.end() + after.end()
@@ -214,7 +235,9 @@ class Turn:
     def subst(self, text):
         def one(m):
             t = m.group(1)
-            # a binder of a λ or a name in a pattern is left alone
+            # the name of a record's field is left alone
+            if is_field(text, m):
+                return t
             r = self.path(t)
             if r is None:
                 head = t.split(".")[0]
@@ -230,6 +253,10 @@ class Turn:
         text = PATH.sub(one, text)
         # `!x` tests x itself now
         return re.sub(r"\bnot[-_](?:true|false) (?:_|\S+\.result) ((?:«?[\w\-'₀-₉]+»?)\.[\w\-]+\.(?:true|false))(?![\w.])", r"\1", text)
+
+
+def is_field(text, m):
+    return bool(re.search(r"[{;]\s*$", text[:m.start()]) and re.match(r"\s*=(?!\S)", text[m.end():]))
 
 
 FIELDS = {"type-inv": "type_inv", "well-formed": "well_formed"}
@@ -448,7 +475,7 @@ def invariants(fn, ds, warn):
 
         def one(m):
             t = m.group(1).split(".")
-            if t[0] in env:
+            if t[0] in env and not is_field(body, m):
                 return ".".join([env[t[0]]] + [field(x) for x in t[1:]])
             return m.group(1)
         b = PATH.sub(one, body)

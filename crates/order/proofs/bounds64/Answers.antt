@@ -1,4 +1,4 @@
-use Rattle.std.proofs.Common.{◌-◌, ◌^◌, arith, rules}
+use Rattle.std.proofs.Common.{◌^◌, arith, rules}
 use lib.Ieee.{nan, binary64}
 use Rattle.order.specs.Order.{key}
 use Rattle.order.proofs.Bounds.{none_passed, pass, ordered, tight}

@@ -1,4 +1,4 @@
-use Rattle.std.proofs.Common.{◌-◌, ◌/◌, ◌^◌, ◌<◌, arith, pow_pos, rules}
+use Rattle.std.proofs.Common.{◌/◌, ◌^◌, ◌<◌, arith, pow_pos, rules}
 use lib.Ieee.{nan, binary64}
 use Rattle.order.specs.Order.{key}
 use Rattle.order.specs.Search.{bins}
