@@ -25,7 +25,7 @@ def norm(s):
 def names_of(crate):
     out = os.path.join(SAVED, "names", os.path.basename(crate))
     os.makedirs(out, exist_ok=True)
-    subprocess.run(["rt", "check", "--generated", out, "--old-names"], cwd=crate, stdout=subprocess.PIPE, stderr=subprocess.STDOUT)
+    subprocess.run([*CHECK(crate), "--generated", out, "--old-names"], cwd=crate, stdout=subprocess.PIPE, stderr=subprocess.STDOUT)
     with open(os.path.join(out, "names.json"), encoding="utf-8") as f:
         return json.load(f)
 
@@ -730,6 +730,13 @@ def saved(crate):
 BASE = os.environ.get("TURN_BASE", "6017a2c")
 
 
+def CHECK(crate):
+    if os.environ.get("TURN_DEV"):
+        return ["python3", "/work/h/dev.py", os.path.dirname(os.path.dirname(crate)), os.path.basename(crate)]
+    return ["rt", "check"]
+
+
+
 def functions(crate):
     """The functions that had a Proof.antt at the commit BASE, with that file's text."""
     name = os.path.basename(crate)
@@ -796,7 +803,7 @@ def derive(crate, said):
 def ready(crate):
     """The check of the source alone, with what it says mended; what it says at last"""
     for k in range(8):
-        r = subprocess.run(["rt", "check", "--generated", "/tmp/turned/source", "--old-names"], cwd=crate, stdout=subprocess.PIPE, stderr=subprocess.STDOUT)
+        r = subprocess.run([*CHECK(crate), "--generated", "/tmp/turned/source", "--old-names"], cwd=crate, stdout=subprocess.PIPE, stderr=subprocess.STDOUT)
         said = r.stdout.decode(errors="replace")
         if "generated=" in said:
             return True
@@ -867,7 +874,7 @@ def main():
         said = os.path.join(SAVED, os.path.basename(crate) + ".said")
         last = None
         for k in range(6):
-            r = subprocess.run(["rt", "check"], cwd=crate, stdout=subprocess.PIPE, stderr=subprocess.STDOUT)
+            r = subprocess.run([*CHECK(crate)], cwd=crate, stdout=subprocess.PIPE, stderr=subprocess.STDOUT)
             text = r.stdout.decode(errors="replace")
             with open(said, "w", encoding="utf-8") as f:
                 f.write(text)
