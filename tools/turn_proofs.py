@@ -5,6 +5,7 @@ usage: turn_proofs.py turn CRATE_DIR [F ..]     write the files (all functions, 
        turn_proofs.py more CRATE_DIR SAID       read a check's output: add the short answers that were left out where a goal stays open
                                                 (also drops answers of goals that are not asked)
        turn_proofs.py auto CRATE_DIR [F ..]     #![tactic(auto)], turn, then rt check and more until nothing is added; what is said lies in SAVED/CRATE.said
+       turn_proofs.py heads CRATE_DIR            writes what the old files' heads said to the new files that have no head
        turn_proofs.py names CRATE_DIR F         print the places, steps and goals of F, old and new
 
 SAVED is /tmp/turned (or $TURNED).
@@ -25,7 +26,7 @@ def norm(s):
 def names_of(crate):
     out = os.path.join(SAVED, "names", os.path.basename(crate))
     os.makedirs(out, exist_ok=True)
-    subprocess.run([*CHECK(crate), "--generated", out, "--old-names"], cwd=crate, stdout=subprocess.PIPE, stderr=subprocess.STDOUT)
+    subprocess.run(["rt", "check", "--generated", out, "--old-names"], cwd=crate, stdout=subprocess.PIPE, stderr=subprocess.STDOUT)
     with open(os.path.join(out, "names.json"), encoding="utf-8") as f:
         return json.load(f)
 
@@ -36,7 +37,8 @@ class Fn:
         self.place = {}
         for i, (old, parent, step, callee, *_rest) in enumerate(d["places"]):
             new = d["places_by_name"][i] if i < len(d["places_by_name"]) else old
-            self.place[norm(old)] = dict(old=old, parent=norm(parent) if parent else None, step=step, new=new, callee=callee)
+            arm = d["arms"][i] if i < len(d.get("arms", [])) else None
+            self.place[norm(old)] = dict(arm=arm, old=old, parent=norm(parent) if parent else None, step=step, new=new, callee=callee)
         self.goal = {}
         for i, (old, new) in enumerate(d["needs"]):
             at = d["asked_at"][i] if i < len(d["asked_at"]) else ["Start", "Start"]
@@ -66,7 +68,7 @@ class Turn:
         self.fn, self.warn, self.defs, self.goalname = fn, warn, defs, goalname
         self.env = {}
         self.steps = {}
-        self.arm_alias = {}
+        self.prefix, self.prefixes = None, {}
         self.args = set()
         self.step = None
         self.used_places = set()
@@ -94,11 +96,15 @@ class Turn:
             if re.fullmatch(r"t\d+", comps[1]) and self.own and comps[1] not in self.own and int(comps[1][1:]) <= len(self.own):
                 comps[1] = self.own[int(comps[1][1:]) - 1]
             return ("text", ".".join(comps))
+        if v in self.prefixes:
+            var, home, front = self.prefixes[v]
+            full = front + comps[1:]
+            a = self.arm(var, home, full[0], full[1:])
+            if a:
+                return ("text", a)
+            if v not in self.steps:
+                self.warn(f"{text}: the arm has no such field")
         if v in self.steps and len(comps) > 1:
-            for c2, p2 in self.arm_alias.get(v, []):
-                a = self.arm(c2, p2, self.fn.place[p2]["step"][0], comps[1:])
-                if a:
-                    return ("text", a)
             return ("text", ".".join([v] + self.tail(self.steps[v], [field(x) for x in comps[1:]])))
         if v not in self.env:
             return None
@@ -126,7 +132,8 @@ class Turn:
         for k, q in enumerate(anc + down):
             if norm(fn.place[q]["step"][0]) == s:
                 self.step = q if not tail else None
-                arm = self.arm(var, q, rest[0], tail)
+                arm = self.arm(var, home, rest[0], tail)
+                self.prefix = (var, home, [rest[0]] + tail) if not arm and self.opens(home, rest[0], tail) else None
                 if arm:
                     return ("text", arm)
                 return ("text", ".".join([var, fn.place[q]["step"][1]] + self.tail(q, tail)))
@@ -136,19 +143,28 @@ class Turn:
         self.warn(f"step {rest[0]} of {text} not found from {fn.place[p]['old'] if p in fn.place else p}")
         return ("text", ".".join([var, rest[0]] + tail))
 
-    def arm(self, var, q, step, tail):
-        """what a step that a pattern makes gives, as a field of its arm"""
-        if tail[:2] not in (["given", "1"], ["given", "0"]):
-            return None
-        m = next((x for x in self.fn.ancestors(q) if norm(self.fn.place[x]["step"][0]).startswith("match")), None)
-        if m is None:
-            return None
-        arm = f"{var}.{self.fn.place[m]['step'][1]}"
-        if tail[1] == "1":
-            return ".".join([arm, "is"] + tail[2:])
-        if tail[2:3] == ["0"]:
-            return ".".join([arm, step] + tail[3:])
+    def arm(self, var, home, step, tail):
+        """what a step that a pattern makes gives, as a field of its arm (names.json has the old paths under `arms`)"""
+        best = None
+        for q in self.fn.ancestors(home):
+            a = self.fn.place[q].get("arm")
+            if not a:
+                continue
+            for new, old, path in a[2]:
+                if path and norm(old) == norm(step) and tail[:len(path)] == path and (best is None or len(path) > best[2]):
+                    best = (a[0], new, len(path))
+        if best:
+            return ".".join([var, best[0], best[1]] + tail[best[2]:])
         return None
+
+    def opens(self, home, step, tail):
+        """whether a path is the beginning of one that an arm has"""
+        for q in self.fn.ancestors(home):
+            a = self.fn.place[q].get("arm")
+            for new, old, path in (a[2] if a else []):
+                if path and norm(old) == norm(step) and len(path) > len(tail) and path[:len(tail)] == tail:
+                    return True
+        return False
 
     def tail(self, q, tail):
         """the fields after a step: what a &mut argument contains afterwards goes by the parameter's name"""
@@ -191,15 +207,21 @@ class Turn:
             done = False
             if pm:
                 after = re.match(r"\s+in\b[ \t]*\n?[ \t]*", text[pm.end():])
-                self.step = None
+                self.step = self.prefix = None
                 r = self.path(pm.group(1)) if after else None
                 self.steps.pop(name, None)
+                self.prefixes.pop(name, None)
+                if r and r[0] == "text" and self.prefix:
+                    self.prefixes[name] = self.prefix
+                    if self.step is None:
+                        self.env.pop(name, None)
+                        pos = pm.end() + after.end()
+                        continue
                 self.args.discard(name)
                 if r and r[0] == "text" and r[1].endswith(".args"):
                     self.args.add(name)
                 if r and r[0] == "text" and self.step:
                     self.steps[name] = self.step
-                    self.arm_alias[name] = [(r[1].split(".")[0], self.step)]
                 if r and r[0] == "place":
                     self.env[name] = (r[1], r[2])
                     pos = pm.end() + after.end()
@@ -213,7 +235,9 @@ class Turn:
     def subst(self, text):
         def one(m):
             t = m.group(1)
-            # a binder of a λ or a name in a pattern is left alone
+            # the name of a record's field is left alone
+            if is_field(text, m):
+                return t
             r = self.path(t)
             if r is None:
                 head = t.split(".")[0]
@@ -229,6 +253,10 @@ class Turn:
         text = PATH.sub(one, text)
         # `!x` tests x itself now
         return re.sub(r"\bnot[-_](?:true|false) (?:_|\S+\.result) ((?:«?[\w\-'₀-₉]+»?)\.[\w\-]+\.(?:true|false))(?![\w.])", r"\1", text)
+
+
+def is_field(text, m):
+    return bool(re.search(r"[{;]\s*$", text[:m.start()]) and re.match(r"\s*=(?!\S)", text[m.end():]))
 
 
 FIELDS = {"type-inv": "type_inv", "well-formed": "well_formed"}
@@ -251,6 +279,8 @@ def decls(text):
             while u.count("{") > u.count("}"):
                 i += 1
                 u += " " + lines[i].strip()
+            if comment and not uses and not out:
+                out.append(dict(kind="head", comment=comment))
             uses.append(u)
             comment = []
         elif l.startswith("--"):
@@ -431,10 +461,6 @@ def invariants(fn, ds, warn):
         _, args, body = se
         args = args.split()
         want = len(vs) + sum(changed)
-        if len(args) < want and "rt" in vs:
-            kept = [(v, ch) for v, ch in zip(vs, changed) if v != "rt"]
-            vs, changed = [v for v, _ in kept], [ch for _, ch in kept]
-            want = len(vs) + sum(changed)
         if len(args) != want:
             warn(f"{kind}-{loop}: {len(args)} binders {args}, loop has {vs} {changed}")
         env = {}
@@ -445,7 +471,7 @@ def invariants(fn, ds, warn):
 
         def one(m):
             t = m.group(1).split(".")
-            if t[0] in env:
+            if t[0] in env and not is_field(body, m):
                 return ".".join([env[t[0]]] + [field(x) for x in t[1:]])
             return m.group(1)
         b = PATH.sub(one, body)
@@ -453,18 +479,6 @@ def invariants(fn, ds, warn):
         com = [c for c in d["comment"]]
         out.append((name, "\n".join(com + [f"abbrev pub {name} : goal.{name}"] + d["unf"] + [f"{name} l ={' ' if not b.startswith(chr(10)) else ''}{b}"])))
     return out, done
-
-
-def generic(crate, f):
-    """whether the function takes a type parameter, as by `impl`: its goals take g first then"""
-    m, _, n = f.rpartition("/")
-    for p in [m] if m else ["lib", "main"]:
-        q = os.path.join(crate, "src", p + ".rt")
-        if os.path.exists(q):
-            x = re.search(r"^(?:pub )?(?:extern \"C\" )?fn %s(<[^>(]*>)?\(((?:[^()]|\([^()]*\))*)\)" % re.escape(n), open(q, encoding="utf-8").read(), re.M)
-            if x:
-                return bool(x.group(1)) or "impl " in x.group(2)
-    return False
 
 
 def place_of(fn, ty):
@@ -687,16 +701,6 @@ def turn_file(crate, f, path, names, warn):
                     break
         if len(items) == before:
             break
-    if generic(crate, f):
-        inv = [(n, re.sub(r"^(%s) l =" % re.escape(n), r"\1 g l =", t, flags=re.M)) for n, t in inv]
-        gs = [n for n, _ in items if n not in helpers] + list(short)
-
-        def with_g(n, t):
-            if n in gs:
-                t = re.sub(r"^(%s) (?!:)" % re.escape(n), r"\1 g ", t, flags=re.M)
-            return re.sub(r"\(goal\.at\.([\w.\-]+) (?!g )", r"(goal.at.\1 g ", t)
-        items = [[n, with_g(n, t)] for n, t in items]
-        short = {n: with_g(n, t) for n, t in short.items()}
     return dict(mod=modname, head=head, uses=uses, inv=inv, items=items, short=short, helpers=helpers, places=sorted(places))
 
 
@@ -708,33 +712,41 @@ def write(crate, f, r):
     for p in (inv, ans):
         if os.path.exists(p):
             os.remove(p)
-    head = [re.sub(r"\s*Assumes nothing\.", "", h).rstrip() for h in r["head"]]
     if r["inv"]:
         body = "\n\n".join(t for _, t in r["inv"])
         us = uses_for(r["uses"], body)
         with open(inv, "w", encoding="utf-8") as fh:
             fh.write("\n".join(us + [f"use {r['mod']}.Given as goal"]) + "\n\n" + body + "\n")
-    if any(n not in r["helpers"] for n, _ in r["items"]):
+    if any(n != "module" and n not in r["helpers"] for n, _ in r["items"]):
         body = "\n\n".join(t for _, t in r["items"])
         us = uses_for(r["uses"], body)
         pl = [p for p in r["places"] if re.search(r"(?<![\w\-])" + re.escape(p) + r"(?![\w\-])", body)]
         lines = us + ([f"use {r['mod']}.Goals.{{{', '.join(pl)}}}"] if pl else []) + [f"use {r['mod']}.Goals as goal"]
         with open(ans, "w", encoding="utf-8") as fh:
             fh.write("\n".join(lines) + "\n\n" + body + "\n")
+    heading(crate, f, r["head"])
 
 
-def saved(crate):
-    return os.path.join(SAVED, os.path.basename(crate))
+def heading(crate, f, comment):
+    """What the old file's head said beyond `it meets its contract`, at the head of a new file"""
+    s = " ".join(c.lstrip("-").strip() for c in comment)
+    s = re.sub(r"^`[^`]*` meets its contract\s*[.:;,]?\s*", "", s)
+    s = re.sub(r"\s*Assumes nothing\.\s*", " ", s).strip()
+    if len(s) < 8:
+        return
+    s = s[0].upper() + s[1:]
+    inv = os.path.join(crate, "proofs", f, "Invariants.antt")
+    ans = os.path.join(crate, "proofs", f, "Answers.antt")
+    to = [inv, ans] if re.search(r"(?i)invariant|measure", s) else [ans, inv]
+    for p in to:
+        if os.path.exists(p):
+            t = open(p, encoding="utf-8").read()
+            if not t.startswith("--"):
+                open(p, "w", encoding="utf-8").write(f"-- {s}\n{t}")
+            return
 
 
 BASE = os.environ.get("TURN_BASE", "6017a2c")
-
-
-def CHECK(crate):
-    if os.environ.get("TURN_DEV"):
-        return ["python3", "/work/h/dev.py", os.path.dirname(os.path.dirname(crate)), os.path.basename(crate)]
-    return ["rt", "check"]
-
 
 
 def functions(crate):
@@ -803,7 +815,7 @@ def derive(crate, said):
 def ready(crate):
     """The check of the source alone, with what it says mended; what it says at last"""
     for k in range(8):
-        r = subprocess.run([*CHECK(crate), "--generated", "/tmp/turned/source", "--old-names"], cwd=crate, stdout=subprocess.PIPE, stderr=subprocess.STDOUT)
+        r = subprocess.run(["rt", "check", "--generated", "/tmp/turned/source", "--old-names"], cwd=crate, stdout=subprocess.PIPE, stderr=subprocess.STDOUT)
         said = r.stdout.decode(errors="replace")
         if "generated=" in said:
             return True
@@ -874,7 +886,7 @@ def main():
         said = os.path.join(SAVED, os.path.basename(crate) + ".said")
         last = None
         for k in range(6):
-            r = subprocess.run([*CHECK(crate)], cwd=crate, stdout=subprocess.PIPE, stderr=subprocess.STDOUT)
+            r = subprocess.run(["rt", "check"], cwd=crate, stdout=subprocess.PIPE, stderr=subprocess.STDOUT)
             text = r.stdout.decode(errors="replace")
             with open(said, "w", encoding="utf-8") as f:
                 f.write(text)
@@ -884,6 +896,10 @@ def main():
             if (" error: " in l or l.startswith("fn ") and not l.endswith(": proved") or l.startswith("logic=") or "must prove" in l):
                 print(l[:500])
         print("said:", said)
+    elif what == "heads":
+        for f, text in functions(crate):
+            _, ds = decls(text)
+            heading(crate, f, next((d["comment"] for d in ds if d["kind"] == "head"), []))
     elif what == "names":
         names = names_of(crate)
         f = sys.argv[3]

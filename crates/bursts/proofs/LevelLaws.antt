@@ -1,5 +1,5 @@
 -- The answers of `noise_floor`. Assumes nothing.
-use Rattle.std.proofs.Common.{◌≡◌, ℕ, ◌-◌, ◌<◌, ◌≤◌, true, false, List, [], ◌∷◌, length, refl, arith, le-ltb, lt-ltb}
+use Rattle.std.proofs.Common.{◌≡◌, ℕ, ◌<◌, ◌≤◌, true, false, List, [], ◌∷◌, length, refl, arith, le-ltb, lt-ltb}
 use lib.Ieee.{Float, binary32}
 use Rattle.order.specs.Order.{kth}
 use Rattle.rates.specs.Rates.{fifth_of}

@@ -1,6 +1,6 @@
 -- The bursts of a list lie in a row: each inside the samples and long enough, the next one more than the gap after it, and from a burst's end on the
 -- loop finds the rest of the list. Assumes nothing.
-use Rattle.std.proofs.Common.{◌≡◌, ℕ, suc, ◌+◌, ◌-◌, ◌<◌, ◌≤◌, Bool, true, false, cond, T, ltb, leb, List, [], ◌∷◌, length, drop, sym, refl, ap, ◌∙◌, add-one, arith, length-drop, drop-drop, ltb-true, le-leb}
+use Rattle.std.proofs.Common.{◌≡◌, ℕ, suc, ◌+◌, ◌-◌, ◌<◌, ◌≤◌, Bool, true, false, cond, T, ltb, List, [], ◌∷◌, length, drop, sym, refl, ap, ◌∙◌, add-one, arith, length-drop, drop-drop, ltb-true, le-leb}
 use mathlib.Core.Option.{some}
 use mathlib.Core.Option as option
 use lib.Ieee.{Float}

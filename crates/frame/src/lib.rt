@@ -1,4 +1,6 @@
 // Sigfox uplink frames (frame.rs): the frame type is searched, the body parsed as it is and after single-bit repairs. Bits are bytes 0 or 1.
+#![tactic(auto)]
+
 ghost use Rattle.std.specs.Prelude.{◌≡◌, true, false, map, ◌+◌, ◌*◌, ◌≤◌, length};
 ghost use Rattle.coding.specs.Bits.{odd, are_bits};
 ghost use Rattle.limits.specs.Limits.{most_bits};

@@ -1,7 +1,7 @@
 -- The answer and the lent memory by the cause k, which the code found as c. Assumes nothing.
 use mathlib.Core.Path.{◌≡◌, refl, sym, ap, ◌∙◌}
 use Prim.Native.Nat.{ℕ, zero, suc}
-use Rattle.limits.specs.Answer.{Answer, refused, accepted, answer, leaves}
+use Rattle.limits.specs.Answer.{refused, accepted, answer, leaves}
 
 module _ {A : Type 0} (c k : ℕ) (e : c ≡ k) where
   pub refused-answer : (v : A) → (c ≡ 0 → ⊥) → refused c ≡ answer k v

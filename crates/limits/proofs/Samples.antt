@@ -7,7 +7,7 @@ use native.Mathlib.Omega.{arith}
 use lib.Dec.{T, leb}
 use borrow.Author.Tests.{leb-true}
 use lib.ListN.{length, get_or, take, drop}
-use lib.Ieee.{Float, nan, inf, fin, is_nan, neg, le, lt, eq}
+use lib.Ieee.{Float, nan, inf, fin, is_nan, le, lt, eq}
 use Rattle.limits.specs.Limits.{lowest_rate, highest_rate, lowest_dbm, highest_dbm}
 use Rattle.limits.specs.Samples.{rate_ok, is_dbm, all_dbm}
 

@@ -1,5 +1,5 @@
 -- The numbers of 01's table of causes ('Causes and returns') and of those that 02 adds, each by one name; the code has one name for each too. Assumes nothing.
-use Rattle.std.specs.Prelude.{ℕ, ◌*◌, ◌^◌, Float}
+use Rattle.std.specs.Prelude.{ℕ, ◌^◌, Float}
 use Rattle.std.specs.Float.Ieee.{neg}
 use Rattle.floats.specs.Number.{num}
 

@@ -1,7 +1,6 @@
 -- Ranks, counted one element after the other, and the element that they single out, over any element type and any key.
 -- Assumes nothing.
-use Rattle.std.proofs.Common.{◌≡◌, ℕ, ◌+◌, ◌-◌, ◌<◌, ◌≤◌, Bool, true, false, cond, ltb, leb, List, length, get_or, take, refl, ap, ◌∙◌, arith, length-take, take_all, ltb-false, ltb-true, leb-false, leb-true}
-use Rattle.order.specs.declared.Range.{Range}
+use Rattle.std.proofs.Common.{◌≡◌, ℕ, ◌+◌, ◌-◌, ◌<◌, ◌≤◌, Bool, true, false, cond, ltb, leb, List, length, get_or, take, refl, ap, arith, length-take, take_all, ltb-false, ltb-true, leb-false, leb-true}
 use Rattle.order.specs.Sorted.{below}
 use Rattle.order.specs.Search.{index, Searched}
 use Rattle.order.proofs.Rank.{below-le, counted, passed}

@@ -6,7 +6,7 @@ use native.Mathlib.Nat.{lt_of_lt_of_le, mul_assoc, mul-le-mul_right}
 use native.Mathlib.Omega.{arith}
 use lib.Dec.{T, leb, lit≤}
 use lib.Pow.{shl_lt}
-use lib.Ieee.{Float, binary64, round, div, le, lt, eq, of_int}
+use lib.Ieee.{Float, binary64, round, div, le}
 use lib.Ieee.Exact.{HasValue, round_exact}
 use lib.Ieee.Order.{round_mono}
 use lib.Ieee.Positive as P

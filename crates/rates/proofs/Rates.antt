@@ -1,22 +1,16 @@
 -- The counts and tests of specs/Rates on whole numbers, for every rate from 200 to 4,000. No rate is computed: bounds on each product decide its rounding. Assumes nothing.
-use mathlib.Core.Path.{◌≡◌, refl, sym, ap, ◌∙◌, subst}
-use mathlib.Core.Bool.{Bool, true, false}
+use mathlib.Core.Path.{◌≡◌, refl, sym, ap, subst}
 use mathlib.Core.Logic.{inl, inr}
-use Prim.Native.Nat.{ℕ, ◌+◌, ◌-◌, ◌*◌, ◌/◌, ◌^◌, ◌≤◌, ◌<◌}
+use Prim.Native.Nat.{ℕ, ◌+◌, ◌-◌, ◌*◌, ◌/◌, ◌^◌, ◌≤◌}
 use native.Mathlib.Nat.{eq-or-lt_of_le}
 use native.Mathlib.Omega.{arith}
-use lib.Dec.{T, leb, ltb}
-use lib.Ieee.{Float, binary64, round, mul, div, le, lt, eq, of_int}
-use lib.Ieee.Order.{round_mono}
-use lib.Ieee.Positive as P
-use borrow.Author.Tests.{leb-true, leb-false}
+use lib.Dec.{leb, ltb}
+use lib.Ieee.{Float, binary64, round, mul, div, of_int}
 use Rattle.floats.specs.Number.{num}
 use Rattle.limits.specs.Limits.{lowest_rate, highest_rate, buffer_s}
 use Rattle.rates.specs.Numbers.{bit_rate, side_bits, half_bits, pad_s, gap_ms, ms_per_s, step_s, tail_s, same_burst_s}
 use Rattle.rates.specs.Rates.{nominal_of, half_of, win_of, pad_of, gap_of, buffer_of, tail_of, too_near, scan_due, oldest_kept}
-use Rattle.rates.proofs.Near.{div_at, int_value}
-use Rattle.rates.proofs.Values.{holds}
-use Rattle.rates.proofs.Between.{Lies, Factor, whole_lies, whole_factor, positive_factor, quotient_lies, times_lies, left_times_lies, up_to_whole, back, rounded_up_lem, rounded-away}
+use Rattle.rates.proofs.Between.{Lies, Factor, whole_lies, whole_factor, quotient_lies, times_lies, left_times_lies, up_to_whole, back, rounded_up_lem, rounded-away}
 use Rattle.rates.proofs.Tenths.{Tenths, product-tenths, tenths-above, tenths-away}
 
 -- ---- the numbers as binary fractions

@@ -1,16 +1,13 @@
 -- Marks, computed: each line is one sentence of 02. Assumes nothing.
 use mathlib.Core.Path.{◌≡◌, refl}
-use mathlib.Core.List.{List, [], ◌∷◌, ◌++◌}
-use Prim.Native.Nat.{ℕ, ◌+◌, ◌*◌}
+use mathlib.Core.List.{[], ◌∷◌}
+use Prim.Native.Nat.{ℕ}
 use lib.ListN.{replicate}
-use lib.IntN.{pos}
-use lib.Ieee.{Float, nan, inf, fin, binary64, round, of_int, le, lt, eq, to_unsigned, neg}
-use mathlib.Core.Bool.{true, false}
+use lib.Ieee.{nan, round, of_int, le, lt, eq, to_unsigned, neg}
 use Rattle.floats.specs.Number.{num, near}
 use Rattle.shifts.specs.Shifts.{mark_of, mark_from, mark_at, holds, any, unmarked, inside, outside, shifts_cause, shifts_ok, start_ok, all, rising, rising_from}
 use Rattle.shifts.specs.declared.StreamStart.{StreamStart}
 use Rattle.shifts.specs.declared.StreamStart.TheVariants.{Given, Unknown}
-use Rattle.shifts.specs.declared.Window.{Window}
 use Rattle.shifts.specs.declared.Shifts.{Shifts}
 
 -- one window, from a to e, in a stream that began at b

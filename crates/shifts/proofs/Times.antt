@@ -1,8 +1,8 @@
 -- Times from 0 to 10^10 s, and their whole seconds. Assumes nothing.
-use mathlib.Core.Path.{◌≡◌, refl, sym, ap, ◌∙◌, subst}
+use mathlib.Core.Path.{◌≡◌, refl, sym, ap, subst}
 use mathlib.Core.List.{List}
-use mathlib.Core.Bool.{Bool, true, false, not, ◌&&◌, ◌||◌, true≢false}
-use Prim.Native.Nat.{ℕ, ◌+◌, ◌-◌, ◌*◌, ◌/◌, ◌^◌, ◌≤◌, ◌<◌, min}
+use mathlib.Core.Bool.{Bool, true, false, ◌&&◌, ◌||◌, true≢false}
+use Prim.Native.Nat.{ℕ, ◌-◌, ◌*◌, ◌/◌, ◌^◌, ◌≤◌, ◌<◌, min}
 use native.Mathlib.Nat.{div-le_of_le-mul, mul_comm, mul-one}
 use native.Mathlib.Omega.{arith}
 use lib.IntN.{ℤ, pos}
@@ -10,7 +10,7 @@ use lib.Dec.{lit<, T, ltb, eqb, ltb→lt, eqb→eq}
 use lib.Ieee.{Float, nan, inf, fin, binary64, up, down, lt, le, eq, to_unsigned, of_bits, of_int, round}
 use Rattle.floats.specs.Number.{num}
 use Rattle.floats.specs.Floor.{floor}
-use Rattle.limits.proofs.Samples.{and_left, and_right}
+use Rattle.limits.proofs.Samples.{and_right}
 use Rattle.shifts.specs.Shifts.{farthest, in_range, second, mark_at, mark_from}
 use Rattle.shifts.specs.declared.StreamStart.{StreamStart}
 use Rattle.shifts.specs.declared.StreamStart.TheVariants.{Given}

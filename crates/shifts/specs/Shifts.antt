@@ -1,5 +1,5 @@
 -- Shift windows (02, request 03): which are accepted, and the mark of a message by its time. Assumes nothing.
-use Rattle.std.specs.Prelude.{List, [], ◌∷◌, Bool, true, false, not, ◌&&◌, ◌||◌, cond, ℕ, ◌+◌, ◌/◌, ◌%◌, take, replicate, leb, ltb, eqb, Float}
+use Rattle.std.specs.Prelude.{List, [], ◌∷◌, Bool, true, false, ◌&&◌, ◌||◌, cond, ℕ, ◌+◌, ◌/◌, ◌%◌, take, replicate, leb, ltb, eqb, Float}
 use Rattle.std.specs.Float.Ieee.{le, to_unsigned}
 use Rattle.floats.specs.Number.{num}
 use Rattle.limits.specs.Limits.{bad_shifts}

@@ -1,4 +1,4 @@
-use Rattle.std.proofs.Common.{◌-◌, sym, refl, ◌∙◌, arith, rules}
+use Rattle.std.proofs.Common.{sym, refl, ◌∙◌, arith, rules}
 use Rattle.bursts.proofs.ClusterLaws.{quiet-passed}
 use Rattle.bursts.proofs.first_loud.Goals as goal
 

@@ -1,3 +1,4 @@
+-- The invariant: all samples passed were quiet.
 use Rattle.std.proofs.Common.{◌≡◌, ℕ, ◌-◌, ◌≤◌, length}
 use Rattle.bursts.specs.Bursts.{none}
 use Rattle.bursts.proofs.ClusterLaws.{left}

@@ -1,5 +1,6 @@
-use Rattle.std.proofs.Common.{ℕ, ◌+◌, ◌-◌, sym, ◌∙◌, subst, ⊎_elim, arith}
-use Rattle.bursts.proofs.ClusterLaws.{left, OpenAt, open_first, open-loud, open-quiet, open-closed, open-end}
+use Rattle.std.proofs.Common.{ℕ, ◌+◌, sym, ◌∙◌, subst, arith}
+use Rattle.bursts.proofs.ClusterLaws.{OpenAt, open_first, open-loud, open-quiet, open-closed, open-end}
+use Rattle.bursts.proofs.last_loud.Goals.{then-loud_at, else-loud_at+else-gap-i}
 use Rattle.bursts.proofs.last_loud.Goals as goal
 
 pub loop-i-init : goal.loop-i-init
@@ -16,12 +17,14 @@ loop-i-preserved c =
     let a = c.args in
     let t = c.loop-i-test.true in
     let e = c.loud_at.ensures in
-    ⊎_elim
-    (λ w. subst (λ (k : ℕ). OpenAt a.threshold a.gap a.dbm.now a.first k (c.loop-i.i + 1)) (sym w.1)
-    (open-loud a.threshold a.gap a.dbm.now a.first c.loop-i.last c.loop-i.i c.loop-i.invariant t (sym e ∙ w.0.taken)))
-    (λ w. subst (λ (k : ℕ). OpenAt a.threshold a.gap a.dbm.now a.first k (c.loop-i.i + 1)) (sym w.2)
-    (open-quiet a.threshold a.gap a.dbm.now a.first c.loop-i.last c.loop-i.i c.loop-i.invariant t (sym e ∙ w.0.left) w.1.left))
-    c.if-loud_at.branch
+    elim c.if-loud_at.branch [
+      | then-loud_at w ↦
+          subst (λ (k : ℕ). OpenAt a.threshold a.gap a.dbm.now a.first k (c.loop-i.i + 1)) (sym w.last-is)
+          (open-loud a.threshold a.gap a.dbm.now a.first c.loop-i.last c.loop-i.i c.loop-i.invariant t (sym e ∙ w.if-loud_at.true))
+      | else-loud_at+else-gap-i w ↦
+          subst (λ (k : ℕ). OpenAt a.threshold a.gap a.dbm.now a.first k (c.loop-i.i + 1)) (sym w.last-is)
+          (open-quiet a.threshold a.gap a.dbm.now a.first c.loop-i.last c.loop-i.i c.loop-i.invariant t (sym e ∙ w.if-loud_at.false) w.if-gap-i.false)
+    ]
 
 pub returns : goal.returns
 returns c =

@@ -1,3 +1,4 @@
+-- The invariant: the cluster is still open, and all samples after its last loud one were quiet.
 use Rattle.std.proofs.Common.{◌-◌, length}
 use Rattle.bursts.proofs.ClusterLaws.{OpenAt}
 use Rattle.bursts.proofs.last_loud.Given as goal

@@ -1,4 +1,4 @@
-use Rattle.std.proofs.Common.{◌+◌, ◌-◌, drop, sym, refl, ap, ◌∙◌, arith}
+use Rattle.std.proofs.Common.{◌+◌, drop, sym, refl, ap, ◌∙◌, arith}
 use lib.Ieee.{Float}
 use Rattle.floats.specs.Fold.{max_from}
 use Rattle.floats.proofs.Folds.{max_step, max_end}

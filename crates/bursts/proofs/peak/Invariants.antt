@@ -1,3 +1,4 @@
+-- The invariant: the largest of what is left, from m on, is the whole's.
 use Rattle.std.proofs.Common.{◌≡◌, ◌-◌, ◌≤◌, length, drop}
 use Rattle.floats.specs.Fold.{max_from}
 use Rattle.bursts.proofs.peak.Given as goal

@@ -1,6 +1,7 @@
-use Rattle.std.proofs.Common.{◌-◌, ◌<◌, length, sym, ap, ◌∙◌, ⊎_elim, arith}
+use Rattle.std.proofs.Common.{◌<◌, length, sym, ap, ◌∙◌, arith}
 use lib.Ieee.{Float, binary64, add}
 use Rattle.bursts.proofs.SearchLaws.{search_start, search-end, search_none, search-found, search_short, search-early}
+use Rattle.bursts.proofs.search_bursts.Goals.{then-from-first+else-is_long, else-from-first}
 use Rattle.bursts.proofs.search_bursts.Goals as goal
 
 pub loop-i-init : goal.loop-i-init
@@ -52,10 +53,10 @@ loop-i-preserved c =
     let a = c.args in
     let h : f.result < length a.dbm.now = omega (arith, l.ensures.after, l.ensures.inside) in (
       omega (arith, l.ensures.inside),
-      ⊎_elim
-          (λ w. search_short a.dbm.now a.rate a.options a.floor a.from _ _ c.loop-i.i _ c.loop-i.invariant.1 f.result f.ensures h l.result l.ensures (sym w.1.ensures ∙ w.2.left))
-          (λ w. search-early a.dbm.now a.rate a.options a.floor a.from _ _ c.loop-i.i _ c.loop-i.invariant.1 f.result f.ensures h l.result l.ensures w.left)
-          c.if-from-first.branch,
+      elim c.if-from-first.branch [
+        | then-from-first+else-is_long w ↦ search_short a.dbm.now a.rate a.options a.floor a.from _ _ c.loop-i.i _ c.loop-i.invariant.1 f.result f.ensures h l.result l.ensures (sym w.is_long.ensures ∙ w.if-is_long.false)
+        | else-from-first w ↦ search-early a.dbm.now a.rate a.options a.floor a.from _ _ c.loop-i.i _ c.loop-i.invariant.1 f.result f.ensures h l.result l.ensures w.if-from-first.false
+      ],
     )
 
 pub returns : goal.returns

@@ -1,3 +1,4 @@
+-- The invariant: the clusters from here on have the answer of those from `at` on.
 use Rattle.std.proofs.Common.{◌≡◌, ◌-◌, ◌≤◌, length}
 use Rattle.bursts.specs.Bursts.{first_from}
 use Rattle.bursts.specs.Found.{bursts_from}

@@ -1,5 +1,4 @@
 use mathlib.Core.Path.{refl}
-use Prim.Native.Nat.{◌-◌}
 use native.Mathlib.Omega.{arith}
 use Rattle.coding.specs.Bits.{are_bits}
 use Rattle.coding.proofs.BitLaws.{bits-turn, bits_end}

@@ -1,5 +1,5 @@
 use mathlib.Core.Path.{refl, sym, ◌∙◌}
-use Prim.Native.Nat.{◌-◌, ◌<◌}
+use Prim.Native.Nat.{◌<◌}
 use native.Mathlib.Omega.{arith}
 use lib.ListN.{get_or, length-set}
 use Rattle.coding.specs.Bits.{plus, odd}
@@ -40,7 +40,7 @@ overflow_add-result c = omega (arith, c.loop-i.invariant.2, c.loop-i.invariant.3
 
 pub returns : goal.returns
 returns c = let a = c.args in (
-      sym (whole_end a.undo a.rank a.bits.now c.loop-i.out c.loop-i.p c.loop-i.q c.loop-i.i (omega arith) (omega arith)) ∙ c.loop-i.invariant.4,
-      ends_end a.undo a.rank a.bits.now c.loop-i.p c.loop-i.q c.loop-i.i (omega arith) c.loop-i.invariant.2 c.loop-i.invariant.3 ∙ c.loop-i.invariant.5,
-      omega (arith, c.loop-i.invariant.2, c.loop-i.invariant.3),
-    )
+  sym (whole_end a.undo a.rank a.bits.now c.loop-i.out c.loop-i.p c.loop-i.q c.loop-i.i (omega arith) (omega arith)) ∙ c.loop-i.invariant.4,
+  ends_end a.undo a.rank a.bits.now c.loop-i.p c.loop-i.q c.loop-i.i (omega arith) c.loop-i.invariant.2 c.loop-i.invariant.3 ∙ c.loop-i.invariant.5,
+  omega (arith, c.loop-i.invariant.2, c.loop-i.invariant.3),
+)

@@ -1,6 +1,7 @@
+-- The invariant: what is written, what is left to do and what is kept make the whole, and the state after what is left is the end's.
 use mathlib.Core.Path.{◌≡◌}
 use mathlib.Core.List.{◌++◌, map}
-use Prim.Native.Nat.{◌+◌, ◌-◌, ◌≤◌, ◌<◌}
+use Prim.Native.Nat.{◌-◌, ◌≤◌, ◌<◌}
 use lib.ListN.{length, drop}
 use Rattle.coding.specs.Bits.{odd, bit_of}
 use Rattle.coding.specs.Convolution.{numbered, state_after, through, taken}

@@ -1,6 +1,5 @@
 use borrow.Author.Rules.{rules}
 use mathlib.Core.Path.{refl, sym, ◌∙◌}
-use Prim.Native.Nat.{◌-◌}
 use lib.ListN.{length-set}
 use Rattle.endian.proofs.Numbers.{put-turn, put_end, put_start}
 use Rattle.endian.proofs.put_bytes.Goals as goal

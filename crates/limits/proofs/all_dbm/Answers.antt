@@ -1,4 +1,4 @@
-use Prim.Native.Nat.{◌*◌, ◌/◌, ◌-◌}
+use Prim.Native.Nat.{◌*◌, ◌/◌}
 use native.Mathlib.Omega.{arith}
 use lib.ListN.{length}
 use Rattle.limits.proofs.Pairs.{seen_none, pairs_turn, pairs_even, pairs_odd}

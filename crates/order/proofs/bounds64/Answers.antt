@@ -1,4 +1,4 @@
-use Rattle.std.proofs.Common.{◌-◌, ◌^◌, arith, rules}
+use Rattle.std.proofs.Common.{◌^◌, arith, rules}
 use lib.Ieee.{nan, binary64}
 use Rattle.order.specs.Order.{key}
 use Rattle.order.proofs.Bounds.{none_passed, pass, ordered, tight}
@@ -18,7 +18,7 @@ loop-i-preserved c =
     c.loop-i.least c.if-t-least.least c.loop-i.most c.if-most-inside.most c.loop-i.invariant
     (elim c.if-t-least.branch [ then-t-least w ↦ omega arith | else-t-least w ↦ omega arith ])
     (elim c.if-t-span.branch [
-      then-t-span w ↦ elim c.if-most-inside.branch [ then-most-inside v ↦ omega arith | else-most-inside v ↦ omega arith ]
+      | then-t-span w ↦ elim c.if-most-inside.branch [ then-most-inside v ↦ omega arith | else-most-inside v ↦ omega arith ]
       | else-t-span w ↦ elim c.if-most-inside.branch [ then-most-inside v ↦ omega arith | else-most-inside v ↦ omega arith ]
     ])
 

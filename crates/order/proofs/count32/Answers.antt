@@ -1,4 +1,4 @@
-use Rattle.std.proofs.Common.{◌-◌, ◌/◌, ◌^◌, ◌<◌, arith, pow_pos, rules}
+use Rattle.std.proofs.Common.{◌/◌, ◌^◌, ◌<◌, arith, pow_pos, rules}
 use lib.Ieee.{nan, binary32}
 use Rattle.order.specs.Order.{key}
 use Rattle.order.specs.Search.{bins}
@@ -47,17 +47,17 @@ loop-i-preserved c =
     let t = c.offset32-t.result in
     let w = 2 ^ c.args.shift in
     elim c.if-t-span.branch [
-      then-t-span y ↦
-    let q =
-    stored (key binary32) c.args.xs.now c.loop-i.i nan (omega arith) c.args.lo c.args.span w c.loop-i.counts c.loop-i.invariant.2 (2 ^ 32) t
-    (omega (arith, c.offset32-t.type_inv)) c.requires.1 c.offset32-t.ensures (pow_pos c.args.shift) c.loop-i.invariant.1 y.if-t-span.true
-    (bin_lt t c.args.span w (pow_pos c.args.shift) y.if-t-span.true c.requires.3) c.if-t-span.counts y.counts-is in
-    (omega arith, q.0, q.1)
-    | else-t-span n ↦
-    let q =
-    missed (key binary32) c.args.xs.now c.loop-i.i nan (omega arith) c.args.lo c.args.span w c.loop-i.counts c.loop-i.invariant.2 (2 ^ 32) t
-    (omega (arith, c.offset32-t.type_inv)) c.requires.1 c.offset32-t.ensures c.loop-i.invariant.1 n.if-t-span.false c.if-t-span.counts n.counts-is in
-    (omega arith, q.0, q.1)
+      | then-t-span y ↦
+          let q =
+          stored (key binary32) c.args.xs.now c.loop-i.i nan (omega arith) c.args.lo c.args.span w c.loop-i.counts c.loop-i.invariant.2 (2 ^ 32) t
+          (omega (arith, c.offset32-t.type_inv)) c.requires.1 c.offset32-t.ensures (pow_pos c.args.shift) c.loop-i.invariant.1 y.if-t-span.true
+          (bin_lt t c.args.span w (pow_pos c.args.shift) y.if-t-span.true c.requires.3) c.if-t-span.counts y.counts-is in
+          (omega arith, q.0, q.1)
+      | else-t-span n ↦
+          let q =
+          missed (key binary32) c.args.xs.now c.loop-i.i nan (omega arith) c.args.lo c.args.span w c.loop-i.counts c.loop-i.invariant.2 (2 ^ 32) t
+          (omega (arith, c.offset32-t.type_inv)) c.requires.1 c.offset32-t.ensures c.loop-i.invariant.1 n.if-t-span.false c.if-t-span.counts n.counts-is in
+          (omega arith, q.0, q.1)
     ]
 
 pub returns : goal.returns

@@ -1,4 +1,4 @@
-use Rattle.std.proofs.Common.{◌-◌, arith}
+use Rattle.std.proofs.Common.{arith}
 use Rattle.order.specs.Search.{bins}
 use Rattle.order.proofs.Cut.{total_none, goes_on}
 use Rattle.order.proofs.find_bin.Goals as goal

@@ -1,4 +1,4 @@
-use Rattle.std.proofs.Common.{◌-◌, ◌^◌, arith, rules}
+use Rattle.std.proofs.Common.{◌^◌, arith, rules}
 use lib.Ieee.{binary64}
 use Rattle.order.specs.Order.{key}
 use Rattle.order.proofs.Ranked.{alone}

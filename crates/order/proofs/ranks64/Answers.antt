@@ -1,4 +1,4 @@
-use Rattle.std.proofs.Common.{◌+◌, ◌-◌, ◌<◌, length, arith, rules}
+use Rattle.std.proofs.Common.{◌+◌, ◌<◌, length, arith, rules}
 use lib.Ieee.{nan, binary64}
 use Rattle.order.specs.Order.{key}
 use Rattle.order.proofs.Ranked.{none_under, few_under, all_under, under_next, upto_next}

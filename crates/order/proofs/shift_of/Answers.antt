@@ -1,4 +1,4 @@
-use Rattle.std.proofs.Common.{◌-◌, ◌<◌, arith}
+use Rattle.std.proofs.Common.{◌<◌, arith}
 use Rattle.order.proofs.Shifts.{shift-lt, shift-next, shift-enough}
 use Rattle.order.proofs.shift_of.Goals.{At-loop-shift}
 use Rattle.order.proofs.shift_of.Goals as goal

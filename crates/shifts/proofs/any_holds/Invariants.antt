@@ -1,3 +1,4 @@
+-- The invariant: one of all windows holds the minute just where one of those left does.
 use mathlib.Core.Path.{◌≡◌}
 use Prim.Native.Nat.{◌-◌, ◌≤◌}
 use lib.ListN.{take, drop}

@@ -1,3 +1,4 @@
+-- The invariant: the day is among all dates just where it is among those left.
 use mathlib.Core.Path.{◌≡◌}
 use Prim.Native.Nat.{◌-◌, ◌≤◌}
 use lib.ListN.{length, drop}

@@ -1,3 +1,4 @@
+-- The invariant: all dates rise just where those left rise from the one before them.
 use mathlib.Core.Path.{◌≡◌}
 use Prim.Native.Nat.{◌-◌, ◌≤◌}
 use lib.ListN.{length, drop, get_or}

@@ -1,3 +1,4 @@
+-- The invariant: all windows lie in the week just where those left do.
 use mathlib.Core.Path.{◌≡◌}
 use Prim.Native.Nat.{◌-◌, ◌≤◌}
 use lib.ListN.{take, drop}
