@@ -461,10 +461,6 @@ def invariants(fn, ds, warn):
         _, args, body = se
         args = args.split()
         want = len(vs) + sum(changed)
-        if len(args) < want and "rt" in vs:
-            kept = [(v, ch) for v, ch in zip(vs, changed) if v != "rt"]
-            vs, changed = [v for v, _ in kept], [ch for _, ch in kept]
-            want = len(vs) + sum(changed)
         if len(args) != want:
             warn(f"{kind}-{loop}: {len(args)} binders {args}, loop has {vs} {changed}")
         env = {}
@@ -483,18 +479,6 @@ def invariants(fn, ds, warn):
         com = [c for c in d["comment"]]
         out.append((name, "\n".join(com + [f"abbrev pub {name} : goal.{name}"] + d["unf"] + [f"{name} l ={' ' if not b.startswith(chr(10)) else ''}{b}"])))
     return out, done
-
-
-def generic(crate, f):
-    """whether the function takes a type parameter, as by `impl`: its goals take g first then"""
-    m, _, n = f.rpartition("/")
-    for p in [m] if m else ["lib", "main"]:
-        q = os.path.join(crate, "src", p + ".rt")
-        if os.path.exists(q):
-            x = re.search(r"^(?:pub )?(?:extern \"C\" )?fn %s(<[^>(]*>)?\(((?:[^()]|\([^()]*\))*)\)" % re.escape(n), open(q, encoding="utf-8").read(), re.M)
-            if x:
-                return bool(x.group(1)) or "impl " in x.group(2)
-    return False
 
 
 def place_of(fn, ty):
@@ -717,16 +701,6 @@ def turn_file(crate, f, path, names, warn):
                     break
         if len(items) == before:
             break
-    if generic(crate, f):
-        inv = [(n, re.sub(r"^(%s) l =" % re.escape(n), r"\1 g l =", t, flags=re.M)) for n, t in inv]
-        gs = [n for n, _ in items if n not in helpers] + list(short)
-
-        def with_g(n, t):
-            if n in gs:
-                t = re.sub(r"^(%s) (?!:)" % re.escape(n), r"\1 g ", t, flags=re.M)
-            return re.sub(r"\(goal\.at\.([\w.\-]+) (?!g )", r"(goal.at.\1 g ", t)
-        items = [[n, with_g(n, t)] for n, t in items]
-        short = {n: with_g(n, t) for n, t in short.items()}
     return dict(mod=modname, head=head, uses=uses, inv=inv, items=items, short=short, helpers=helpers, places=sorted(places))
 
 
