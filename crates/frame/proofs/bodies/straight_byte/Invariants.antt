@@ -1,0 +1,13 @@
+use mathlib.Core.List.{map}
+use Prim.Native.Nat.{◌-◌}
+use lib.ListN.{drop}
+use Rattle.coding.specs.Bits.{odd}
+use Rattle.frame.specs.Plain.{ending}
+use Rattle.frame.proofs.PlainLaws.{Part}
+use Rattle.frame.proofs.bodies.straight_byte.Given as goal
+
+abbrev pub invariant-loop-j : goal.invariant-loop-j
+invariant-loop-j l = Part l.rank (ending l.last) (drop l.from (map odd l.body)) l.j l.v l.a l.b
+
+abbrev pub decreases-loop-j : goal.decreases-loop-j
+decreases-loop-j l = 8 - l.j
