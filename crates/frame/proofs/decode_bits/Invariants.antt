@@ -1,3 +1,4 @@
+-- The invariant: the starts left have the answer.
 use mathlib.Core.Path.{◌≡◌}
 use mathlib.Core.List.{map}
 use Prim.Native.Nat.{◌-◌, ◌≤◌}

@@ -1,3 +1,4 @@
+-- The invariant: the places left have the answer, and some bytes before them have been passed.
 use mathlib.Core.Path.{◌≡◌}
 use mathlib.Core.List.{map}
 use Prim.Native.Nat.{◌+◌, ◌-◌, ◌*◌, ◌≤◌}

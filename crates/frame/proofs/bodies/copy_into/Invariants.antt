@@ -1,3 +1,4 @@
+-- The invariant: what is left to copy makes the whole.
 use mathlib.Core.Path.{◌≡◌}
 use Prim.Native.Nat.{◌-◌, ◌≤◌}
 use lib.ListN.{length, take, drop}

@@ -1,3 +1,4 @@
+-- The invariant: the first `i` bytes have been passed, and stand in the array.
 use mathlib.Core.Path.{◌≡◌}
 use mathlib.Core.List.{map}
 use Prim.Native.Nat.{◌-◌, ◌≤◌}

@@ -1,3 +1,4 @@
+-- The invariant: the bytes so far have been passed.
 use mathlib.Core.List.{map}
 use Prim.Native.Nat.{◌-◌, ◌≤◌}
 use Rattle.coding.specs.Bits.{odd}

@@ -1,3 +1,4 @@
+-- The invariant: the number of the first `j` plain bits, and the state after them.
 use mathlib.Core.List.{map}
 use Prim.Native.Nat.{◌-◌}
 use lib.ListN.{drop}

@@ -1,3 +1,4 @@
+-- The invariant: what is left of the table has the answer.
 use mathlib.Core.Path.{◌≡◌}
 use Prim.Native.Nat.{◌-◌, ◌≤◌}
 use lib.ListN.{drop}

@@ -1,3 +1,4 @@
+-- The invariant: the number of the first `j` bits.
 use mathlib.Core.Path.{◌≡◌}
 use mathlib.Core.List.{map}
 use Prim.Native.Nat.{◌-◌, ◌≤◌}
