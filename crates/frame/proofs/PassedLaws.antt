@@ -6,12 +6,12 @@ use Prim.Native.Nat.{ℕ, zero, suc, ◌+◌, ◌-◌, ◌*◌, ◌/◌, ◌≤�
 use native.Mathlib.Omega.{arith}
 use lib.Dec.{eqb}
 use lib.ListN.{length, take, drop, set, length-drop}
-use lib.Seq.{take-add, take-take, length-take-le, drop-drop}
+use lib.Seq.{take-add, length-take-le, drop-drop}
 use borrow.Author.Tests.{le-leb}
 use Rattle.coding.specs.Bits.{odd, digits, value, bytes_bits, to_bytes}
 use Rattle.coding.specs.Crc.{crc_bits, crc_of}
 use Rattle.coding.specs.Register.{run}
-use Rattle.coding.specs.Convolution.{State, fresh, state_of, state_after, deconvolved}
+use Rattle.coding.specs.Convolution.{fresh, state_after, deconvolved}
 use Rattle.coding.proofs.Values.{digits_value}
 use Rattle.coding.proofs.ByteLists.{bytes_bits_lem}
 use Rattle.coding.proofs.Division.{crc_is, run-lt, run-append}

@@ -6,7 +6,7 @@ use Prim.Native.Nat.{ℕ, zero, suc, ◌+◌, ◌-◌, ◌*◌, ◌≤◌, ◌<�
 use native.Mathlib.Omega.{arith}
 use lib.Dec.{leb, ltb}
 use lib.ListN.{length, take, drop, get_or, length-drop}
-use lib.Seq.{take-take, take-append-le, take-append-add, length-take-le, take_all, get_or-take}
+use lib.Seq.{take-take, take-append-add, length-take-le, take_all, get_or-take}
 use borrow.Author.Tests.{le-leb, leb-true, leb-false, lt-ltb, ltb-true}
 use Rattle.coding.specs.Bits.{value}
 use Rattle.frame.specs.Kinds.{sync_size, kinds, kind_of}

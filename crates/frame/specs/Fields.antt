@@ -1,8 +1,8 @@
 -- The fields of a frame's body: LI(2) BF(1) REP(1) MC(12) | device (4, least significant byte first) | payload | authentication | CRC (2, high byte first)
 -- (sigfox-ep-lib; frame.rs parse_body). Assumes nothing.
-use Rattle.std.specs.Prelude.{ℕ, zero, suc, ◌+◌, ◌-◌, ◌*◌, ◌/◌, ◌%◌, Bool, cond, ◌&&◌, List, [], ◌∷◌, ◌++◌, eqb, leb, length, take, drop, get_or, replicate}
+use Rattle.std.specs.Prelude.{ℕ, ◌+◌, ◌-◌, ◌*◌, ◌/◌, ◌%◌, Bool, cond, ◌&&◌, List, ◌++◌, eqb, leb, length, take, drop, get_or, replicate}
 use Rattle.endian.specs.Bytes.{number_at}
-use Rattle.coding.specs.Bits.{odd, value}
+use Rattle.coding.specs.Bits.{odd}
 use Rattle.coding.specs.Crc.{crc_of}
 use Rattle.frame.specs.Sizes.{header_size, crc_size, most_payload, most_auth, payload_size, auth_size, body_bytes}
 use Rattle.frame.specs.declared.kinds.FrameKind.{FrameKind}

@@ -17,16 +17,16 @@ auth_of-requires c = let l = c.li_of-li in
 pub returns : goal.returns
 unfolding frame_from
 returns c = rw (
-      c.auth_of.ensures,
-      c.long-3.ensures.0,
-      c.long-2.ensures.0,
-      c.bit_from.ensures,
-      c.payload_of.ensures,
-      c.long.ensures.0,
-      c.counter_of.ensures,
-      c.device_of.ensures,
-      c.auth_size-auth_len.ensures,
-      c.payload_size-payload_len.ensures,
-      c.li_of-li.ensures.0,
-      c.requires.1,
-    )
+  c.auth_of.ensures,
+  c.long-3.ensures.0,
+  c.long-2.ensures.0,
+  c.bit_from.ensures,
+  c.payload_of.ensures,
+  c.long.ensures.0,
+  c.counter_of.ensures,
+  c.device_of.ensures,
+  c.auth_size-auth_len.ensures,
+  c.payload_size-payload_len.ensures,
+  c.li_of-li.ensures.0,
+  c.requires.1,
+)

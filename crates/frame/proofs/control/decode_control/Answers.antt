@@ -1,11 +1,10 @@
 use mathlib.Core.Path.{ap, ◌∙◌}
-use mathlib.Core.Logic.{⊎_elim}
 use mir.Syntax.{w32}
 use mir.ValLaws.{to_z-of_z}
 use Rattle.frame.specs.Control.{celsius}
 use Rattle.frame.proofs.ControlLaws.{control-keep, control_confirm, control_other, control-length, control-seven}
-use Rattle.frame.proofs.control.decode_control.Goals.{then-payload-eq-KEEP_ALIVE_SIZE+else-payload-eq-KEEP_ALIVE, else-payload-eq-KEEP_ALIVE_SIZE}
 use Rattle.frame.proofs.control.decode_control.Goals as goal
+use Rattle.frame.proofs.control.decode_control.Goals.{then-payload-eq-KEEP_ALIVE_SIZE+else-payload-eq-KEEP_ALIVE, else-payload-eq-KEEP_ALIVE_SIZE}
 
 pub returns-then-payload-eq-KEEP_ALIVE : goal.returns-then-payload-eq-KEEP_ALIVE
 returns-then-payload-eq-KEEP_ALIVE c = let l = c.args.payload.now in
@@ -23,8 +22,4 @@ returns-else-payload-eq-CONFIRMATION c = let l = c.args.payload.now in
     control_other l c.if-payload-eq-CONFIRMATION_SIZE.true c.if-payload-eq-CONFIRMATION.false
 
 pub returns-else-payload-eq-CONFIRMATION_SIZE : goal.returns-else-payload-eq-CONFIRMATION_SIZE
-returns-else-payload-eq-CONFIRMATION_SIZE c = let l = c.args.payload.now in 
-    elim c.if-payload-eq-KEEP_ALIVE_SIZE.branch [
-      then-payload-eq-KEEP_ALIVE_SIZE+else-payload-eq-KEEP_ALIVE w ↦ control-seven l w.if-payload-eq-KEEP_ALIVE.false c.if-payload-eq-CONFIRMATION_SIZE.false
-      | else-payload-eq-KEEP_ALIVE_SIZE w ↦ control-length l w.if-payload-eq-KEEP_ALIVE_SIZE.false c.if-payload-eq-CONFIRMATION_SIZE.false
-    ]
+returns-else-payload-eq-CONFIRMATION_SIZE c = let l = c.args.payload.now in elim c.if-payload-eq-KEEP_ALIVE_SIZE.branch [ then-payload-eq-KEEP_ALIVE_SIZE+else-payload-eq-KEEP_ALIVE w ↦ control-seven l w.if-payload-eq-KEEP_ALIVE.false c.if-payload-eq-CONFIRMATION_SIZE.false | else-payload-eq-KEEP_ALIVE_SIZE w ↦ control-length l w.if-payload-eq-KEEP_ALIVE_SIZE.false c.if-payload-eq-CONFIRMATION_SIZE.false ]

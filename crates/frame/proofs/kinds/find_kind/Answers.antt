@@ -1,5 +1,4 @@
 use mathlib.Core.Path.{refl, sym, ap, ◌∙◌}
-use Prim.Native.Nat.{◌-◌}
 use native.Mathlib.Omega.{arith}
 use Rattle.frame.specs.declared.kinds.FoundKind.TheVariants.{Known}
 use Rattle.frame.proofs.KindLaws.{type_at, kind_here, kind-later, no_kind}

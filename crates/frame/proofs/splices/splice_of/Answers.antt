@@ -16,18 +16,21 @@ returns-in-Unchanged c = let s = c.unchanged in
 
 pub returns-in-Inserted : goal.returns-in-Inserted
 returns-in-Inserted c = let body = c.args.body.now in
-    let h = inserted_in c.args.how (length body) c.requires.1 c.in-Inserted.b c.in-Inserted.i c.in-Inserted.is in
+    let g = c.in-Inserted in
+    let h = inserted_in c.args.how (length body) c.requires.1 g.b g.i g.is in
     let o = c.one_if8 in
-    makes_it c.args.how body c.insert.result (Inserted c.in-Inserted.b c.in-Inserted.i) c.in-Inserted.is
-    (insert_makes body c.in-Inserted.i h c.insert.result c.in-Inserted.b o.result o.ensures.0 c.insert.ensures)
+    makes_it c.args.how body c.insert.result (Inserted g.b g.i) g.is
+    (insert_makes body g.i h c.insert.result g.b o.result o.ensures.0 c.insert.ensures)
 
 pub returns-in-Deleted : goal.returns-in-Deleted
 returns-in-Deleted c = let body = c.args.body.now in
-    let h = deleted_in c.args.how (length body) c.requires.1 c.in-Deleted.i c.in-Deleted.is in
-    makes_it c.args.how body c.delete.result (Deleted c.in-Deleted.i) c.in-Deleted.is (delete_makes body c.in-Deleted.i h c.delete.result c.delete.ensures)
+    let g = c.in-Deleted in
+    let h = deleted_in c.args.how (length body) c.requires.1 g.i g.is in
+    makes_it c.args.how body c.delete.result (Deleted g.i) g.is (delete_makes body g.i h c.delete.result c.delete.ensures)
 
 pub returns-in-Flipped : goal.returns-in-Flipped
 returns-in-Flipped c = let body = c.args.body.now in
-    let h = flipped_in c.args.how (length body) c.requires.1 c.in-Flipped.i c.in-Flipped.is in
-    makes_it c.args.how body c.flip.result (Flipped c.in-Flipped.i) c.in-Flipped.is
-    (flip_makes body c.in-Flipped.i h c.flip.result c.requires.0 c.flip.ensures)
+    let g = c.in-Flipped in
+    let h = flipped_in c.args.how (length body) c.requires.1 g.i g.is in
+    makes_it c.args.how body c.flip.result (Flipped g.i) g.is
+    (flip_makes body g.i h c.flip.result c.requires.0 c.flip.ensures)
