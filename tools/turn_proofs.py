@@ -5,6 +5,7 @@ usage: turn_proofs.py turn CRATE_DIR [F ..]     write the files (all functions, 
        turn_proofs.py more CRATE_DIR SAID       read a check's output: add the short answers that were left out where a goal stays open
                                                 (also drops answers of goals that are not asked)
        turn_proofs.py auto CRATE_DIR [F ..]     #![tactic(auto)], turn, then rt check and more until nothing is added; what is said lies in SAVED/CRATE.said
+       turn_proofs.py heads CRATE_DIR            writes what the old files' heads said to the new files that have no head
        turn_proofs.py names CRATE_DIR F         print the places, steps and goals of F, old and new
 
 SAVED is /tmp/turned (or $TURNED).
@@ -60,12 +61,14 @@ class Fn:
 class Turn:
     """The rewriting of one declaration's text."""
 
-    accessors, wants = {}, {}
+    accessors, wants, own = {}, {}, []
 
     def __init__(self, fn, warn, defs, goalname=None):
         self.fn, self.warn, self.defs, self.goalname = fn, warn, defs, goalname
         self.env = {}
         self.steps = {}
+        self.arm_alias = {}
+        self.args = set()
         self.step = None
         self.used_places = set()
 
@@ -88,7 +91,15 @@ class Turn:
         """what a path is: ('text', t) of a field, ('place', base, p) of a record, or None"""
         comps = text.split(".")
         v = comps[0]
+        if v in self.args and len(comps) > 1:
+            if re.fullmatch(r"t\d+", comps[1]) and self.own and comps[1] not in self.own and int(comps[1][1:]) <= len(self.own):
+                comps[1] = self.own[int(comps[1][1:]) - 1]
+            return ("text", ".".join(comps))
         if v in self.steps and len(comps) > 1:
+            for c2, p2 in self.arm_alias.get(v, []):
+                a = self.arm(c2, p2, self.fn.place[p2]["step"][0], comps[1:])
+                if a:
+                    return ("text", a)
             return ("text", ".".join([v] + self.tail(self.steps[v], [field(x) for x in comps[1:]])))
         if v not in self.env:
             return None
@@ -107,6 +118,8 @@ class Turn:
         s = norm(rest[0])
         s = {"pre": "requires", "well_formed": "well_formed"}.get(s, s)
         tail = [field(x) for x in rest[1:]]
+        if s == "args" and tail and re.fullmatch(r"t\d+", tail[0]) and self.own and tail[0] not in self.own and int(tail[0][1:]) <= len(self.own):
+            tail[0] = self.own[int(tail[0][1:]) - 1]
         if s in ROOT:
             return ("text", ".".join([var, s] + tail))
         anc = fn.ancestors(p)
@@ -114,6 +127,9 @@ class Turn:
         for k, q in enumerate(anc + down):
             if norm(fn.place[q]["step"][0]) == s:
                 self.step = q if not tail else None
+                arm = self.arm(var, q, rest[0], tail)
+                if arm:
+                    return ("text", arm)
                 return ("text", ".".join([var, fn.place[q]["step"][1]] + self.tail(q, tail)))
         # the goal's own fields
         if s in ("type_inv", "auto", "ensures", "shown", "either", "branch", "kept"):
@@ -121,8 +137,26 @@ class Turn:
         self.warn(f"step {rest[0]} of {text} not found from {fn.place[p]['old'] if p in fn.place else p}")
         return ("text", ".".join([var, rest[0]] + tail))
 
+    def arm(self, var, q, step, tail):
+        """what a step that a pattern makes gives, as a field of its arm"""
+        if tail[:2] not in (["given", "1"], ["given", "0"]):
+            return None
+        m = next((x for x in self.fn.ancestors(q) if norm(self.fn.place[x]["step"][0]).startswith("match")), None)
+        if m is None:
+            return None
+        arm = f"{var}.{self.fn.place[m]['step'][1]}"
+        if tail[1] == "1":
+            return ".".join([arm, "is"] + tail[2:])
+        if tail[2:3] == ["0"]:
+            return ".".join([arm, step] + tail[3:])
+        return None
+
     def tail(self, q, tail):
         """the fields after a step: what a &mut argument contains afterwards goes by the parameter's name"""
+        if self.fn.place[q]["old"].startswith("At-loop"):
+            if tail and tail[0] == "inv":
+                tail = ["invariant"] + tail[1:]
+            return tail
         if tail and tail[0] in ("new", "last"):
             tail = ["new"] + tail[1:]
             params = self.fn.d["params"].get(self.fn.place[q]["callee"] or "")
@@ -161,8 +195,12 @@ class Turn:
                 self.step = None
                 r = self.path(pm.group(1)) if after else None
                 self.steps.pop(name, None)
+                self.args.discard(name)
+                if r and r[0] == "text" and r[1].endswith(".args"):
+                    self.args.add(name)
                 if r and r[0] == "text" and self.step:
                     self.steps[name] = self.step
+                    self.arm_alias[name] = [(r[1].split(".")[0], self.step)]
                 if r and r[0] == "place":
                     self.env[name] = (r[1], r[2])
                     pos = pm.end() + after.end()
@@ -189,7 +227,9 @@ class Turn:
             w = re.search(r"(?<![\w.\-'«»₀-₉])([^\s()]+)\s+$", text[:m.start()])
             p = self.wants.get(w.group(1), r[2]) if w else r[2]
             return self.bare(r[1], p)
-        return PATH.sub(one, text)
+        text = PATH.sub(one, text)
+        # `!x` tests x itself now
+        return re.sub(r"\bnot[-_](?:true|false) (?:_|\S+\.result) ((?:«?[\w\-'₀-₉]+»?)\.[\w\-]+\.(?:true|false))(?![\w.])", r"\1", text)
 
 
 FIELDS = {"type-inv": "type_inv", "well-formed": "well_formed"}
@@ -212,6 +252,8 @@ def decls(text):
             while u.count("{") > u.count("}"):
                 i += 1
                 u += " " + lines[i].strip()
+            if comment and not uses and not out:
+                out.append(dict(kind="head", comment=comment))
             uses.append(u)
             comment = []
         elif l.startswith("--"):
@@ -392,6 +434,10 @@ def invariants(fn, ds, warn):
         _, args, body = se
         args = args.split()
         want = len(vs) + sum(changed)
+        if len(args) < want and "rt" in vs:
+            kept = [(v, ch) for v, ch in zip(vs, changed) if v != "rt"]
+            vs, changed = [v for v, _ in kept], [ch for _, ch in kept]
+            want = len(vs) + sum(changed)
         if len(args) != want:
             warn(f"{kind}-{loop}: {len(args)} binders {args}, loop has {vs} {changed}")
         env = {}
@@ -410,6 +456,18 @@ def invariants(fn, ds, warn):
         com = [c for c in d["comment"]]
         out.append((name, "\n".join(com + [f"abbrev pub {name} : goal.{name}"] + d["unf"] + [f"{name} l ={' ' if not b.startswith(chr(10)) else ''}{b}"])))
     return out, done
+
+
+def generic(crate, f):
+    """whether the function takes a type parameter, as by `impl`: its goals take g first then"""
+    m, _, n = f.rpartition("/")
+    for p in [m] if m else ["lib", "main"]:
+        q = os.path.join(crate, "src", p + ".rt")
+        if os.path.exists(q):
+            x = re.search(r"^(?:pub )?(?:extern \"C\" )?fn %s(<[^>(]*>)?\(((?:[^()]|\([^()]*\))*)\)" % re.escape(n), open(q, encoding="utf-8").read(), re.M)
+            if x:
+                return bool(x.group(1)) or "impl " in x.group(2)
+    return False
 
 
 def place_of(fn, ty):
@@ -448,6 +506,34 @@ def typed(fn, tr, text, places):
     return "".join(out)
 
 
+def params_of(crate, f):
+    """the names of a function's parameters, by its source"""
+    name = f.split("/")[-1].lstrip("+")
+    found = []
+    for folder, _, files in os.walk(os.path.join(crate, "src")):
+        for n in sorted(files):
+            s = open(os.path.join(folder, n), encoding="utf-8").read()
+            for m in re.finditer(r"\bfn " + re.escape(name) + r"(?:<[^(]*>)?\(", s):
+                j, depth = m.end(), 1
+                while depth and j < len(s):
+                    depth += {"(": 1, ")": -1}.get(s[j], 0)
+                    j += 1
+                ps, depth, cur = [], 0, ""
+                for ch in s[m.end():j - 1] + ",":
+                    if ch in "([<":
+                        depth += 1
+                    elif ch in ")]>":
+                        depth -= 1
+                    if ch == "," and depth == 0:
+                        if cur.strip():
+                            ps.append(re.sub(r"^mut\s+", "", cur.strip().split(":")[0].strip().lstrip("&").strip()))
+                        cur = ""
+                    else:
+                        cur += ch
+                found.append(ps)
+    return found[0] if len(found) == 1 else []
+
+
 def turn_file(crate, f, path, names, warn):
     key = f"Rattle-{os.path.basename(crate)}-proofs.{f.replace('/', '.')}.Lts"
     text = path
@@ -477,6 +563,7 @@ def turn_file(crate, f, path, names, warn):
                 defs[d["name"]] = g["new"]
     # helpers that only lead from a place to an earlier one, and the place that another helper takes first
     Turn.accessors, Turn.wants = {}, {}
+    Turn.own = params_of(crate, f)
     for d in ds:
         if d["kind"] == "decl" and d["name"] not in info and d["name"] not in inv_done:
             rest = re.sub(r"^((?:pub |abbrev |unfoldable )*)(\S+) :\s?", "", "\n".join(d["sig"]))
@@ -603,6 +690,16 @@ def turn_file(crate, f, path, names, warn):
                     break
         if len(items) == before:
             break
+    if generic(crate, f):
+        inv = [(n, re.sub(r"^(%s) l =" % re.escape(n), r"\1 g l =", t, flags=re.M)) for n, t in inv]
+        gs = [n for n, _ in items if n not in helpers] + list(short)
+
+        def with_g(n, t):
+            if n in gs:
+                t = re.sub(r"^(%s) (?!:)" % re.escape(n), r"\1 g ", t, flags=re.M)
+            return re.sub(r"\(goal\.at\.([\w.\-]+) (?!g )", r"(goal.at.\1 g ", t)
+        items = [[n, with_g(n, t)] for n, t in items]
+        short = {n: with_g(n, t) for n, t in short.items()}
     return dict(mod=modname, head=head, uses=uses, inv=inv, items=items, short=short, helpers=helpers, places=sorted(places))
 
 
@@ -614,23 +711,38 @@ def write(crate, f, r):
     for p in (inv, ans):
         if os.path.exists(p):
             os.remove(p)
-    head = [re.sub(r"\s*Assumes nothing\.", "", h).rstrip() for h in r["head"]]
     if r["inv"]:
         body = "\n\n".join(t for _, t in r["inv"])
         us = uses_for(r["uses"], body)
         with open(inv, "w", encoding="utf-8") as fh:
             fh.write("\n".join(us + [f"use {r['mod']}.Given as goal"]) + "\n\n" + body + "\n")
-    if any(n not in r["helpers"] for n, _ in r["items"]):
+    if any(n != "module" and n not in r["helpers"] for n, _ in r["items"]):
         body = "\n\n".join(t for _, t in r["items"])
         us = uses_for(r["uses"], body)
         pl = [p for p in r["places"] if re.search(r"(?<![\w\-])" + re.escape(p) + r"(?![\w\-])", body)]
         lines = us + ([f"use {r['mod']}.Goals.{{{', '.join(pl)}}}"] if pl else []) + [f"use {r['mod']}.Goals as goal"]
         with open(ans, "w", encoding="utf-8") as fh:
             fh.write("\n".join(lines) + "\n\n" + body + "\n")
+    heading(crate, f, r["head"])
 
 
-def saved(crate):
-    return os.path.join(SAVED, os.path.basename(crate))
+def heading(crate, f, comment):
+    """What the old file's head said beyond `it meets its contract`, at the head of a new file"""
+    s = " ".join(c.lstrip("-").strip() for c in comment)
+    s = re.sub(r"^`[^`]*` meets its contract\s*[.:;,]?\s*", "", s)
+    s = re.sub(r"\s*Assumes nothing\.\s*", " ", s).strip()
+    if len(s) < 8:
+        return
+    s = s[0].upper() + s[1:]
+    inv = os.path.join(crate, "proofs", f, "Invariants.antt")
+    ans = os.path.join(crate, "proofs", f, "Answers.antt")
+    to = [inv, ans] if re.search(r"(?i)invariant|measure", s) else [ans, inv]
+    for p in to:
+        if os.path.exists(p):
+            t = open(p, encoding="utf-8").read()
+            if not t.startswith("--"):
+                open(p, "w", encoding="utf-8").write(f"-- {s}\n{t}")
+            return
 
 
 BASE = os.environ.get("TURN_BASE", "6017a2c")
@@ -783,6 +895,10 @@ def main():
             if (" error: " in l or l.startswith("fn ") and not l.endswith(": proved") or l.startswith("logic=") or "must prove" in l):
                 print(l[:500])
         print("said:", said)
+    elif what == "heads":
+        for f, text in functions(crate):
+            _, ds = decls(text)
+            heading(crate, f, next((d["comment"] for d in ds if d["kind"] == "head"), []))
     elif what == "names":
         names = names_of(crate)
         f = sys.argv[3]

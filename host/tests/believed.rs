@@ -26,10 +26,9 @@ struct File {
     lines: usize,
 }
 
-/// crate, folder and module of a path as `Rattle·ledger·specs.specs.Causes`; none of a library's.
+/// crate, folder and module of a path as `Rattle.ledger.specs.Causes`; none of a library's.
 fn module(path: &str) -> Option<Module> {
-    let (home, rest) = path.strip_prefix("Rattle·")?.split_once('.')?;
-    let home = home.split('·').next().expect("it has a part");
+    let (home, rest) = path.strip_prefix("Rattle.")?.split_once('.')?;
     let (folder, module) = rest.split_once('.')?;
     Some((home.to_string(), folder.to_string(), module.to_string()))
 }
@@ -111,7 +110,7 @@ impl File {
     }
 }
 
-/// The names in a text that may be others' definitions; a projection names none.
+/// The names in a text that may be others' definitions; of a projection the record.
 fn names(line: &str) -> impl Iterator<Item = &str> {
     let words = line.split(|c: char| c.is_whitespace() || "(){}[],;⌜⌝".contains(c));
     words.filter(|word| !word.is_empty() && !word.starts_with('.'))
@@ -141,9 +140,9 @@ impl Tree {
         }
     }
 
-    /// Marks what a name of a file stands for, and all that it names. Laws, in dash-case, are proved and need no belief.
+    /// Marks what a name of a file stands for, and all that it names. Laws of proofs/, which don't unfold, are proved and need no belief.
     fn visit(&mut self, module: &Module, name: &str) {
-        let Some(file) = self.files.get(module).filter(|_| !name.contains('-')) else {
+        let Some(file) = self.files.get(module) else {
             return;
         };
         if let Some((from, there)) = file.imports.get(name).cloned() {
@@ -153,6 +152,10 @@ impl Tree {
         let Some(lines) = file.definitions.get(name).cloned() else {
             return;
         };
+        let opens = ["abbrev ", "unfoldable ", "record ", "data ", "pub record ", "pub data "];
+        if module.1 == "proofs" && !opens.iter().any(|word| lines[0].trim_start().starts_with(word)) {
+            return;
+        }
         if self.seen.insert((module.clone(), name.to_string())) {
             lines.iter().for_each(|line| self.visit_line(module, line));
         }
@@ -165,8 +168,8 @@ impl Tree {
             match alias {
                 Some((from, rest)) => self.visit(&from, rest),
                 None => {
-                    self.visit(module, word);
-                    self.visit(module, &format!("_{word}_"));
+                    self.visit(module, word.split('.').next().expect("it has a part"));
+                    self.visit(module, &format!("◌{word}◌"));
                 }
             }
         }

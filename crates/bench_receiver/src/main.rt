@@ -7,7 +7,6 @@ ghost use Rattle.receiver.specs.Running.{OnlyAdds};
 ghost use Rattle.receiver_grown.specs.InOrder.{InOrder};
 ghost use Rattle.receiver_grown.specs.Grown.{Grown};
 
-use libc::STDIN_FILENO;
 use receiver::SigfoxReceiver;
 use shifts::Shifts;
 
@@ -131,13 +130,13 @@ fn push_chunk(
     }
 }
 
-fn main() {
+fn main(rt: HostRuntime) {
     let mut samples = [0.0f32; 48000];
     let mut events = [0u8; 30720];
     let mut scratch32 = [0.0f32; 48000];
     let mut scratch64 = [0.0f64; limits::SCRATCH64];
     let mut head = [0u8; 12];
-    let whole = replay::read_part(&mut head);
+    let whole = replay::read_part(&rt, &mut head);
     let receiver = SigfoxReceiver::new(endian::get_u32(&head, 0));
     let step = endian::get_u32(&head, 4) as usize;
     let proved = 0 < endian::get_u32(&head, 8);
@@ -150,7 +149,7 @@ fn main() {
     let mut more = whole & (0 < step);
     while left > 0 && more {
         let mut raw = [0u8; 48000];
-        let n = io::read_full(STDIN_FILENO, &mut raw);
+        let n = reading::read_full(&rt, &mut raw);
         more = n == 48000;
         left -= 1;
         if 0 < step && n <= 48000 {
@@ -167,8 +166,8 @@ fn main() {
         }
     }
     s = flush(s, &mut samples, &mut events, &mut scratch32, &mut scratch64);
-    replay::print_number(s.records);
-    replay::print(b" ");
-    replay::print_number(s.refused as u64);
-    replay::print_end();
+    replay::print_number(&rt, s.records);
+    replay::print(&rt, b" ");
+    replay::print_number(&rt, s.refused as u64);
+    replay::print_end(&rt);
 }

@@ -9,7 +9,6 @@ ghost use Rattle.frequency_grown.specs.Rising.{Single};
 
 use frequency::{FrequencyTracker, Next, Tracked};
 use frequency_measure::Frequency;
-use libc::STDIN_FILENO;
 
 const RATE: u32 = 1000;
 
@@ -26,10 +25,10 @@ struct State {
 }
 
 // The state after a call that was refused.
-fn refused(s: State, tracker: FrequencyTracker, n: u8) -> State
+fn refused(rt: &impl Print, s: State, tracker: FrequencyTracker, n: u8) -> State
     ensures { result.tracker ≡ tracker }
 {
-    replay::print_refusal(n);
+    replay::print_refusal(rt, n);
     State {
         all: s.all,
         known: s.known,
@@ -39,13 +38,13 @@ fn refused(s: State, tracker: FrequencyTracker, n: u8) -> State
     }
 }
 
-fn print_tune(f: Frequency) {
+fn print_tune(rt: &impl Print, f: Frequency) {
     match f {
         Frequency::Nothing => {}
         Frequency::Hz(hz) => {
-            replay::print(b"T ");
-            replay::print_number(hz as u64);
-            replay::print_end();
+            replay::print(rt, b"T ");
+            replay::print_number(rt, hz as u64);
+            replay::print_end(rt);
         }
     }
 }
@@ -97,6 +96,7 @@ fn after(s: State, tracker: FrequencyTracker) -> State
 }
 
 fn tuned(
+    rt: &impl Print,
     s: State,
     tracker: FrequencyTracker,
     freq: u32,
@@ -109,7 +109,7 @@ fn tuned(
         let r = tracker.tuned(freq, tunings, freqs);
         let next = r.tracker;
         if r.refused != 0 {
-            return refused(s, next, r.refused);
+            return refused(rt, s, next, r.refused);
         }
         return after(s, next);
     }
@@ -177,6 +177,7 @@ fn chosen(
 }
 
 fn asked(
+    rt: &impl Print,
     s: State,
     at: &[u64; 8000],
     lo: &[u32; 8000],
@@ -193,16 +194,17 @@ fn asked(
         let r = chosen(tracker, s.known, at, lo, hz, tunings, freqs, scratch);
         let next = r.tracker;
         if r.refused != 0 {
-            return refused(s, next, r.refused);
+            return refused(rt, s, next, r.refused);
         }
         let tune = r.tune;
-        print_tune(tune);
+        print_tune(rt, tune);
         return after(s, next);
     }
     s
 }
 
 fn heard(
+    rt: &impl Print,
     s: State,
     record: &[u8; 16],
     at: &mut [u64; 8000],
@@ -220,17 +222,18 @@ fn heard(
     let b = sampled(tracker, s.known, &dbm, at, lo, hz, tunings, freqs);
     let line = b.tracker;
     if b.refused != 0 {
-        return refused(s, line, b.refused);
+        return refused(rt, s, line, b.refused);
     }
     let c = read(line, s.known, &value, at, lo, hz, tunings, freqs);
     let next = c.tracker;
     if c.refused != 0 {
-        return refused(s, next, c.refused);
+        return refused(rt, s, next, c.refused);
     }
     after(s, next)
 }
 
 fn all_calls(
+    rt: &impl Print,
     s: State,
     record: &[u8; 16],
     at: &mut [u64; 8000],
@@ -245,19 +248,19 @@ fn all_calls(
 {
     let freq = endian::get_u32(record, 10);
     let tracker = begun(s, freq);
-    let a = tuned(s, tracker, freq, tunings, freqs);
+    let a = tuned(rt, s, tracker, freq, tunings, freqs);
     if !a.open {
         return a;
     }
-    let b = heard(a, record, at, lo, hz, tunings, freqs);
+    let b = heard(rt, a, record, at, lo, hz, tunings, freqs);
     if !b.open {
         return b;
     }
-    asked(b, at, lo, hz, tunings, freqs, scratch)
+    asked(rt, b, at, lo, hz, tunings, freqs, scratch)
 }
 
 // The last line: samples, readings and tunings.
-fn ended(s: State) -> State
+fn ended(rt: &impl Print, s: State) -> State
     ensures { result.tracker ≡ s.tracker }
 {
     if !s.open {
@@ -265,13 +268,13 @@ fn ended(s: State) -> State
     }
     let tracker = s.tracker;
     let signal = tracker.signal;
-    replay::print(b"E ");
-    replay::print_number(signal.n);
-    replay::print(b" ");
-    replay::print_number(tracker.readings as u64);
-    replay::print(b" ");
-    replay::print_number(tracker.tunings as u64);
-    replay::print_end();
+    replay::print(rt, b"E ");
+    replay::print_number(rt, signal.n);
+    replay::print(rt, b" ");
+    replay::print_number(rt, tracker.readings as u64);
+    replay::print(rt, b" ");
+    replay::print_number(rt, tracker.tunings as u64);
+    replay::print_end(rt);
     let mut t = s;
     t.open = false;
     t
@@ -293,6 +296,7 @@ fn record_of(block: &[u8; 4096], i: usize) -> [u8; 16]
 
 // The first `count` records of a block.
 fn records(
+    rt: &impl Print,
     s: State,
     block: &[u8; 4096],
     count: usize,
@@ -312,7 +316,17 @@ fn records(
         if !t.open {
             return t;
         }
-        t = all_calls(t, &record_of(block, i), at, lo, hz, tunings, freqs, scratch);
+        t = all_calls(
+            rt,
+            t,
+            &record_of(block, i),
+            at,
+            lo,
+            hz,
+            tunings,
+            freqs,
+            scratch,
+        );
         i += 1;
     }
     t
@@ -320,6 +334,7 @@ fn records(
 
 // The records of the next block.
 fn turn(
+    rt: &(impl Input + Print),
     s: State,
     at: &mut [u64; 8000],
     lo: &mut [u32; 8000],
@@ -332,22 +347,22 @@ fn turn(
     ensures { Single result.tracker (lists at.new lo.new hz.new tunings.new freqs.new) }
 {
     let mut block = [0u8; 4096];
-    let n = io::read_full(STDIN_FILENO, &mut block);
+    let n = reading::read_full(rt, &mut block);
     if n == 4096 {
-        return records(s, &block, 256, at, lo, hz, tunings, freqs, scratch);
+        return records(rt, s, &block, 256, at, lo, hz, tunings, freqs, scratch);
     }
     if n < 4096 {
-        let last = records(s, &block, n / 16, at, lo, hz, tunings, freqs, scratch);
-        return ended(last);
+        let last = records(rt, s, &block, n / 16, at, lo, hz, tunings, freqs, scratch);
+        return ended(rt, last);
     }
     s
 }
 
-fn start(tracker: FrequencyTracker) -> State
+fn start(rt: &impl Input, tracker: FrequencyTracker) -> State
     ensures { result.tracker ≡ tracker }
 {
     let mut first = [0u8; 2];
-    let there = replay::read_part(&mut first);
+    let there = replay::read_part(rt, &mut first);
     State {
         all: first[0] != 0,
         known: first[1] != 0,
@@ -357,7 +372,7 @@ fn start(tracker: FrequencyTracker) -> State
     }
 }
 
-fn main() {
+fn main(rt: HostRuntime) {
     let mut at = [0u64; 8000];
     let mut lo = [0u32; 8000];
     let mut hz = [0.0f64; 8000];
@@ -369,13 +384,14 @@ fn main() {
         return;
     }
     let tracker = fresh.tracker;
-    let mut s = start(tracker);
+    let mut s = start(&rt, tracker);
     let mut left = replay::MOST_CASES;
     while left > 0 {
         if !s.open {
             return;
         }
         s = turn(
+            &rt,
             s,
             &mut at,
             &mut lo,

@@ -55,64 +55,64 @@ fn decoded_of(digits: &[u8], n: usize) -> DecodedUplink {
     decoded_front(bits, n)
 }
 
-fn print_flag(b: bool) {
-    replay::print_number(if b { 1 } else { 0 });
+fn print_flag(rt: &impl Print, b: bool) {
+    replay::print_number(rt, if b { 1 } else { 0 });
 }
 
-fn print_part(bytes: &[u8], n: u8) {
-    replay::print(b" ");
-    replay::print_number(n as u64);
-    replay::print(b":");
-    replay::print_bytes(bytes, n as usize);
+fn print_part(rt: &impl Print, bytes: &[u8], n: u8) {
+    replay::print(rt, b" ");
+    replay::print_number(rt, n as u64);
+    replay::print(rt, b":");
+    replay::print_bytes(rt, bytes, n as usize);
 }
 
-fn print_bit(bit: SingleBit) {
+fn print_bit(rt: &impl Print, bit: SingleBit) {
     let SingleBit::Is(b) = bit else {
-        replay::print(b" -");
+        replay::print(rt, b" -");
         return;
     };
-    replay::print(b" ");
-    print_flag(b);
+    replay::print(rt, b" ");
+    print_flag(rt, b);
 }
 
-fn print_place(repair: u64, at: usize) {
-    replay::print(b" ");
-    replay::print_number(repair);
-    replay::print(b" ");
-    replay::print_number(at as u64);
+fn print_place(rt: &impl Print, repair: u64, at: usize) {
+    replay::print(rt, b" ");
+    replay::print_number(rt, repair);
+    replay::print(rt, b" ");
+    replay::print_number(rt, at as u64);
 }
 
 // A repair as a record has it: its number and its place.
-fn print_repair(how: Repair) {
+fn print_repair(rt: &impl Print, how: Repair) {
     match how {
-        Repair::Unchanged => print_place(0, 0),
-        Repair::Inserted(b, at) => print_place(if b { 2 } else { 1 }, at),
-        Repair::Deleted(at) => print_place(3, at),
-        Repair::Flipped(at) => print_place(4, at),
+        Repair::Unchanged => print_place(rt, 0, 0),
+        Repair::Inserted(b, at) => print_place(rt, if b { 2 } else { 1 }, at),
+        Repair::Deleted(at) => print_place(rt, 3, at),
+        Repair::Flipped(at) => print_place(rt, 4, at),
     }
 }
 
 // The line of the frame in the first `n` bits of hexadecimal digits: `frame rank device counter payload auth bit flags repair place`. None where there is no frame.
-pub fn frame_line(digits: &[u8], n: usize) {
+pub fn frame_line(rt: &impl Print, digits: &[u8], n: usize) {
     let decoded = decoded_of(digits, n);
     let outcome = decoded.outcome;
     let Outcome::Frame = outcome else {
         return;
     };
     let f = decoded.frame;
-    replay::print(b"frame ");
-    replay::print_number(f.rank as u64);
-    replay::print(b" ");
-    replay::print_hex(f.device_id as u64, 8);
-    replay::print(b" ");
-    replay::print_hex(f.counter as u64, 3);
-    print_part(&f.payload, f.payload_len);
-    print_part(&f.auth, f.auth_len);
-    print_bit(f.bit);
-    replay::print(b" ");
-    print_flag(f.downlink);
-    print_flag(f.control);
-    print_flag(f.crc_ok);
-    print_repair(f.repaired);
-    replay::print(b"\n");
+    replay::print(rt, b"frame ");
+    replay::print_number(rt, f.rank as u64);
+    replay::print(rt, b" ");
+    replay::print_hex(rt, f.device_id as u64, 8);
+    replay::print(rt, b" ");
+    replay::print_hex(rt, f.counter as u64, 3);
+    print_part(rt, &f.payload, f.payload_len);
+    print_part(rt, &f.auth, f.auth_len);
+    print_bit(rt, f.bit);
+    replay::print(rt, b" ");
+    print_flag(rt, f.downlink);
+    print_flag(rt, f.control);
+    print_flag(rt, f.crc_ok);
+    print_repair(rt, f.repaired);
+    replay::print(rt, b"\n");
 }

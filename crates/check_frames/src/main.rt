@@ -12,30 +12,30 @@ const DEVICE: u32 = 0x00c0_ffee;
 
 const COUNTER: u16 = 0x123;
 
-fn crc_line(name: &[u8], data: &[u8]) {
-    replay::print(b"crc16 ");
-    replay::print(name);
-    replay::print_hex(coding::crc16(data) as u64, 4);
-    replay::print(b"\n");
+fn crc_line(rt: &impl Print, name: &[u8], data: &[u8]) {
+    replay::print(rt, b"crc16 ");
+    replay::print(rt, name);
+    replay::print_hex(rt, coding::crc16(data) as u64, 4);
+    replay::print(rt, b"\n");
 }
 
 // P4: what bits 1 0 0 give in a rank.
-fn deconvolve_line(rank: u8) {
+fn deconvolve_line(rt: &impl Print, rank: u8) {
     let bits = [1u8, 0, 0];
     let mut out = [0u8; 3];
     let coded = coding::deconvolve(&bits, rank, &mut out);
     let Coded::Done(n) = coded else {
         return;
     };
-    replay::print(b"deconvolve ");
-    replay::print_number(rank as u64);
-    replay::print(b" 100 ");
-    replay::print_digits(&out, n);
-    replay::print(b"\n");
+    replay::print(rt, b"deconvolve ");
+    replay::print_number(rt, rank as u64);
+    replay::print(rt, b" 100 ");
+    replay::print_digits(rt, &out, n);
+    replay::print(rt, b"\n");
 }
 
 // P9, and docs/DIFFERENCES.md's rows on headers: a header's bytes, its class and the authentication's size.
-fn header_line(counter: u16, bit: SingleBit, payload: &[u8]) {
+fn header_line(rt: &impl Print, counter: u16, bit: SingleBit, payload: &[u8]) {
     let fields = UplinkFields {
         device_id: DEVICE,
         counter: counter,
@@ -52,27 +52,27 @@ fn header_line(counter: u16, bit: SingleBit, payload: &[u8]) {
     else {
         return;
     };
-    replay::print(b"header ");
-    replay::print_bytes(&out, size);
-    replay::print(b" ");
-    replay::print_number(class as u64);
-    replay::print(b" ");
-    replay::print_number(auth_size as u64);
-    replay::print(b"\n");
+    replay::print(rt, b"header ");
+    replay::print_bytes(rt, &out, size);
+    replay::print(rt, b" ");
+    replay::print_number(rt, class as u64);
+    replay::print(rt, b" ");
+    replay::print_number(rt, auth_size as u64);
+    replay::print(rt, b"\n");
 }
 
-fn main() {
-    crc_line(b"123456789 ", b"123456789");
-    crc_line(b"- ", b"");
-    crc_line(b"01 ", b"\x01");
-    deconvolve_line(1);
-    deconvolve_line(2);
-    header_line(COUNTER, SingleBit::Absent, b"\x10\x21");
-    header_line(0xf123, SingleBit::Absent, b"");
-    header_line(COUNTER, SingleBit::Is(true), b"\xaa");
-    vectors::rank_0();
-    vectors::rank_1();
-    vectors::rank_2();
-    vectors::differences();
-    vectors::nothing();
+fn main(rt: HostRuntime) {
+    crc_line(&rt, b"123456789 ", b"123456789");
+    crc_line(&rt, b"- ", b"");
+    crc_line(&rt, b"01 ", b"\x01");
+    deconvolve_line(&rt, 1);
+    deconvolve_line(&rt, 2);
+    header_line(&rt, COUNTER, SingleBit::Absent, b"\x10\x21");
+    header_line(&rt, 0xf123, SingleBit::Absent, b"");
+    header_line(&rt, COUNTER, SingleBit::Is(true), b"\xaa");
+    vectors::rank_0(&rt);
+    vectors::rank_1(&rt);
+    vectors::rank_2(&rt);
+    vectors::differences(&rt);
+    vectors::nothing(&rt);
 }

@@ -3,6 +3,7 @@ ghost use Rattle.std.specs.Prelude.{◌≤◌, length};
 ghost use Rattle.replay.specs.Front.{Front};
 
 use shifts::{Shifts, StreamStart, Window};
+use std::rt::Env;
 
 // The most arguments, the program's name among them.
 const MOST: usize = 1000;
@@ -105,9 +106,9 @@ fn word_of(text: &[u8], end: usize) -> Word
 }
 
 // Argument i; one that is longer than any number is neither.
-fn word_at(i: usize) -> Word {
+fn word_at(rt: &impl Env, i: usize) -> Word {
     let mut text = [0u8; 64];
-    let n = os::arg(i, &mut text);
+    let n = command_line::arg(rt, i, &mut text);
     word_of(&text, n)
 }
 
@@ -128,8 +129,8 @@ fn is_word(w: Word) -> bool {
 }
 
 // Whether the arguments say what shifts there are, or nothing.
-pub fn are_shifts() -> bool {
-    let count = os::arg_count();
+pub fn are_shifts(rt: &impl Env) -> bool {
+    let count = command_line::arg_count(rt);
     if MOST < count {
         return false;
     }
@@ -138,12 +139,12 @@ pub fn are_shifts() -> bool {
     }
     let mut i: usize = 2;
     while i < count {
-        if !is_word(word_at(i)) {
+        if !is_word(word_at(rt, i)) {
             return false;
         }
         i += 1;
     }
-    is_number(word_at(1))
+    is_number(word_at(rt, 1))
 }
 
 fn start_of(w: Word) -> StreamStart {
@@ -168,13 +169,13 @@ fn with_window(s: Shifts, w: Word) -> Shifts {
 }
 
 // Start second and windows; none where there is no argument.
-pub fn given_shifts() -> Shifts {
-    let count = os::arg_count();
+pub fn given_shifts(rt: &impl Env) -> Shifts {
+    let count = command_line::arg_count(rt);
     let mut s = Shifts::none();
     if count < 2 {
         return s;
     }
-    let start = start_of(word_at(1));
+    let start = start_of(word_at(rt, 1));
     let windows = s.windows;
     s = Shifts {
         start,
@@ -183,7 +184,7 @@ pub fn given_shifts() -> Shifts {
     };
     let mut i: usize = 2;
     while i < count {
-        let next = with_window(s, word_at(i));
+        let next = with_window(s, word_at(rt, i));
         s = next;
         i += 1;
     }
@@ -206,14 +207,14 @@ fn put_date(w: Word, closed: &mut [u32], n: usize) -> usize
 }
 
 // The closed dates, at the front of the list; how many there are.
-pub fn closed_dates(closed: &mut [u32]) -> usize
+pub fn closed_dates(rt: &impl Env, closed: &mut [u32]) -> usize
     ensures { Front result closed.new }
 {
-    let count = os::arg_count();
+    let count = command_line::arg_count(rt);
     let mut n: usize = 0;
     let mut i: usize = 2;
     while i < count {
-        n = put_date(word_at(i), closed, n);
+        n = put_date(word_at(rt, i), closed, n);
         i += 1;
     }
     n

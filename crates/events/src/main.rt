@@ -6,7 +6,6 @@ ghost use Rattle.std.specs.Prelude.{◌<◌, ◌≤◌, length};
 
 mod arguments; // shifts
 
-use libc::{STDERR_FILENO, STDOUT_FILENO};
 use reading::Fetched;
 use receiver::SigfoxReceiver;
 use shifts::Shifts;
@@ -49,27 +48,22 @@ fn fresh() -> Stream
 }
 
 // A line on standard error: the number of a refused call.
-fn print_refusal(n: u8) {
-    io::write_all(STDERR_FILENO, b"events: refused with ");
-    io::print_decimal(STDERR_FILENO, n as u64);
-    io::write_all(STDERR_FILENO, b"\n");
+fn print_refusal(rt: &impl Eprint, n: u8) {
+    let _ = eprintln!(rt; "events: refused with {n}");
 }
 
-fn print_failure() {
-    io::write_all(STDERR_FILENO, b"events: standard input can't be read\n");
+fn print_failure(rt: &impl Eprint) {
+    let _ = rt.eprintln("events: standard input can't be read");
 }
 
-fn print_usage() {
-    io::write_all(
-        STDERR_FILENO,
-        b"events: the arguments are a start second, windows A-B and closed dates\n",
-    );
+fn print_usage(rt: &impl Eprint) {
+    let _ = rt.eprintln("events: the arguments are a start second, windows A-B and closed dates");
 }
 
 // A call's records; false after a refusal, and where standard output takes no more.
-fn write_events(refused: u8, count: usize, events: &[u8]) -> bool {
+fn write_events(rt: &(impl Print + Eprint), refused: u8, count: usize, events: &[u8]) -> bool {
     if refused != 0 {
-        print_refusal(refused);
+        print_refusal(rt, refused);
         return false;
     }
     if MOST_EVENTS < count {
@@ -79,11 +73,12 @@ fn write_events(refused: u8, count: usize, events: &[u8]) -> bool {
     if events.len() < end {
         return false;
     }
-    io::write_all(STDOUT_FILENO, &events[..end])
+    rt.write_all(&events[..end]).is_ok()
 }
 
 // The samples of the whole records of the buffer, from one place on to another; nothing after a refusal.
 fn hear(
+    rt: &(impl Print + Eprint),
     s: Stream,
     input: &[u8],
     from: usize,
@@ -116,7 +111,7 @@ fn hear(
         );
         let next = r.receiver;
         receiver = next;
-        going = write_events(r.refused, r.count, events);
+        going = write_events(rt, r.refused, r.count, events);
     }
     let mut m = s;
     m.receiver = receiver;
@@ -125,11 +120,11 @@ fn hear(
 }
 
 // After a read that failed: a line on standard error, and no record more.
-fn fail(s: Stream) -> Stream
+fn fail(rt: &impl Eprint, s: Stream) -> Stream
     requires { s.filled < 4096 }
     ensures { result.filled < 4096 }
 {
-    print_failure();
+    print_failure(rt);
     let mut m = s;
     m.going = false;
     m.more = false;
@@ -138,6 +133,7 @@ fn fail(s: Stream) -> Stream
 
 // One read, and every record that is whole with it.
 fn turn(
+    rt: &(impl Input + Print + Eprint),
     s: Stream,
     input: &mut [u8; 4096],
     shifts: Shifts,
@@ -151,13 +147,13 @@ fn turn(
     ensures { result.filled < 4096 }
 {
     let from = s.filled;
-    let fetched = reading::fetch(input, from);
+    let fetched = reading::fetch(rt, input, from);
     let Fetched::Bytes(n) = fetched else {
-        return fail(s);
+        return fail(rt, s);
     };
     let end = from + n;
     let mut m = hear(
-        s, input, from, end, shifts, closed, samples, events, scratch32, scratch64,
+        rt, s, input, from, end, shifts, closed, samples, events, scratch32, scratch64,
     );
     m.filled = end % BUFFER;
     m.more = m.going & (0 < n);
@@ -165,17 +161,16 @@ fn turn(
 }
 
 // A line on standard error where the stream ends inside a record.
-fn print_leftover(n: usize) {
+fn print_leftover(rt: &impl Eprint, n: usize) {
     if n == 0 {
         return;
     }
-    io::write_all(STDERR_FILENO, b"events: bytes left over: ");
-    io::print_decimal(STDERR_FILENO, n as u64);
-    io::write_all(STDERR_FILENO, b"\n");
+    let _ = eprintln!(rt; "events: bytes left over: {n}");
 }
 
 // The last call, and its records; nothing after a refusal.
 fn finish(
+    rt: &(impl Print + Eprint),
     s: Stream,
     shifts: Shifts,
     closed: &[u32],
@@ -187,13 +182,13 @@ fn finish(
     if s.going {
         let receiver = s.receiver;
         let r = receiver.flush(shifts, closed, samples, events, scratch32, scratch64);
-        write_events(r.refused, r.count, events);
-        print_leftover(s.filled % RECORD);
+        write_events(rt, r.refused, r.count, events);
+        print_leftover(rt, s.filled % RECORD);
     }
 }
 
 // The whole stream.
-fn run(shifts: Shifts, closed: &[u32]) {
+fn run(rt: &(impl Input + Print + Eprint), shifts: Shifts, closed: &[u32]) {
     let mut input = [0u8; 4096];
     let mut samples = [0.0f32; 12000];
     let mut events = [0u8; 30720];
@@ -203,6 +198,7 @@ fn run(shifts: Shifts, closed: &[u32]) {
     let mut left = MOST_READS;
     while left > 0 && s.more {
         s = turn(
+            rt,
             s,
             &mut input,
             shifts,
@@ -215,6 +211,7 @@ fn run(shifts: Shifts, closed: &[u32]) {
         left -= 1;
     }
     finish(
+        rt,
         s,
         shifts,
         closed,
@@ -225,13 +222,13 @@ fn run(shifts: Shifts, closed: &[u32]) {
     );
 }
 
-fn main() {
-    if !arguments::are_shifts() {
-        print_usage();
+fn main(rt: HostRuntime) {
+    if !arguments::are_shifts(&rt) {
+        print_usage(&rt);
         return;
     }
-    let shifts = arguments::given_shifts();
+    let shifts = arguments::given_shifts(&rt);
     let mut closed = [0u32; 1000];
-    let n = arguments::closed_dates(&mut closed);
-    run(shifts, &closed[..n]);
+    let n = arguments::closed_dates(&rt, &mut closed);
+    run(&rt, shifts, &closed[..n]);
 }

@@ -1,6 +1,8 @@
 // What the arguments say: the rate, and the form of the recording.
 ghost use Rattle.std.specs.Prelude.{◌≤◌, length};
 
+use std::rt::Env;
+
 #[derive(Clone, Copy)]
 pub enum Form {
     Raw,
@@ -73,15 +75,15 @@ fn form_of(text: &[u8]) -> Form {
 }
 
 // The rate that the first argument names, 0 where it is none.
-pub fn given_rate() -> u32 {
+pub fn given_rate(rt: &impl Env) -> u32 {
     let mut text = [0u8; 64];
-    let n = os::arg(1, &mut text);
+    let n = command_line::arg(rt, 1, &mut text);
     number_of(&text[..n])
 }
 
 // The form that the second argument names.
-pub fn given_form() -> Form {
+pub fn given_form(rt: &impl Env) -> Form {
     let mut text = [0u8; 64];
-    let n = os::arg(2, &mut text);
+    let n = command_line::arg(rt, 2, &mut text);
     form_of(&text[..n])
 }

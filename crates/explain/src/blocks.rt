@@ -30,73 +30,82 @@ pub fn seconds(rate: u32, n: u64) -> f64 {
     floats::count_as_f64(n as usize) / (rate as f64)
 }
 
-fn print_over(margin: f64) {
+fn print_over(rt: &impl Print, margin: f64) {
     if margin > 0.0 {
-        print_db(margin);
-        replay::print(b" dB over it\n");
+        print_db(rt, margin);
+        replay::print(rt, b" dB over it\n");
         return;
     }
-    print_db(0.0 - margin);
-    replay::print(b" dB under it\n");
+    print_db(rt, 0.0 - margin);
+    replay::print(rt, b" dB under it\n");
 }
 
-fn print_levels(b: Burst) {
-    replay::print(b"  peak ");
-    print_dbm(b.peak_dbm);
-    replay::print(b" dBm, floor ");
-    print_dbm(b.floor_dbm);
-    replay::print(b" dBm, threshold ");
-    print_db(std::num::f32_to_f64_with_nan(b.floor_dbm) + bursts::BurstOptions::ABOVE_DB);
-    replay::print(b" dBm: ");
-    print_over(explaining::margin(b));
+fn print_levels(rt: &impl Print, b: Burst) {
+    replay::print(rt, b"  peak ");
+    print_dbm(rt, b.peak_dbm);
+    replay::print(rt, b" dBm, floor ");
+    print_dbm(rt, b.floor_dbm);
+    replay::print(rt, b" dBm, threshold ");
+    print_db(
+        rt,
+        std::num::f32_to_f64_with_nan(b.floor_dbm) + bursts::BurstOptions::ABOVE_DB,
+    );
+    replay::print(rt, b" dBm: ");
+    print_over(rt, explaining::margin(b));
 }
 
-fn print_ending(how: Ending) {
+fn print_ending(rt: &impl Print, how: Ending) {
     match how {
         Ending::Faint => {
-            replay::print(b"under the threshold\n");
+            replay::print(rt, b"under the threshold\n");
         }
         Ending::Short => {
-            replay::print(b"too short, 0.3 s is the least\n");
+            replay::print(rt, b"too short, 0.3 s is the least\n");
         }
         Ending::Cut => {
-            replay::print(b"not looked at, it began before the samples that are held\n");
+            replay::print(
+                rt,
+                b"not looked at, it began before the samples that are held\n",
+            );
         }
         Ending::Clockless => {
-            replay::print(b"no clock\n");
+            replay::print(rt, b"no clock\n");
         }
         Ending::Typeless => {
-            replay::print(b"no frame type\n");
+            replay::print(rt, b"no frame type\n");
         }
         Ending::Few => {
-            replay::print(b"too few bits for its type\n");
+            replay::print(rt, b"too few bits for its type\n");
         }
         Ending::Wrong => {
-            replay::print(b"wrong CRC\n");
+            replay::print(rt, b"wrong CRC\n");
         }
         Ending::Read => {
-            replay::print(b"read\n");
+            replay::print(rt, b"read\n");
         }
     }
 }
 
 // The first lines of a block: when, how long, how it ended, and the levels.
-pub fn print_head(n: u64, rate: u32, base: u64, b: Burst, how: Ending) {
-    replay::print(b"burst ");
-    replay::print_number(n);
-    replay::print(b" at ");
-    print_parts(seconds(rate, std::num::wrapping_add_u64(base, b.start as u64)));
-    replay::print(b" s, ");
-    print_parts(seconds(rate, dips::back(b.end, b.start) as u64));
-    replay::print(b" s long: ");
-    print_ending(how);
-    print_levels(b);
+pub fn print_head(rt: &impl Print, n: u64, rate: u32, base: u64, b: Burst, how: Ending) {
+    replay::print(rt, b"burst ");
+    replay::print_number(rt, n);
+    replay::print(rt, b" at ");
+    print_parts(
+        rt,
+        seconds(rate, std::num::wrapping_add_u64(base, b.start as u64)),
+    );
+    replay::print(rt, b" s, ");
+    print_parts(rt, seconds(rate, dips::back(b.end, b.start) as u64));
+    replay::print(rt, b" s long: ");
+    print_ending(rt, how);
+    print_levels(rt, b);
 }
 
 // A burst that was not taken: its first lines, and it is counted.
-pub fn explain_left(t: Tally, scan: Scan, b: Burst, how: Ending) -> Tally {
+pub fn explain_left(rt: &impl Print, t: Tally, scan: Scan, b: Burst, how: Ending) -> Tally {
     let u = crate::tally::ended(t, how);
-    print_head(u.bursts, scan.rate, scan.base, b, how);
+    print_head(rt, u.bursts, scan.rate, scan.base, b, how);
     u
 }
 
@@ -158,61 +167,69 @@ fn ending_of(bits: bool, kind: bool, found: bool, right: bool) -> Ending {
     Ending::Wrong
 }
 
-fn print_clock(bits: BurstBits) {
+fn print_clock(rt: &impl Print, bits: BurstBits) {
     match bits {
         BurstBits::Refused(_) => {}
         BurstBits::Nothing => {
-            replay::print(b"  no bits: it takes 8 dips on the grid\n");
+            replay::print(rt, b"  no bits: it takes 8 dips on the grid\n");
         }
         BurstBits::Bits(count, _, ppm, _, points, _) => {
-            replay::print(b"  clock error ");
-            replay::print_signed(ppm);
-            replay::print(b" ppm, ");
-            replay::print_number(points as u64);
-            replay::print(b" dips on the grid, ");
-            replay::print_number(count as u64);
-            replay::print(b" bits\n");
+            replay::print(rt, b"  clock error ");
+            replay::print_signed(rt, ppm);
+            replay::print(rt, b" ppm, ");
+            replay::print_number(rt, points as u64);
+            replay::print(rt, b" dips on the grid, ");
+            replay::print_number(rt, count as u64);
+            replay::print(rt, b" bits\n");
         }
     }
 }
 
-fn print_bits(bits: &[u8], n: usize) {
+fn print_bits(rt: &impl Print, bits: &[u8], n: usize) {
     if 0 < n {
-        replay::print(b"  ");
-        replay::print_digits(bits, n);
-        replay::print_end();
+        replay::print(rt, b"  ");
+        replay::print_digits(rt, bits, n);
+        replay::print_end(rt);
     }
 }
 
 // What a frame with a right CRC does: it joins the message of its device and counter, or opens one.
-fn join(t: Tally, scan: Scan, f: frame::UplinkFrame) -> Tally {
+fn join(rt: &impl Print, t: Tally, scan: Scan, f: frame::UplinkFrame) -> Tally {
     let waiting = scan.waiting;
     let last = last_of(waiting, f.device_id, f.counter);
     if last < 0.0 {
-        replay::print(b"  it opens a message\n");
+        replay::print(rt, b"  it opens a message\n");
         return t;
     }
     let margin = explaining::quiet_margin(scan.time, last);
-    replay::print(b"  it joins the message, which had waited ");
-    print_parts(scan.time - last);
-    replay::print(b" s (");
-    print_parts(margin);
-    replay::print(b" left of 10)\n");
+    replay::print(rt, b"  it joins the message, which had waited ");
+    print_parts(rt, scan.time - last);
+    replay::print(rt, b" s (");
+    print_parts(rt, margin);
+    replay::print(rt, b" left of 10)\n");
     crate::tally::joined(t, margin)
 }
 
 // The rest of a block behind its dips.
-fn explain_frame(t: Tally, scan: Scan, b: Burst, near: Near, x: BurstFrame, how: Ending) -> Tally {
+fn explain_frame(
+    rt: &impl Print,
+    t: Tally,
+    scan: Scan,
+    b: Burst,
+    near: Near,
+    x: BurstFrame,
+    how: Ending,
+) -> Tally {
     let d = x.decoded;
     let f = d.frame;
     match how {
         Ending::Read => {
-            print_frame(f);
+            print_frame(rt, f);
             let u = crate::tally::read(t, explaining::margin(b), near);
-            join(u, scan, f)
+            join(rt, u, scan, f)
         }
         Ending::Wrong => {
-            print_frame(f);
+            print_frame(rt, f);
             t
         }
         Ending::Few
@@ -231,14 +248,15 @@ pub fn least(a: usize, b: usize) -> usize
     if a < b { a } else { b }
 }
 
-fn print_type_of(bits: bool, kind: TypeFound) {
+fn print_type_of(rt: &impl Print, bits: bool, kind: TypeFound) {
     if bits {
-        print_type(kind);
+        print_type(rt, kind);
     }
 }
 
 // A burst with its bits.
 fn explain_bits(
+    rt: &impl Print,
     seg: &[f32],
     t: Tally,
     scan: Scan,
@@ -256,16 +274,17 @@ fn explain_bits(
     let right = x.decoded.frame.crc_ok;
     let how = ending_of(known, is_type(kind), is_frame(outcome), right);
     let u = crate::tally::ended(t, how);
-    print_head(u.bursts, scan.rate, scan.base, b, how);
-    let near = explain_dips(seg, scan.rate, from, scratch);
-    print_clock(found);
-    print_bits(bits, n);
-    print_type_of(known, kind);
-    explain_frame(u, scan, b, near, x, how)
+    print_head(rt, u.bursts, scan.rate, scan.base, b, how);
+    let near = explain_dips(rt, seg, scan.rate, from, scratch);
+    print_clock(rt, found);
+    print_bits(rt, bits, n);
+    print_type_of(rt, known, kind);
+    explain_frame(rt, u, scan, b, near, x, how)
 }
 
 // A burst whose samples are looked at, as the receiver did when it took it.
 fn explain_segment(
+    rt: &impl Print,
     seg: &[f32],
     t: Tally,
     scan: Scan,
@@ -277,11 +296,12 @@ fn explain_segment(
 ) -> Tally {
     let mut bits = [0u8; 1024];
     let found = clock::burst_bits(seg, scan.rate, &mut bits, scratch32, scratch64);
-    explain_bits(seg, t, scan, b, from, x, found, &bits, scratch64)
+    explain_bits(rt, seg, t, scan, b, from, x, found, &bits, scratch64)
 }
 
 // A burst that the receiver took.
 pub fn explain_taken(
+    rt: &impl Print,
     held: &[f32],
     t: Tally,
     scan: Scan,
@@ -311,5 +331,5 @@ pub fn explain_taken(
     let from = s.from;
     let to = s.to;
     let at = seconds(rate, std::num::wrapping_add_u64(scan.base, from as u64));
-    explain_segment(&held[from..to], t, scan, b, at, x, scratch32, scratch64)
+    explain_segment(rt, &held[from..to], t, scan, b, at, x, scratch32, scratch64)
 }

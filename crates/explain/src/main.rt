@@ -15,7 +15,6 @@ mod words; // numbers
 
 use arguments::Form;
 use blocks::Scan;
-use libc::STDERR_FILENO;
 use reading::Fetched;
 use receiver::{Received, SigfoxReceiver};
 use scans::Remembered;
@@ -36,35 +35,35 @@ struct Course {
     more: bool,
 }
 
-fn complain(text: &[u8]) {
-    io::write_all(STDERR_FILENO, text);
+fn complain(rt: &impl Eprint, text: &str) {
+    let _ = rt.eprint(text);
 }
 
-fn print_usage() {
+fn print_usage(rt: &impl Eprint) {
     complain(
-        b"usage: explain RATE FORM < RECORDING\nRATE: samples a second, 200 to 4000; FORM: raw (bytes, -2 x dBm), f32 (binary32 dBm, little-endian) or records (those of listen, RATE 1000)\n",
+        rt,
+        "usage: explain RATE FORM < RECORDING\nRATE: samples a second, 200 to 4000; FORM: raw (bytes, -2 x dBm), f32 (binary32 dBm, little-endian) or records (those of listen, RATE 1000)\n",
     );
 }
 
 // The words of a cause that a recording can have (docs/CONTRACTS.md).
-fn print_cause(n: u8) {
+fn print_cause(rt: &impl Eprint, n: u8) {
     match n {
         limits::BAD_SAMPLE => {
-            complain(b": a sample is no number from -200 to 100 dBm\n");
+            complain(rt, ": a sample is no number from -200 to 100 dBm\n");
         }
         limits::STREAM => {
-            complain(b": the recording is longer than 2^40 samples\n");
+            complain(rt, ": the recording is longer than 2^40 samples\n");
         }
         _ => {
-            complain(b"\n");
+            complain(rt, "\n");
         }
     }
 }
 
-fn print_refusal(n: u8) {
-    complain(b"explain: refused with ");
-    io::print_decimal(STDERR_FILENO, n as u64);
-    print_cause(n);
+fn print_refusal(rt: &impl Eprint, n: u8) {
+    let _ = eprint!(rt; "explain: refused with {n}");
+    print_cause(rt, n);
 }
 
 // Samples of a call: eight, as `listen` has it; four at an odd rate, so that no call meets the end of the held 12 s in its middle.
@@ -114,7 +113,7 @@ fn samples_in(form: Form, n: usize, call: usize) -> usize
 }
 
 // A line on standard error where the recording ends inside a sample or a record.
-fn print_leftover(form: Form, n: usize) {
+fn print_leftover(rt: &impl Eprint, form: Form, n: usize) {
     let left = match form {
         Form::Floats => n % 4,
         Form::Records => n % 16,
@@ -123,9 +122,7 @@ fn print_leftover(form: Form, n: usize) {
     if left == 0 {
         return;
     }
-    complain(b"explain: bytes left over: ");
-    io::print_decimal(STDERR_FILENO, left as u64);
-    complain(b"\n");
+    let _ = eprintln!(rt; "explain: bytes left over: {left}");
 }
 
 fn put_floats(block: &[u8; 32], n: usize, dbm: &mut [f32; 8])
@@ -174,6 +171,7 @@ fn time_of(r: SigfoxReceiver) -> f64 {
 
 // What a call's scan did.
 fn look(
+    rt: &impl Print,
     before: SigfoxReceiver,
     after: SigfoxReceiver,
     wait: usize,
@@ -202,7 +200,7 @@ fn look(
         after: remembered,
         after_base: after.base,
     };
-    scans::explain_scan(&samples[..held], t, scan, r, scratch32, scratch64)
+    scans::explain_scan(rt, &samples[..held], t, scan, r, scratch32, scratch64)
 }
 
 // A call with the first n samples.
@@ -231,6 +229,7 @@ fn push_first(
 
 // What a call did that scanned: nothing is left to be looked at then.
 fn scanned(
+    rt: &impl Print,
     before: SigfoxReceiver,
     after: SigfoxReceiver,
     t: Tally,
@@ -242,6 +241,7 @@ fn scanned(
         return t;
     }
     look(
+        rt,
         before,
         after,
         tail(after.rate),
@@ -254,6 +254,7 @@ fn scanned(
 
 // One call with the first n samples, and what it did.
 fn hear(
+    rt: &(impl Print + Eprint),
     s: Course,
     dbm: &[f32; 8],
     n: usize,
@@ -265,16 +266,16 @@ fn hear(
     let before = s.receiver;
     let r = push_first(before, dbm, n, samples, events, scratch32, scratch64);
     if r.refused != 0 {
-        print_refusal(r.refused);
+        print_refusal(rt, r.refused);
         let mut stopped = s;
         stopped.more = false;
         return stopped;
     }
     let after = r.receiver;
     let t = s.tally;
-    let u = scanned(before, after, t, samples, scratch32, scratch64);
+    let u = scanned(rt, before, after, t, samples, scratch32, scratch64);
     let waiting = before.waiting;
-    messages::print_messages(events, r.count, waiting, time_of(after), false);
+    messages::print_messages(rt, events, r.count, waiting, time_of(after), false);
     Course {
         receiver: after,
         tally: u,
@@ -284,6 +285,7 @@ fn hear(
 
 // The last call, and what it did.
 fn finish(
+    rt: &(impl Print + Eprint),
     s: Course,
     samples: &mut [f32; 48000],
     events: &mut [u8; 30720],
@@ -301,26 +303,27 @@ fn finish(
         scratch64,
     );
     if r.refused != 0 {
-        print_refusal(r.refused);
+        print_refusal(rt, r.refused);
         return;
     }
     let after = r.receiver;
     let t = s.tally;
-    let u = look(before, after, 0, t, samples, scratch32, scratch64);
+    let u = look(rt, before, after, 0, t, samples, scratch32, scratch64);
     let waiting = before.waiting;
-    messages::print_messages(events, r.count, waiting, time_of(after), true);
-    tally::print(u);
+    messages::print_messages(rt, events, r.count, waiting, time_of(after), true);
+    tally::print(rt, u);
 }
 
 // The next n bytes of standard input, at the front of a block.
-fn fetch(block: &mut [u8], n: usize) -> Fetched
+fn fetch(rt: &impl Input, block: &mut [u8], n: usize) -> Fetched
     requires { n ≤ length block.old }
 {
-    reading::fill(&mut block[..n])
+    reading::fill(rt, &mut block[..n])
 }
 
 // One block of the recording; the last one may be short.
 fn turn(
+    rt: &(impl Input + Print + Eprint),
     s: Course,
     form: Form,
     samples: &mut [f32; 48000],
@@ -332,14 +335,14 @@ fn turn(
     let mut dbm = [0.0f32; 8];
     let call = call_of(form, s.receiver.rate);
     let size = size_of(form, call);
-    let fetched = fetch(&mut block, size);
+    let fetched = fetch(rt, &mut block, size);
     let mut stopped = s;
     stopped.more = false;
     let Fetched::Bytes(n) = fetched else {
-        complain(b"explain: standard input can't be read\n");
+        complain(rt, "explain: standard input can't be read\n");
         return stopped;
     };
-    print_leftover(form, n);
+    print_leftover(rt, form, n);
     let count = samples_in(form, n, call);
     if count == 0 {
         return stopped;
@@ -347,11 +350,11 @@ fn turn(
     put_samples(form, &block, count, &mut dbm);
     let mut next = s;
     next.more = count == call;
-    hear(next, &dbm, count, samples, events, scratch32, scratch64)
+    hear(rt, next, &dbm, count, samples, events, scratch32, scratch64)
 }
 
 // The whole recording.
-fn run(rate: u32, form: Form) {
+fn run(rt: &(impl Input + Print + Eprint), rate: u32, form: Form) {
     let mut samples = [0.0f32; 48000];
     let mut events = [0u8; 30720];
     let mut scratch32 = [0.0f32; 48000];
@@ -366,6 +369,7 @@ fn run(rate: u32, form: Form) {
     let mut left = MOST_READS;
     while left > 0 && s.more {
         s = turn(
+            rt,
             s,
             form,
             &mut samples,
@@ -375,7 +379,14 @@ fn run(rate: u32, form: Form) {
         );
         left -= 1;
     }
-    finish(s, &mut samples, &mut events, &mut scratch32, &mut scratch64);
+    finish(
+        rt,
+        s,
+        &mut samples,
+        &mut events,
+        &mut scratch32,
+        &mut scratch64,
+    );
 }
 
 // Whether a recording of this form can have the rate.
@@ -387,16 +398,16 @@ fn fits(form: Form, rate: u32) -> bool {
     }
 }
 
-fn main() {
-    let rate = arguments::given_rate();
-    let form = arguments::given_form();
+fn main(rt: HostRuntime) {
+    let rate = arguments::given_rate(&rt);
+    let form = arguments::given_form(&rt);
     if !limits::rate_ok(rate) {
-        print_usage();
+        print_usage(&rt);
         return;
     }
     if !fits(form, rate) {
-        print_usage();
+        print_usage(&rt);
         return;
     }
-    run(rate, form);
+    run(&rt, rate, form);
 }

@@ -35,69 +35,69 @@ pub fn last_of(w: Waiting, device: u32, counter: u16) -> f64 {
     NEVER
 }
 
-fn print_ranks(mask: u8) {
+fn print_ranks(rt: &impl Print, mask: u8) {
     if mask % 2 == 1 {
-        replay::print(b" 0");
+        replay::print(rt, b" 0");
     }
     if mask / 2 % 2 == 1 {
-        replay::print(b" 1");
+        replay::print(rt, b" 1");
     }
     if mask / 4 % 2 == 1 {
-        replay::print(b" 2");
+        replay::print(rt, b" 2");
     }
 }
 
 // Why a message closed at a time, of which a frame had last joined at another.
-fn print_reason(mask: u8, ended: bool, time: f64, last: f64) {
+fn print_reason(rt: &impl Print, mask: u8, ended: bool, time: f64, last: f64) {
     if mask == ALL_RANKS {
-        replay::print(b"three ranks\n");
+        replay::print(rt, b"three ranks\n");
         return;
     }
     if ended {
-        replay::print(b"the recording ended");
+        replay::print(rt, b"the recording ended");
         if last >= 0.0 {
-            replay::print(b", after a silence of ");
-            print_parts(time - last);
-            replay::print(b" s of 10");
+            replay::print(rt, b", after a silence of ");
+            print_parts(rt, time - last);
+            replay::print(rt, b" s of 10");
         }
-        replay::print_end();
+        replay::print_end(rt);
         return;
     }
-    replay::print(b"a silence of ");
-    print_parts(time - last);
-    replay::print(b" s, over 10\n");
+    replay::print(rt, b"a silence of ");
+    print_parts(rt, time - last);
+    replay::print(rt, b" s, over 10\n");
 }
 
 // A message's record.
-fn print_message(r: &[u8], waiting: Waiting, time: f64, ended: bool)
+fn print_message(rt: &impl Print, r: &[u8], waiting: Waiting, time: f64, ended: bool)
     requires { 120 ≤ length r.now }
 {
     let device = record::read::device_of(r);
     let counter = record::read::counter_of(r);
     let mask = record::read::rank_of(r);
-    replay::print(b"message of device ");
-    replay::print_hex(device as u64, 8);
-    replay::print(b", counter ");
-    replay::print_number(counter as u64);
-    replay::print(b", first heard at ");
-    print_parts(record::read::time_of(r));
-    replay::print(b" s, ranks");
-    print_ranks(mask);
-    replay::print(b"; closed at ");
-    print_parts(time);
-    replay::print(b" s: ");
-    print_reason(mask, ended, time, last_of(waiting, device, counter));
+    replay::print(rt, b"message of device ");
+    replay::print_hex(rt, device as u64, 8);
+    replay::print(rt, b", counter ");
+    replay::print_number(rt, counter as u64);
+    replay::print(rt, b", first heard at ");
+    print_parts(rt, record::read::time_of(r));
+    replay::print(rt, b" s, ranks");
+    print_ranks(rt, mask);
+    replay::print(rt, b"; closed at ");
+    print_parts(rt, time);
+    replay::print(rt, b" s: ");
+    print_reason(rt, mask, ended, time, last_of(waiting, device, counter));
 }
 
-fn print_record(r: &[u8], waiting: Waiting, time: f64, ended: bool)
+fn print_record(rt: &impl Print, r: &[u8], waiting: Waiting, time: f64, ended: bool)
     requires { 120 ≤ length r.now }
 {
     if record::read::kind_of(r) == record::MESSAGE {
-        print_message(r, waiting, time, ended);
+        print_message(rt, r, waiting, time, ended);
     }
 }
 
-fn print_one(events: &[u8], i: usize, waiting: Waiting, time: f64, ended: bool)
+fn print_one(rt: &impl Print, events: &[u8], i: usize, waiting: Waiting, time: f64, ended: bool)
     requires { i ≤ 255 }
 {
     let at = limits::RECORD * i;
@@ -105,17 +105,24 @@ fn print_one(events: &[u8], i: usize, waiting: Waiting, time: f64, ended: bool)
     if events.len() < to {
         return;
     }
-    print_record(&events[at..to], waiting, time, ended);
+    print_record(rt, &events[at..to], waiting, time, ended);
 }
 
 // Those among the first n records.
-pub fn print_messages(events: &[u8], n: usize, waiting: Waiting, time: f64, ended: bool) {
+pub fn print_messages(
+    rt: &impl Print,
+    events: &[u8],
+    n: usize,
+    waiting: Waiting,
+    time: f64,
+    ended: bool,
+) {
     let mut i: usize = 0;
     while i < 256 {
         if i == n {
             return;
         }
-        print_one(events, i, waiting, time, ended);
+        print_one(rt, events, i, waiting, time, ended);
         i += 1;
     }
 }

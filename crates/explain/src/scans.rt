@@ -79,36 +79,36 @@ fn end_of(scan: Scan, b: Burst) -> u64 {
 }
 
 // Where another burst follows a short one within 0.3 s: the gap between them, which was not bridged.
-fn print_gap(held: &[f32], rate: u32, b: Burst) {
+fn print_gap(rt: &impl Print, held: &[f32], rate: u32, b: Burst) {
     match bursts::find_bursts(held, rate, explaining::any_options(), b.floor_dbm, b.end) {
         NextBurst::Refused(_) => {}
         NextBurst::Nothing => {}
         NextBurst::Found(c) => {
             let gap = seconds(rate, dips::back(c.start, b.end) as u64);
             if gap < 0.3 {
-                replay::print(b"  the next loud sample comes ");
-                print_parts(gap);
-                replay::print(b" s later: a gap over 0.04 s is not bridged\n");
+                replay::print(rt, b"  the next loud sample comes ");
+                print_parts(rt, gap);
+                replay::print(rt, b" s later: a gap over 0.04 s is not bridged\n");
             }
         }
     }
 }
 
 // A burst over the threshold that was not taken, and was not explained before.
-fn left(held: &[f32], t: Tally, scan: Scan, b: Burst) -> Tally {
+fn left(rt: &impl Print, held: &[f32], t: Tally, scan: Scan, b: Burst) -> Tally {
     let mut u = t;
     u.done = end_of(scan, b);
     if is_long(held, scan.rate, b) {
         if b.start == 0 {
-            return explain_left(u, scan, b, Ending::Cut);
+            return explain_left(rt, u, scan, b, Ending::Cut);
         }
         return u;
     }
     if is_spike(scan.rate, b) {
         return crate::tally::spike(u);
     }
-    let v = explain_left(u, scan, b, Ending::Short);
-    print_gap(held, scan.rate, b);
+    let v = explain_left(rt, u, scan, b, Ending::Short);
+    print_gap(rt, held, scan.rate, b);
     v
 }
 
@@ -119,6 +119,7 @@ fn has_ended(held: usize, scan: Scan, b: Burst) -> bool {
 
 // A burst over the threshold.
 fn loud(
+    rt: &impl Print,
     held: &[f32],
     t: Tally,
     scan: Scan,
@@ -130,19 +131,20 @@ fn loud(
     if took(scan.rate, r, start_of(scan, b)) {
         let mut u = t;
         u.done = end_of(scan, b);
-        return explain_taken(held, u, scan, b, scratch32, scratch64);
+        return explain_taken(rt, held, u, scan, b, scratch32, scratch64);
     }
     if start_of(scan, b) < t.done {
         return t;
     }
     if has_ended(held.len(), scan, b) {
-        return left(held, t, scan, b);
+        return left(rt, held, t, scan, b);
     }
     t
 }
 
 // All bursts over the threshold, however short.
 fn all_loud(
+    rt: &impl Print,
     held: &[f32],
     floor: f32,
     t: Tally,
@@ -164,7 +166,7 @@ fn all_loud(
                 return u;
             }
             NextBurst::Found(b) => {
-                let v = loud(held, u, scan, r, b, scratch32, scratch64);
+                let v = loud(rt, held, u, scan, r, b, scratch32, scratch64);
                 u = v;
                 from = b.end;
                 turns += 1;
@@ -175,7 +177,7 @@ fn all_loud(
 }
 
 // A burst over the lower threshold: one that no sample of lies over the receiver's, and that was not explained before.
-fn faint(held: usize, t: Tally, scan: Scan, b: Burst) -> Tally {
+fn faint(rt: &impl Print, held: usize, t: Tally, scan: Scan, b: Burst) -> Tally {
     if explaining::margin(b) > 0.0 {
         return t;
     }
@@ -185,13 +187,13 @@ fn faint(held: usize, t: Tally, scan: Scan, b: Burst) -> Tally {
     if has_ended(held, scan, b) {
         let mut u = t;
         u.faint_done = end_of(scan, b);
-        return explain_left(u, scan, b, Ending::Faint);
+        return explain_left(rt, u, scan, b, Ending::Faint);
     }
     t
 }
 
 // All bursts over the lower threshold.
-fn all_faint(held: &[f32], floor: f32, t: Tally, scan: Scan) -> Tally {
+fn all_faint(rt: &impl Print, held: &[f32], floor: f32, t: Tally, scan: Scan) -> Tally {
     let options = explaining::faint_options();
     let mut u = t;
     let mut from: usize = 0;
@@ -205,7 +207,7 @@ fn all_faint(held: &[f32], floor: f32, t: Tally, scan: Scan) -> Tally {
                 return u;
             }
             NextBurst::Found(b) => {
-                let v = faint(held.len(), u, scan, b);
+                let v = faint(rt, held.len(), u, scan, b);
                 u = v;
                 from = b.end;
                 turns += 1;
@@ -217,6 +219,7 @@ fn all_faint(held: &[f32], floor: f32, t: Tally, scan: Scan) -> Tally {
 
 // What a scan of the held samples did, and what it left.
 pub fn explain_scan(
+    rt: &impl Print,
     held: &[f32],
     t: Tally,
     scan: Scan,
@@ -228,6 +231,6 @@ pub fn explain_scan(
     let Level::Dbm(floor) = level else {
         return t;
     };
-    let u = all_faint(held, floor, t, scan);
-    all_loud(held, floor, u, scan, r, scratch32, scratch64)
+    let u = all_faint(rt, held, floor, t, scan);
+    all_loud(rt, held, floor, u, scan, r, scratch32, scratch64)
 }

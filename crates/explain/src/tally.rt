@@ -136,41 +136,41 @@ pub fn joined(t: Tally, quiet: f64) -> Tally {
     u
 }
 
-fn print_endings(t: Tally) {
-    print_count(t.bursts, b" bursts: ");
-    print_count(t.faint, b" under the threshold, ");
-    print_count(t.short, b" too short (and ");
-    print_count(t.spikes, b" under 0.05 s), ");
-    print_count(t.cut, b" cut off, ");
-    print_count(t.clockless, b" without clock, ");
-    print_count(t.typeless, b" without type, ");
-    print_count(t.few, b" with too few bits, ");
-    print_count(t.wrong, b" with a wrong CRC, ");
-    print_count(t.read, b" read");
+fn print_endings(rt: &impl Print, t: Tally) {
+    print_count(rt, t.bursts, b" bursts: ");
+    print_count(rt, t.faint, b" under the threshold, ");
+    print_count(rt, t.short, b" too short (and ");
+    print_count(rt, t.spikes, b" under 0.05 s), ");
+    print_count(rt, t.cut, b" cut off, ");
+    print_count(rt, t.clockless, b" without clock, ");
+    print_count(rt, t.typeless, b" without type, ");
+    print_count(rt, t.few, b" with too few bits, ");
+    print_count(rt, t.wrong, b" with a wrong CRC, ");
+    print_count(rt, t.read, b" read");
 }
 
-fn print_quiet(t: Tally) {
+fn print_quiet(rt: &impl Print, t: Tally) {
     if t.joins == 0 {
-        replay::print(b"no repetition for 10 s\n");
+        replay::print(rt, b"no repetition for 10 s\n");
         return;
     }
-    print_parts(t.quiet);
-    replay::print(b" s of 10 s\n");
+    print_parts(rt, t.quiet);
+    replay::print(rt, b" s of 10 s\n");
 }
 
 // The last line.
-pub fn print(t: Tally) {
-    print_endings(t);
+pub fn print(rt: &impl Print, t: Tally) {
+    print_endings(rt, t);
     if t.read == 0 {
-        replay::print_end();
+        replay::print_end(rt);
         return;
     }
-    replay::print(b"; smallest margins of those read: ");
-    print_db(t.above);
-    replay::print(b" dB over the 15 dB, ");
-    print_db(t.dip);
-    replay::print(b" dB over the 6 dB, ");
-    print_parts(t.grid);
-    replay::print(b" of a bit under the 0.35, ");
-    print_quiet(t);
+    replay::print(rt, b"; smallest margins of those read: ");
+    print_db(rt, t.above);
+    replay::print(rt, b" dB over the 15 dB, ");
+    print_db(rt, t.dip);
+    replay::print(rt, b" dB over the 6 dB, ");
+    print_parts(rt, t.grid);
+    replay::print(rt, b" of a bit under the 0.35, ");
+    print_quiet(rt, t);
 }

@@ -4,129 +4,182 @@
 mod seconds; // a number of seconds in text
 
 use grip::Nearest;
-use libc::{STDERR_FILENO, STDIN_FILENO};
 use reading::{Fetched, Line};
+use std::fs;
+use std::io::{Error, ErrorKind, Read, Seek, SeekFrom};
+use std::os::fd::AsRawFd;
+use std::rt::{Env, Files};
 
 // The longest line of a log.
 const MOST_LINE: usize = 64;
 
-fn say(text: &[u8]) {
-    io::write_all(STDERR_FILENO, text);
+// The number of standard input.
+const STDIN: i32 = 0;
+
+fn say(rt: &impl Eprint, text: &str) {
+    let _ = rt.eprint(text);
 }
 
-fn say_no_input() -> bool {
-    say(b"grips: standard input can't be read\n");
+fn say_no_input(rt: &impl Eprint) -> bool {
+    say(rt, "grips: standard input can't be read\n");
     false
 }
 
-fn print_nearest(answer: Nearest) -> bool {
+// A line on standard error: why the file of records can't be read, in the system's words alone.
+fn say_why(rt: &(impl Eprint + Alloc), error: Error) {
+    let Ok(text) = format!(in rt.alloc(); "{error}") else {
+        let _ = eprintln!(rt; "grips: the file of records: {error}");
+        return;
+    };
+    let words = match text.split_once(" (os error ") {
+        Some((words, _)) => words,
+        None => text.as_str(),
+    };
+    let _ = eprintln!(rt; "grips: the file of records: {words}");
+}
+
+fn print_nearest(rt: &impl Print, answer: Nearest) -> bool {
     match answer {
-        Nearest::Refused(n) => replay::print_refusal(n),
+        Nearest::Refused(n) => replay::print_refusal(rt, n),
         Nearest::Record(n) => {
-            replay::print_number(n as u64);
-            replay::print_end()
+            replay::print_number(rt, n as u64);
+            replay::print_end(rt)
         }
-        Nearest::Nothing => replay::print_none(),
+        Nearest::Nothing => replay::print_none(rt),
     }
 }
 
 // The line of one that is no number: its own number.
-fn print_unknown(number: u64) -> bool {
-    replay::print(b"? ");
-    replay::print_number(number);
-    replay::print_end()
+fn print_unknown(rt: &impl Print, number: u64) -> bool {
+    replay::print(rt, b"? ");
+    replay::print_number(rt, number);
+    replay::print_end(rt)
 }
 
-// The line of a grip; false where the records can't be read. They are read in parts of 512, so that they need not stand in memory.
-fn read_for(fd: i32, grip: f64, within: f64) -> bool {
+// The line of a grip, or why the records can't be read. They are read in parts of 512, so that they need not stand in memory.
+fn read_for(rt: &impl Print, file: &mut impl Read, grip: f64, within: f64) -> Result<(), Error> {
     let mut part = [0u8; 61440];
     let mut best = grip::no_records();
     let mut bytes: usize = 0;
     while bytes <= limits::MOST_RECORD_BYTES {
-        let fetched = reading::fill_from(fd, &mut part);
-        let Fetched::Bytes(n) = fetched else {
-            return false;
+        let fetched = reading::fill_from(file, &mut part);
+        let n = match fetched {
+            Fetched::Bytes(n) => n,
+            Fetched::Failed(e) => return Err(e),
         };
         if n == 0 {
-            return print_nearest(grip::found(best, grip, within));
+            print_nearest(rt, grip::found(best, grip, within));
+            return Ok(());
         }
         bytes += n;
         if limits::MOST_RECORD_BYTES < bytes {
-            return replay::print_refusal(limits::LONG);
+            replay::print_refusal(rt, limits::LONG);
+            return Ok(());
         }
         best = grip::read_records(best, &part[..n], grip, within);
+    }
+    Ok(())
+}
+
+// From the file's start on, for each grip anew.
+fn answer(
+    rt: &(impl Print + Eprint + Alloc),
+    file: &mut (impl Read + Seek),
+    grip: f64,
+    within: f64,
+) -> bool {
+    let start = file.seek(SeekFrom::Start(0));
+    if let Err(e) = read_for(rt, file, grip, within) {
+        say_why(rt, e);
+        return false;
+    }
+    if let Err(e) = start {
+        say_why(rt, e);
+        return false;
     }
     true
 }
 
-// From the file's start on, for each grip anew.
-fn answer(fd: i32, grip: f64, within: f64) -> bool {
-    let start = libc::lseek(fd, 0, libc::SEEK_SET) == 0;
-    if start & read_for(fd, grip, within) {
-        return true;
-    }
-    os::fail(b"grips: the file of records");
-    false
-}
-
-fn print_line(text: &[u8], number: u64, fd: i32, within: f64) -> bool {
+fn print_line(
+    rt: &(impl Print + Eprint + Alloc),
+    text: &[u8],
+    number: u64,
+    file: &mut (impl Read + Seek),
+    within: f64,
+) -> bool {
     let grip = seconds::parse(text);
     if grip.is_number {
-        return answer(fd, grip.value, within);
+        return answer(rt, file, grip.value, within);
     }
-    print_unknown(number)
+    print_unknown(rt, number)
 }
 
 // A line of the log and what it prints; false where nothing follows.
-fn turn(number: u64, fd: i32, within: f64) -> bool {
+fn turn(
+    rt: &(impl Input + Print + Eprint + Alloc),
+    number: u64,
+    file: &mut (impl Read + Seek),
+    within: f64,
+) -> bool {
     let mut line = [0u8; 64];
-    match reading::next_line(&mut line) {
+    match reading::next_line(rt, &mut line) {
         Line::End => false,
-        Line::Failed => say_no_input(),
+        Line::Failed => say_no_input(rt),
         Line::Bytes(n) => {
             if n <= MOST_LINE {
-                return print_line(&line[..n], number, fd, within);
+                return print_line(rt, &line[..n], number, file, within);
             }
-            print_unknown(number)
+            print_unknown(rt, number)
         }
     }
 }
 
-fn read_log(fd: i32, within: f64) {
+fn read_log(
+    rt: &(impl Input + Print + Eprint + Alloc),
+    file: &mut (impl Read + Seek),
+    within: f64,
+) {
     let mut number: u64 = 1;
     while number < replay::MOST_CASES {
-        if !turn(number, fd, within) {
+        if !turn(rt, number, file, within) {
             return;
         }
         number += 1;
     }
 }
 
-fn open_records() -> i32 {
-    let mut path = io::buffer();
-    let n = os::arg(1, &mut path);
-    os::open_read(&path[..n])
+// The file that the first argument names. A path that is no text in UTF-8 names none.
+fn open_records<R: Env + Files>(rt: &R) -> Result<R::File, Error> {
+    let mut path = [0u8; 4096];
+    let n = command_line::arg(rt, 1, &mut path);
+    match std::str::from_utf8(&path[..n]) {
+        Ok(name) => fs::open(rt, name),
+        Err(_) => Err(Error::from(ErrorKind::InvalidInput)),
+    }
 }
 
-fn main() {
+fn main(rt: HostRuntime) {
     let mut text = [0u8; 64];
-    let n = os::arg(2, &mut text);
+    let n = command_line::arg(&rt, 2, &mut text);
     let within = seconds::parse(&text[..n]);
-    if (os::arg_count() != 3) | !within.is_number {
+    if (command_line::arg_count(&rt) != 3) | !within.is_number {
         say(
-            b"grips: a file of event records and a number of seconds are wanted: grips RECORDS SECONDS < LOG\n",
+            &rt,
+            "grips: a file of event records and a number of seconds are wanted: grips RECORDS SECONDS < LOG\n",
         );
         return;
     }
-    let fd = open_records();
-    if fd < 0 {
-        os::fail(b"grips: the file of records");
-        return;
-    }
+    let mut file = match open_records(&rt) {
+        Ok(file) => file,
+        Err(e) => {
+            say_why(&rt, e);
+            return;
+        }
+    };
     // where standard input is closed the file gets its number
-    if fd == STDIN_FILENO {
-        say_no_input();
+    if file.as_raw_fd() == STDIN {
+        say_no_input(&rt);
         return;
     }
-    read_log(fd, within.value);
+    read_log(&rt, &mut file, within.value);
 }

@@ -1,6 +1,6 @@
 // 01's program: the tracker and the receiver on one stream from standard input.
 #![tactic(auto)]
 
-fn main() {
-    listening::run();
+fn main(rt: HostRuntime) {
+    listening::run(&rt);
 }

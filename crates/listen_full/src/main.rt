@@ -1,6 +1,6 @@
 // `listen` on a stream with 65 tunings, which ends in a refusal.
 #![tactic(auto)]
 
-fn main() {
-    listening::run();
+fn main(rt: HostRuntime) {
+    listening::run(&rt);
 }

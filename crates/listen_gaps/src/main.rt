@@ -1,6 +1,6 @@
 // `listen` on a stream with frequencies of 0 in between.
 #![tactic(auto)]
 
-fn main() {
-    listening::run();
+fn main(rt: HostRuntime) {
+    listening::run(&rt);
 }

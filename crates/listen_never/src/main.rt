@@ -1,6 +1,6 @@
 // `listen` on a stream whose frequencies are all 0.
 #![tactic(auto)]
 
-fn main() {
-    listening::run();
+fn main(rt: HostRuntime) {
+    listening::run(&rt);
 }

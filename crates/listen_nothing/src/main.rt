@@ -1,6 +1,6 @@
 // `listen` on no input.
 #![tactic(auto)]
 
-fn main() {
-    listening::run();
+fn main(rt: HostRuntime) {
+    listening::run(&rt);
 }

@@ -1,6 +1,6 @@
 // `listen` on 01's example: one record of eight 200s, CFO 0, 868130000 Hz.
 #![tactic(auto)]
 
-fn main() {
-    listening::run();
+fn main(rt: HostRuntime) {
+    listening::run(&rt);
 }

@@ -15,7 +15,6 @@ use crate::handing::hand_over;
 use crate::records::RECORD;
 use crate::stepping::{RATE, STEP_HZ};
 use frequency::FrequencyTracker;
-use libc::STDERR_FILENO;
 use reading::Fetched;
 use receiver::SigfoxReceiver;
 
@@ -98,10 +97,10 @@ fn fresh() -> Listener
 }
 
 // After a read that failed: a line on standard error, and nothing more on standard output.
-fn fail(s: Reading) -> Reading
+fn fail(rt: &impl Eprint, s: Reading) -> Reading
     ensures { result ≡ record { filled = s.filled; more = false; going = false; refused = s.refused; listener = s.listener; receiver = s.receiver } }
 {
-    io::write_all(STDERR_FILENO, b"listen: standard input can't be read\n");
+    let _ = rt.eprintln("listen: standard input can't be read");
     let mut m = s;
     m.going = false;
     m.more = false;
@@ -110,6 +109,7 @@ fn fail(s: Reading) -> Reading
 
 // One read, and every record that is whole with it.
 fn turn(
+    rt: &(impl Input + Print + Eprint),
     s: Reading,
     input: &mut [u8],
     at: &mut [u64; 8000],
@@ -130,16 +130,16 @@ fn turn(
     ensures near { Near 65536 s.listener result.listener }
 {
     let from = s.filled;
-    let fetched = reading::fetch(input, from);
+    let fetched = reading::fetch(rt, input, from);
     let Fetched::Bytes(n) = fetched else {
-        return fail(s);
+        return fail(rt, s);
     };
     let end = from + n;
     let l = s.listener;
     let first = s.receiver;
     let r = records::hear(
-        l, first, input, from, end, at, lo, hz, tuned, freq, samples, events, scratch32, scratch64,
-        out,
+        rt, l, first, input, from, end, at, lo, hz, tuned, freq, samples, events, scratch32,
+        scratch64, out,
     );
     let listener = r.listener;
     let receiver = r.receiver;
@@ -155,6 +155,7 @@ fn turn(
 
 // The end of the input: the last calls and lines. Nothing after a refusal, or where standard input or output failed.
 fn conclude(
+    rt: &impl Print,
     s: Reading,
     at: &[u64; 8000],
     lo: &[u32; 8000],
@@ -184,12 +185,12 @@ fn conclude(
     let end = ending::finish(
         l, receiver, leftover, at, lo, hz, samples, events, scratch32, scratch64, out,
     );
-    hand_over(out, end);
+    hand_over(rt, out, end);
     Ended::Heard
 }
 
 // The whole stream.
-pub fn run() -> Ended
+pub fn run(rt: &(impl Input + Print + Eprint)) -> Ended
     ensures { Ran result }
 {
     let mut input = [0u8; 4096];
@@ -216,6 +217,7 @@ pub fn run() -> Ended
     let mut left = MOST_READS;
     while left > 0 && s.more {
         s = turn(
+            rt,
             s,
             &mut input,
             &mut at,
@@ -232,6 +234,7 @@ pub fn run() -> Ended
         left -= 1;
     }
     conclude(
+        rt,
         s,
         &at,
         &lo,

@@ -14,6 +14,7 @@ pub const RECORD: usize = 16;
 
 // The whole records of the buffer, from one place on to another: the text of each is handed over at once; nothing after a refusal, or where a text could not be written.
 pub fn hear(
+    rt: &impl Print,
     l: Listener,
     first: SigfoxReceiver,
     input: &[u8],
@@ -67,7 +68,7 @@ pub fn hear(
         let after = r.receiver;
         receiver = after;
         refused = r.refused;
-        let written = hand_over(out, r.end);
+        let written = hand_over(rt, out, r.end);
         going = written & (r.refused == 0);
         i += 1;
     }

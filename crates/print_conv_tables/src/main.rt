@@ -4,8 +4,6 @@
 
 ghost use Rattle.std.specs.Prelude.{◌<◌};
 
-use libc::STDOUT_FILENO;
-
 // Entries of a table: two ranks, four states, 256 bytes.
 const ENTRIES: usize = 2048;
 
@@ -49,48 +47,59 @@ fn state_of(k: usize) -> u8 {
     (k / ROW % ROWS_OF_A_RANK) as u8
 }
 
+fn print(rt: &impl Print, text: &[u8]) {
+    let _ = rt.write_all(text);
+}
+
+// A number in decimal.
+fn print_number(rt: &impl Print, n: u64) {
+    let mut text = [0u8; 20];
+    let count = io::decimal(n, &mut text);
+    print(rt, &text[..count]);
+}
+
 // The first entry of a row says of what it is.
-fn print_row(k: usize, name: &[u8])
+fn print_row(rt: &impl Print, k: usize, name: &[u8])
     requires { k < 2048 }
 {
-    io::write_all(STDOUT_FILENO, b" // ");
-    io::write_all(STDOUT_FILENO, name);
-    io::write_all(STDOUT_FILENO, b", rank ");
-    io::print_decimal(STDOUT_FILENO, rank_of(k) as u64);
-    io::write_all(STDOUT_FILENO, b", state ");
-    io::print_decimal(STDOUT_FILENO, state_of(k) as u64);
+    print(rt, b" // ");
+    print(rt, name);
+    print(rt, b", rank ");
+    print_number(rt, rank_of(k) as u64);
+    print(rt, b", state ");
+    print_number(rt, state_of(k) as u64);
 }
 
 // An entry: the decoded byte, or with `next` the state after it.
-fn print_entry(k: usize, next: bool, name: &[u8])
+fn print_entry(rt: &impl Print, k: usize, next: bool, name: &[u8])
     requires { k < 2048 }
 {
     let s = decode(rank_of(k), state_of(k), (k % ROW) as u8);
-    io::write_all(STDOUT_FILENO, b"    ");
-    io::print_decimal(STDOUT_FILENO, (if next { s.state } else { s.byte }) as u64);
-    io::write_all(STDOUT_FILENO, b",");
+    print(rt, b"    ");
+    print_number(rt, (if next { s.state } else { s.byte }) as u64);
+    print(rt, b",");
     if k % ROW == 0 {
-        print_row(k, name);
+        print_row(rt, k, name);
     }
-    io::write_all(STDOUT_FILENO, b"\n");
+    print(rt, b"\n");
 }
 
-fn print_table(next: bool, name: &[u8]) {
+fn print_table(rt: &impl Print, next: bool, name: &[u8]) {
     let mut k: usize = 0;
     while k < ENTRIES {
-        print_entry(k, next, name);
+        print_entry(rt, k, next, name);
         k += 1;
     }
-    io::write_all(STDOUT_FILENO, b"];\n");
+    print(rt, b"];\n");
 }
 
-fn main() {
-    io::write_all(
-        STDOUT_FILENO,
+fn main(rt: HostRuntime) {
+    print(
+        &rt,
         b"// Made by the program `print_conv_tables`: the decoded byte and the state after it, by rank (1, 2), state and byte.\n",
     );
-    io::write_all(STDOUT_FILENO, b"pub const DECODED: [u8; 2048] = [\n");
-    print_table(false, b"decoded");
-    io::write_all(STDOUT_FILENO, b"\npub const NEXT: [u8; 2048] = [\n");
-    print_table(true, b"next");
+    print(&rt, b"pub const DECODED: [u8; 2048] = [\n");
+    print_table(&rt, false, b"decoded");
+    print(&rt, b"\npub const NEXT: [u8; 2048] = [\n");
+    print_table(&rt, true, b"next");
 }

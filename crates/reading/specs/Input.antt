@@ -6,4 +6,4 @@ use Rattle.reading.specs.declared.Fetched.TheVariants.{Bytes, Failed}
 -- how many bytes a read brought, 0 where it failed
 abbrev pub brought : Fetched → ℕ
 brought (Bytes n) = n
-brought Failed = 0
+brought (Failed e) = 0

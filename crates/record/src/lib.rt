@@ -167,8 +167,7 @@ pub fn put_message(m: SigfoxMessage, mark: u8, out: &mut [u8], at: usize)
 }
 
 // Decodes bits, a byte 0 or 1 each, into one record: 0 and the record, 255 and nothing written for no frame, or a refusal.
-#[unsafe(no_mangle)]
-pub extern "C" fn sigfox_decode_bits(bits: &[u8], record: &mut [u8]) -> u8
+pub fn sigfox_decode_bits(bits: &[u8], record: &mut [u8]) -> u8
     ensures { (result ≡ decode_number bits.now «record».old) × («record».new ≡ decode_record bits.now «record».old) }
 {
     if record.len() < limits::RECORD {

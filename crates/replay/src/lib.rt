@@ -9,8 +9,6 @@ ghost use Rattle.replay.specs.Text.{plain_bits, hex_digit, hex_text};
 ghost use Rattle.replay.specs.Floats.{floats_from};
 ghost use Rattle.replay.specs.Front.{Front};
 
-use libc::{STDIN_FILENO, STDOUT_FILENO};
-
 // A proved loop has to end, and nothing says that the input does: the most cases of a run.
 pub const MOST_CASES: u64 = 0x1_0000_0000_0000;
 
@@ -42,8 +40,8 @@ pub struct Span {
 pub const NO_RANK: u8 = 255;
 
 // The next bytes of standard input, where a case starts.
-pub fn read_head(bytes: &mut [u8]) -> Head {
-    let n = io::read_full(STDIN_FILENO, bytes);
+pub fn read_head(rt: &impl Input, bytes: &mut [u8]) -> Head {
+    let n = reading::read_full(rt, bytes);
     if n == bytes.len() {
         return Head::Whole;
     }
@@ -54,16 +52,16 @@ pub fn read_head(bytes: &mut [u8]) -> Head {
 }
 
 // The next bytes of standard input, inside a case; false where it ends first.
-pub fn read_part(bytes: &mut [u8]) -> bool {
-    io::read_full(STDIN_FILENO, bytes) == bytes.len()
+pub fn read_part(rt: &impl Input, bytes: &mut [u8]) -> bool {
+    reading::read_full(rt, bytes) == bytes.len()
 }
 
 // The next n bytes of standard input into the front of a slice; how many there were.
-fn fetch(bytes: &mut [u8], n: usize) -> usize
+fn fetch(rt: &impl Input, bytes: &mut [u8], n: usize) -> usize
     requires { n ≤ length bytes.old }
     ensures { length bytes.new ≡ length bytes.old }
 {
-    io::read_full(STDIN_FILENO, &mut bytes[..n])
+    reading::read_full(rt, &mut bytes[..n])
 }
 
 // The floats of a chunk's first 4·n bytes, at a place of `out`; those that have no place are passed over.
@@ -83,13 +81,13 @@ fn store_f32s(bytes: &[u8], n: usize, out: &mut [f32], at: usize)
 }
 
 // The next n floats of standard input, 1,024 at most; false where it ends first.
-fn read_chunk(n: usize, out: &mut [f32], at: usize) -> bool
+fn read_chunk(rt: &impl Input, n: usize, out: &mut [f32], at: usize) -> bool
     requires { (n ≤ 1024) × (at ≤ 0x100000000) }
     ensures { length out.new ≡ length out.old }
 {
     let mut bytes = [0u8; 4096];
     let size = 4 * n;
-    if fetch(&mut bytes, size) < size {
+    if fetch(rt, &mut bytes, size) < size {
         return false;
     }
     store_f32s(&bytes, n, out, at);
@@ -97,14 +95,14 @@ fn read_chunk(n: usize, out: &mut [f32], at: usize) -> bool
 }
 
 // The next `end` floats of standard input: those for which `out` has a place are kept there.
-fn read_n_f32s(end: usize, out: &mut [f32]) -> Kept
+fn read_n_f32s(rt: &impl Input, end: usize, out: &mut [f32]) -> Kept
     requires { end < 0x100000000 }
     ensures { Front result.count out.new }
 {
     let mut at: usize = 0;
     while at < end {
         let n = whole::least(end - at, 1024);
-        if !read_chunk(n, out, at) {
+        if !read_chunk(rt, n, out, at) {
             return Kept {
                 whole: false,
                 count: 0,
@@ -119,58 +117,58 @@ fn read_n_f32s(end: usize, out: &mut [f32]) -> Kept
 }
 
 // The next `end` bytes of standard input: those for which `out` has a place are kept there.
-pub fn read_n_bytes(end: usize, out: &mut [u8]) -> Kept
+pub fn read_n_bytes(rt: &impl Input, end: usize, out: &mut [u8]) -> Kept
     ensures { Front result.count out.new }
 {
     let kept = whole::least(end, out.len());
-    if fetch(out, kept) < kept {
+    if fetch(rt, out, kept) < kept {
         return Kept {
             whole: false,
             count: 0,
         };
     }
     Kept {
-        whole: skip(end - kept),
+        whole: skip(rt, end - kept),
         count: kept,
     }
 }
 
 // A count, and that many floats, in standard input.
-pub fn read_f32s(out: &mut [f32]) -> Kept
+pub fn read_f32s(rt: &impl Input, out: &mut [f32]) -> Kept
     ensures { Front result.count out.new }
 {
     let mut count = [0u8; 4];
-    if !read_part(&mut count) {
+    if !read_part(rt, &mut count) {
         return Kept {
             whole: false,
             count: 0,
         };
     }
-    read_n_f32s(endian::get_u32(&count, 0) as usize, out)
+    read_n_f32s(rt, endian::get_u32(&count, 0) as usize, out)
 }
 
 // A count, and that many bytes, in standard input.
-pub fn read_bytes(out: &mut [u8]) -> Kept
+pub fn read_bytes(rt: &impl Input, out: &mut [u8]) -> Kept
     ensures { Front result.count out.new }
 {
     let mut count = [0u8; 4];
-    if !read_part(&mut count) {
+    if !read_part(rt, &mut count) {
         return Kept {
             whole: false,
             count: 0,
         };
     }
-    read_n_bytes(endian::get_u32(&count, 0) as usize, out)
+    read_n_bytes(rt, endian::get_u32(&count, 0) as usize, out)
 }
 
 // The next `end` 16-bit numbers of standard input: those for which `out` has a place are kept there.
-fn read_n_u16s(end: usize, out: &mut [u16]) -> Kept
+fn read_n_u16s(rt: &impl Input, end: usize, out: &mut [u16]) -> Kept
     ensures { Front result.count out.new }
 {
     let mut i: usize = 0;
     while i < end {
         let mut two = [0u8; 2];
-        if !read_part(&mut two) {
+        if !read_part(rt, &mut two) {
             return Kept {
                 whole: false,
                 count: 0,
@@ -190,17 +188,17 @@ fn read_n_u16s(end: usize, out: &mut [u16]) -> Kept
 }
 
 // A count, and that many 16-bit numbers, in standard input.
-pub fn read_u16s(out: &mut [u16]) -> Kept
+pub fn read_u16s(rt: &impl Input, out: &mut [u16]) -> Kept
     ensures { Front result.count out.new }
 {
     let mut count = [0u8; 4];
-    if !read_part(&mut count) {
+    if !read_part(rt, &mut count) {
         return Kept {
             whole: false,
             count: 0,
         };
     }
-    read_n_u16s(endian::get_u32(&count, 0) as usize, out)
+    read_n_u16s(rt, endian::get_u32(&count, 0) as usize, out)
 }
 
 // A signed number from its two's complement.
@@ -214,10 +212,10 @@ pub fn signed64(n: u64) -> i64
 }
 
 // A rank, a time and an end in standard input; where they aren't wanted, no span.
-pub fn read_span(wanted: bool) -> Span {
+pub fn read_span(rt: &impl Input, wanted: bool) -> Span {
     if wanted {
         let mut part = [0u8; 17];
-        let whole = read_part(&mut part);
+        let whole = read_part(rt, &mut part);
         return Span {
             whole: whole,
             rank: part[0],
@@ -234,12 +232,12 @@ pub fn read_span(wanted: bool) -> Span {
 }
 
 // Reads over the next n bytes; false where the input ends first.
-fn skip(n: usize) -> bool {
+fn skip(rt: &impl Input, n: usize) -> bool {
     let mut left = n;
     while left > 0 {
         let mut bytes = [0u8; 4096];
         let size = whole::least(left, 4096);
-        if fetch(&mut bytes, size) < size {
+        if fetch(rt, &mut bytes, size) < size {
             return false;
         }
         left -= size;
@@ -289,60 +287,64 @@ pub fn hex_text(bytes: &[u8], out: &mut [u8])
 }
 
 // Text as it is.
-pub fn print(text: &[u8]) {
-    io::write_all(STDOUT_FILENO, text);
+pub fn print(rt: &impl Print, text: &[u8]) {
+    let _ = rt.write_all(text);
 }
 
 // A number in decimal.
-pub fn print_number(n: u64) {
-    io::print_decimal(STDOUT_FILENO, n);
+pub fn print_number(rt: &impl Print, n: u64) {
+    let mut text = [0u8; 20];
+    let count = io::decimal(n, &mut text);
+    print(rt, &text[..count]);
 }
 
 // A number in so many hexadecimal digits.
-pub fn print_hex(n: u64, width: usize) {
-    io::print_hex(STDOUT_FILENO, n, width);
+pub fn print_hex(rt: &impl Print, n: u64, width: usize) {
+    let mut text = [0u8; 16];
+    let count = io::hex(n, width, &mut text);
+    print(rt, &text[..count]);
 }
 
 // A float as the digits of its pattern.
-pub fn print_f32(x: f32) {
-    print_hex(plain32(x) as u64, 8);
+pub fn print_f32(rt: &impl Print, x: f32) {
+    print_hex(rt, plain32(x) as u64, 8);
 }
 
 // The same of binary64.
-pub fn print_f64(x: f64) {
-    print_hex(plain64(x), 16);
+pub fn print_f64(rt: &impl Print, x: f64) {
+    print_hex(rt, plain64(x), 16);
 }
 
 // A signed number in decimal, from its two's complement.
-pub fn print_signed(z: i32) {
+pub fn print_signed(rt: &impl Print, z: i32) {
     let bits = endian::bits_of_i32(z) as u64;
     if bits < 0x8000_0000 {
-        print_number(bits);
+        print_number(rt, bits);
         return;
     }
-    print(b"-");
-    print_number(0x1_0000_0000 - bits);
+    print(rt, b"-");
+    print_number(rt, 0x1_0000_0000 - bits);
 }
 
 // The same of 64 bits; `!z` is -(z + 1).
-pub fn print_i64(z: i64) {
+pub fn print_i64(rt: &impl Print, z: i64) {
     if z >= 0 {
-        print_number(z as u64);
+        print_number(rt, z as u64);
         return;
     }
-    print(b"-");
-    print_number((!z) as u64 + 1);
+    print(rt, b"-");
+    print_number(rt, (!z) as u64 + 1);
 }
 
 // The first n bytes of a text.
-pub fn print_front(text: &[u8], n: usize)
+pub fn print_front(rt: &impl Print, text: &[u8], n: usize)
     requires { n ≤ length text.now }
 {
-    print(&text[..n]);
+    print(rt, &text[..n]);
 }
 
 // Bits as digits 0 and 1, 1,024 at most, as many as `n` says.
-pub fn print_digits(bits: &[u8], n: usize) {
+pub fn print_digits(rt: &impl Print, bits: &[u8], n: usize) {
     let mut text = [0u8; 1024];
     let end = whole::least(whole::least(n, bits.len()), 1024);
     let mut i: usize = 0;
@@ -350,62 +352,62 @@ pub fn print_digits(bits: &[u8], n: usize) {
         text[i] = 48 + bits[i] % 2;
         i += 1;
     }
-    print_front(&text, end);
+    print_front(rt, &text, end);
 }
 
 // Bytes as hexadecimal digits, 120 at most, as many as `n` says.
-pub fn print_bytes(bytes: &[u8], n: usize) {
+pub fn print_bytes(rt: &impl Print, bytes: &[u8], n: usize) {
     let mut text = [0u8; 240];
     let end = whole::least(whole::least(n, bytes.len()), 120);
     hex_text(&bytes[..end], &mut text);
-    print_front(&text, 2 * end);
+    print_front(rt, &text, 2 * end);
 }
 
 // Bytes that `print_slice` prints together.
 const PART: usize = 100;
 
 // A part of a slice's first n bytes, as many as are printed together.
-fn print_part(bytes: &[u8], from: usize, n: usize)
+fn print_part(rt: &impl Print, bytes: &[u8], from: usize, n: usize)
     requires { (from ≤ n) × (n ≤ length bytes.now) }
 {
-    print_bytes(&bytes[from..n], PART);
+    print_bytes(rt, &bytes[from..n], PART);
 }
 
 // The first n bytes of a slice as hexadecimal digits, `-` where there are none.
-pub fn print_slice(bytes: &[u8], n: usize)
+pub fn print_slice(rt: &impl Print, bytes: &[u8], n: usize)
     requires { (n ≤ length bytes.now) × (n ≤ 4096) }
 {
     if n == 0 {
-        print(b"-");
+        print(rt, b"-");
     }
     let mut from: usize = 0;
     while from < n {
-        print_part(bytes, from, n);
+        print_part(rt, bytes, from, n);
         from += PART;
     }
 }
 
 // The end of a line; true, as there may be a case after it.
-pub fn print_end() -> bool {
-    print(b"\n");
+pub fn print_end(rt: &impl Print) -> bool {
+    print(rt, b"\n");
     true
 }
 
 // The line of a refused call; the run goes on.
-pub fn print_refusal(n: u8) -> bool {
-    print(b"R ");
-    print_number(n as u64);
-    print_end()
+pub fn print_refusal(rt: &impl Print, n: u8) -> bool {
+    print(rt, b"R ");
+    print_number(rt, n as u64);
+    print_end(rt)
 }
 
 // The line where there is no answer.
-pub fn print_none() -> bool {
-    print(b"none\n");
+pub fn print_none(rt: &impl Print) -> bool {
+    print(rt, b"none\n");
     true
 }
 
 // The last line where the input ends inside a case; false, as there is no case after it.
-pub fn print_short() -> bool {
-    print(b"short\n");
+pub fn print_short(rt: &impl Print) -> bool {
+    print(rt, b"short\n");
     false
 }

@@ -6,44 +6,44 @@ use replay::Head;
 // The C function's answer where the bits hold no frame.
 const NO_FRAME: u8 = 255;
 
-fn print_answer(answer: u8, out: &mut [u8; 120]) -> bool {
+fn print_answer(rt: &impl Print, answer: u8, out: &mut [u8; 120]) -> bool {
     if answer == NO_FRAME {
-        replay::print(b"255");
-        return replay::print_end();
+        replay::print(rt, b"255");
+        return replay::print_end(rt);
     }
     if answer != 0 {
-        return replay::print_refusal(answer);
+        return replay::print_refusal(rt, answer);
     }
-    replay::print(b"0 ");
-    replay_records::print_record(out);
-    replay::print_end()
+    replay::print(rt, b"0 ");
+    replay_records::print_record(rt, out);
+    replay::print_end(rt)
 }
 
-fn case(head: &[u8; 2]) -> bool {
+fn case(rt: &(impl Input + Print), head: &[u8; 2]) -> bool {
     let mut bits = [0u8; 1025];
     let mut out = [0u8; 120];
-    let kept = replay::read_n_bytes(endian::get_u16(head, 0) as usize, &mut bits);
+    let kept = replay::read_n_bytes(rt, endian::get_u16(head, 0) as usize, &mut bits);
     if !kept.whole {
-        return replay::print_short();
+        return replay::print_short(rt);
     }
     let n = kept.count;
     let answer = record::sigfox_decode_bits(&bits[..n], &mut out);
-    print_answer(answer, &mut out)
+    print_answer(rt, answer, &mut out)
 }
 
-fn turn() -> bool {
+fn turn(rt: &(impl Input + Print)) -> bool {
     let mut head = [0u8; 2];
-    match replay::read_head(&mut head) {
+    match replay::read_head(rt, &mut head) {
         Head::End => false,
-        Head::Cut => replay::print_short(),
-        Head::Whole => case(&head),
+        Head::Cut => replay::print_short(rt),
+        Head::Whole => case(rt, &head),
     }
 }
 
-fn main() {
+fn main(rt: HostRuntime) {
     let mut left = replay::MOST_CASES;
     while left > 0 {
-        if !turn() {
+        if !turn(&rt) {
             return;
         }
         left -= 1;

@@ -8,7 +8,7 @@ use record::Reception;
 use replay::Head;
 
 // The record is the C function's, with the clock error and the depth set.
-fn print_frame(d: DecodedFrame) -> bool {
+fn print_frame(rt: &impl Print, d: DecodedFrame) -> bool {
     let mut out = [0u8; 120];
     let found = d.frame;
     let clock = Reception {
@@ -20,24 +20,24 @@ fn print_frame(d: DecodedFrame) -> bool {
         depth: d.depth,
     };
     record::put_frame(found, clock, &mut out, 0);
-    replay_records::print_record(&mut out);
-    replay::print(b" ");
-    replay::print_f64(d.time);
-    replay::print(b" ");
-    replay::print_f64(d.end);
-    replay::print(b" ");
-    replay::print_f32(d.rssi);
-    replay::print_end()
+    replay_records::print_record(rt, &mut out);
+    replay::print(rt, b" ");
+    replay::print_f64(rt, d.time);
+    replay::print(rt, b" ");
+    replay::print_f64(rt, d.end);
+    replay::print(rt, b" ");
+    replay::print_f32(rt, d.rssi);
+    replay::print_end(rt)
 }
 
-fn print_answer(answer: BurstFrame) -> bool {
+fn print_answer(rt: &impl Print, answer: BurstFrame) -> bool {
     let outcome = answer.outcome;
     match outcome {
-        Outcome::Refused(n) => replay::print_refusal(n),
-        Outcome::Nothing => replay::print_none(),
+        Outcome::Refused(n) => replay::print_refusal(rt, n),
+        Outcome::Nothing => replay::print_none(rt),
         Outcome::Frame => {
             let decoded = answer.decoded;
-            print_frame(decoded)
+            print_frame(rt, decoded)
         }
     }
 }
@@ -51,34 +51,37 @@ fn burst_of(head: &[u8; 36]) -> Burst {
     }
 }
 
-fn case(head: &[u8; 36]) -> bool {
+fn case(rt: &(impl Input + Print), head: &[u8; 36]) -> bool {
     let mut dbm = [0.0f32; 48001];
     let mut scratch32 = [0.0f32; 48000];
     let mut scratch64 = [0.0f64; limits::SCRATCH64];
-    let kept = replay::read_f32s(&mut dbm);
+    let kept = replay::read_f32s(rt, &mut dbm);
     if !kept.whole {
-        return replay::print_short();
+        return replay::print_short(rt);
     }
     let n = kept.count;
     let rate = endian::get_u32(head, 0);
     let t0 = endian::get_f64(head, 4);
     let burst = burst_of(head);
-    print_answer(demod::decode_burst(&dbm[..n], rate, burst, t0, &mut scratch32, &mut scratch64))
+    print_answer(
+        rt,
+        demod::decode_burst(&dbm[..n], rate, burst, t0, &mut scratch32, &mut scratch64),
+    )
 }
 
-fn turn() -> bool {
+fn turn(rt: &(impl Input + Print)) -> bool {
     let mut head = [0u8; 36];
-    match replay::read_head(&mut head) {
+    match replay::read_head(rt, &mut head) {
         Head::End => false,
-        Head::Cut => replay::print_short(),
-        Head::Whole => case(&head),
+        Head::Cut => replay::print_short(rt),
+        Head::Whole => case(rt, &head),
     }
 }
 
-fn main() {
+fn main(rt: HostRuntime) {
     let mut left = replay::MOST_CASES;
     while left > 0 {
-        if !turn() {
+        if !turn(&rt) {
             return;
         }
         left -= 1;

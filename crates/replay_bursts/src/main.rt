@@ -18,19 +18,19 @@ fn next(dbm: &[f32], asked: Asked, from: usize) -> NextBurst {
     bursts::find_bursts(dbm, asked.rate, options, asked.floor, from)
 }
 
-fn print_burst(b: Burst) -> bool {
-    replay::print_number(b.start as u64);
-    replay::print(b" ");
-    replay::print_number(b.end as u64);
-    replay::print(b" ");
-    replay::print_f32(b.peak_dbm);
-    replay::print(b" ");
-    replay::print_f32(b.floor_dbm);
-    replay::print_end()
+fn print_burst(rt: &impl Print, b: Burst) -> bool {
+    replay::print_number(rt, b.start as u64);
+    replay::print(rt, b" ");
+    replay::print_number(rt, b.end as u64);
+    replay::print(rt, b" ");
+    replay::print_f32(rt, b.peak_dbm);
+    replay::print(rt, b" ");
+    replay::print_f32(rt, b.floor_dbm);
+    replay::print_end(rt)
 }
 
 // Goes through the bursts, which are no more than the samples, and counts them; prints them where it is to.
-fn walk(dbm: &[f32], asked: Asked, show: bool) -> usize {
+fn walk(rt: &impl Print, dbm: &[f32], asked: Asked, show: bool) -> usize {
     let mut n: usize = 0;
     let mut from: usize = 0;
     while n < dbm.len() {
@@ -38,7 +38,7 @@ fn walk(dbm: &[f32], asked: Asked, show: bool) -> usize {
             return n;
         };
         if show {
-            print_burst(b);
+            print_burst(rt, b);
         }
         from = b.end;
         n += 1;
@@ -46,16 +46,16 @@ fn walk(dbm: &[f32], asked: Asked, show: bool) -> usize {
     n
 }
 
-fn print_bursts(dbm: &[f32], asked: Asked, noise: f32) -> bool {
+fn print_bursts(rt: &impl Print, dbm: &[f32], asked: Asked, noise: f32) -> bool {
     match next(dbm, asked, 0) {
-        NextBurst::Refused(n) => replay::print_refusal(n),
+        NextBurst::Refused(n) => replay::print_refusal(rt, n),
         _ => {
-            replay::print(b"B ");
-            replay::print_number(walk(dbm, asked, false) as u64);
-            replay::print(b" ");
-            replay::print_f32(noise);
-            replay::print_end();
-            walk(dbm, asked, true);
+            replay::print(rt, b"B ");
+            replay::print_number(rt, walk(rt, dbm, asked, false) as u64);
+            replay::print(rt, b" ");
+            replay::print_f32(rt, noise);
+            replay::print_end(rt);
+            walk(rt, dbm, asked, true);
             true
         }
     }
@@ -81,33 +81,33 @@ fn asked_of(head: &[u8; 33], noise: f32) -> Asked {
     }
 }
 
-fn case(head: &[u8; 33]) -> bool {
+fn case(rt: &(impl Input + Print), head: &[u8; 33]) -> bool {
     let mut dbm = [0.0f32; 48001];
     let mut scratch = [0.0f32; 48001];
-    let kept = replay::read_f32s(&mut dbm);
+    let kept = replay::read_f32s(rt, &mut dbm);
     if !kept.whole {
-        return replay::print_short();
+        return replay::print_short(rt);
     }
     let n = kept.count;
     match bursts::noise_floor(&dbm[..n], &mut scratch) {
-        Level::Refused(n) => replay::print_refusal(n),
-        Level::Dbm(noise) => print_bursts(&dbm[..n], asked_of(head, noise), noise),
+        Level::Refused(n) => replay::print_refusal(rt, n),
+        Level::Dbm(noise) => print_bursts(rt, &dbm[..n], asked_of(head, noise), noise),
     }
 }
 
-fn turn() -> bool {
+fn turn(rt: &(impl Input + Print)) -> bool {
     let mut head = [0u8; 33];
-    match replay::read_head(&mut head) {
+    match replay::read_head(rt, &mut head) {
         Head::End => false,
-        Head::Cut => replay::print_short(),
-        Head::Whole => case(&head),
+        Head::Cut => replay::print_short(rt),
+        Head::Whole => case(rt, &head),
     }
 }
 
-fn main() {
+fn main(rt: HostRuntime) {
     let mut left = replay::MOST_CASES;
     while left > 0 {
-        if !turn() {
+        if !turn(&rt) {
             return;
         }
         left -= 1;

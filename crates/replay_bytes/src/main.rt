@@ -14,12 +14,12 @@ fn state_of(n: u8) -> ConvState {
     }
 }
 
-fn print_state(s: ConvState) {
+fn print_state(rt: &impl Print, s: ConvState) {
     if s.last {
-        replay::print_number(if s.second { 3 } else { 2 });
+        replay::print_number(rt, if s.second { 3 } else { 2 });
         return;
     }
-    replay::print_number(if s.second { 1 } else { 0 });
+    replay::print_number(rt, if s.second { 1 } else { 0 });
 }
 
 fn long(x: u8) -> usize {
@@ -27,45 +27,52 @@ fn long(x: u8) -> usize {
 }
 
 // The first m bits as digits, `-` where there are none.
-fn print_rest(bits: &[u8], m: usize) {
+fn print_rest(rt: &impl Print, bits: &[u8], m: usize) {
     if m == 0 {
-        replay::print(b"-");
+        replay::print(rt, b"-");
     }
-    replay::print_digits(bits, m);
+    replay::print_digits(rt, bits, m);
 }
 
-fn print_answer(answer: Undone, out: &[u8], n: usize, out_rest: &[u8], m: usize) -> bool
+fn print_answer(
+    rt: &impl Print,
+    answer: Undone,
+    out: &[u8],
+    n: usize,
+    out_rest: &[u8],
+    m: usize,
+) -> bool
     requires { (n ≤ length out.now) × (n ≤ 129) }
 {
     match answer {
-        Undone::Refused(number) => replay::print_refusal(number),
+        Undone::Refused(number) => replay::print_refusal(rt, number),
         Undone::Done(s) => {
-            replay::print(b"Y ");
-            replay::print_slice(out, n);
-            replay::print(b" ");
-            print_rest(out_rest, m);
-            replay::print(b" ");
-            print_state(s);
-            replay::print_end()
+            replay::print(rt, b"Y ");
+            replay::print_slice(rt, out, n);
+            replay::print(rt, b" ");
+            print_rest(rt, out_rest, m);
+            replay::print(rt, b" ");
+            print_state(rt, s);
+            replay::print_end(rt)
         }
     }
 }
 
 // A byte more than a call takes is kept, so that the call refuses and not the program.
-fn case(head: &[u8; 2]) -> bool {
+fn case(rt: &(impl Input + Print), head: &[u8; 2]) -> bool {
     let mut bytes = [0u8; 129];
-    let b = replay::read_bytes(&mut bytes);
+    let b = replay::read_bytes(rt, &mut bytes);
     if !b.whole {
-        return replay::print_short();
+        return replay::print_short(rt);
     }
     let mut count = [0u8; 1];
-    if !replay::read_part(&mut count) {
-        return replay::print_short();
+    if !replay::read_part(rt, &mut count) {
+        return replay::print_short(rt);
     }
     let mut rest = [0u8; 255];
-    let r = replay::read_n_bytes(long(count[0]), &mut rest);
+    let r = replay::read_n_bytes(rt, long(count[0]), &mut rest);
     if !r.whole {
-        return replay::print_short();
+        return replay::print_short(rt);
     }
     let n = b.count;
     let m = r.count;
@@ -79,22 +86,22 @@ fn case(head: &[u8; 2]) -> bool {
         &mut out,
         &mut out_rest,
     );
-    print_answer(answer, &out, n, &out_rest, m)
+    print_answer(rt, answer, &out, n, &out_rest, m)
 }
 
-fn turn() -> bool {
+fn turn(rt: &(impl Input + Print)) -> bool {
     let mut head = [0u8; 2];
-    match replay::read_head(&mut head) {
+    match replay::read_head(rt, &mut head) {
         Head::End => false,
-        Head::Cut => replay::print_short(),
-        Head::Whole => case(&head),
+        Head::Cut => replay::print_short(rt),
+        Head::Whole => case(rt, &head),
     }
 }
 
-fn main() {
+fn main(rt: HostRuntime) {
     let mut left = replay::MOST_CASES;
     while left > 0 {
-        if !turn() {
+        if !turn(&rt) {
             return;
         }
         left -= 1;

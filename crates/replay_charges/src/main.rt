@@ -34,56 +34,56 @@ fn plan_of(head: &[u8; 9], count: usize, steps: &[u8; 2040]) -> Plan {
     }
 }
 
-fn print_charge(charge: Charge) -> bool {
+fn print_charge(rt: &impl Print, charge: Charge) -> bool {
     match charge {
-        Charge::Refused(n) => replay::print_refusal(n),
+        Charge::Refused(n) => replay::print_refusal(rt, n),
         Charge::Cents(n) => {
-            replay::print(b"P ");
-            replay::print_number(n);
-            replay::print_end()
+            replay::print(rt, b"P ");
+            replay::print_number(rt, n);
+            replay::print_end(rt)
         }
     }
 }
 
 // The month's start and the records.
-fn charge_case(plan: Plan) -> bool {
+fn charge_case(rt: &(impl Input + Print), plan: Plan) -> bool {
     let mut month = [0u8; 8];
-    if !replay::read_part(&mut month) {
-        return replay::print_short();
+    if !replay::read_part(rt, &mut month) {
+        return replay::print_short(rt);
     }
     let mut records = [0u8; 120000];
-    let k = replay::read_bytes(&mut records);
+    let k = replay::read_bytes(rt, &mut records);
     if !k.whole {
-        return replay::print_short();
+        return replay::print_short(rt);
     }
     let n = k.count;
     let start = replay::signed64(endian::get_u64(&month, 0));
-    print_charge(subscription::charges(&records[..n], plan, start))
+    print_charge(rt, subscription::charges(&records[..n], plan, start))
 }
 
-fn case(head: &[u8; 9]) -> bool {
+fn case(rt: &(impl Input + Print), head: &[u8; 9]) -> bool {
     let mut steps = [0u8; 2040];
     let count = count_of(head[8]);
-    let k = replay::read_n_bytes(STEP * count, &mut steps);
+    let k = replay::read_n_bytes(rt, STEP * count, &mut steps);
     if !k.whole {
-        return replay::print_short();
+        return replay::print_short(rt);
     }
-    charge_case(plan_of(head, count, &steps))
+    charge_case(rt, plan_of(head, count, &steps))
 }
 
-fn turn() -> bool {
+fn turn(rt: &(impl Input + Print)) -> bool {
     let mut head = [0u8; 9];
-    match replay::read_head(&mut head) {
+    match replay::read_head(rt, &mut head) {
         Head::End => false,
-        Head::Cut => replay::print_short(),
-        Head::Whole => case(&head),
+        Head::Cut => replay::print_short(rt),
+        Head::Whole => case(rt, &head),
     }
 }
 
-fn main() {
+fn main(rt: HostRuntime) {
     let mut left = replay::MOST_CASES;
     while left > 0 {
-        if !turn() {
+        if !turn(&rt) {
             return;
         }
         left -= 1;

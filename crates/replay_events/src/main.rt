@@ -1,6 +1,6 @@
 // The receiver, call by call (docs/REPLAY.md, `events`).
 #![tactic(auto)]
 
-fn main() {
-    replay_receiver::run(false);
+fn main(rt: HostRuntime) {
+    replay_receiver::run(&rt, false);
 }

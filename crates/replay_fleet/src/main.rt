@@ -9,34 +9,34 @@ use replay::Head;
 // The longest list that is lent.
 const MOST_PLACES: usize = 2400;
 
-fn print_row(rows: &[i64], at: usize)
+fn print_row(rt: &impl Print, rows: &[i64], at: usize)
     requires { at + 9 ≤ length rows.now }
 {
-    replay::print_i64(rows[at]);
+    replay::print_i64(rt, rows[at]);
     let mut j: usize = 1;
     while j < NUMBERS {
-        replay::print(b" ");
-        replay::print_i64(rows[at + j]);
+        replay::print(rt, b" ");
+        replay::print_i64(rt, rows[at + j]);
         j += 1;
     }
-    replay::print_end();
+    replay::print_end(rt);
 }
 
 // A line a row, as many as `n` says, of those that the list can hold.
-fn print_rows(rows: &[i64], n: usize) {
+fn print_rows(rt: &impl Print, rows: &[i64], n: usize) {
     let most = rows.len() / NUMBERS;
     let mut p: usize = 0;
     while p < most {
         if p == n {
             return;
         }
-        print_row(rows, NUMBERS * p);
+        print_row(rt, rows, NUMBERS * p);
         p += 1;
     }
 }
 
 // How many places from one on up to another hold the fill.
-fn print_kept(rows: &[i64], from: usize, places: usize, fill: i64) -> bool
+fn print_kept(rt: &impl Print, rows: &[i64], from: usize, places: usize, fill: i64) -> bool
     requires { places ≤ length rows.now }
 {
     let mut count: u64 = 0;
@@ -49,58 +49,58 @@ fn print_kept(rows: &[i64], from: usize, places: usize, fill: i64) -> bool
             i += 1;
         }
     }
-    replay::print(b"K ");
-    replay::print_number(count);
-    replay::print_end()
+    replay::print(rt, b"K ");
+    replay::print_number(rt, count);
+    replay::print_end(rt)
 }
 
 // The call, on the first places of a list.
-fn report_into(records: &[u8], rows: &mut [i64], places: usize, fill: i64) -> bool
+fn report_into(rt: &impl Print, records: &[u8], rows: &mut [i64], places: usize, fill: i64) -> bool
     requires { places ≤ length rows.old }
 {
     let sheet = fleet_sheet::fleet_report(records, &mut rows[..places]);
     match sheet {
         Sheet::Refused(n) => {
-            replay::print_refusal(n);
-            print_kept(rows, 0, places, fill)
+            replay::print_refusal(rt, n);
+            print_kept(rt, rows, 0, places, fill)
         }
         Sheet::Rows(n) => {
-            replay::print(b"F ");
-            replay::print_number(n as u64);
-            replay::print_end();
-            print_rows(rows, n);
+            replay::print(rt, b"F ");
+            replay::print_number(rt, n as u64);
+            replay::print_end(rt);
+            print_rows(rt, rows, n);
             let from = whole::least(n, fleet_sheet::MOST_DEVICES);
-            print_kept(rows, NUMBERS * from, places, fill)
+            print_kept(rt, rows, NUMBERS * from, places, fill)
         }
     }
 }
 
-fn case(head: &[u8; 10]) -> bool {
+fn case(rt: &(impl Input + Print), head: &[u8; 10]) -> bool {
     let mut records = [0u8; 120000];
-    let k = replay::read_bytes(&mut records);
+    let k = replay::read_bytes(rt, &mut records);
     if !k.whole {
-        return replay::print_short();
+        return replay::print_short(rt);
     }
     let n = k.count;
     let fill = replay::signed64(endian::get_u64(head, 2));
     let mut rows = [fill; 2400];
     let places = whole::least(endian::get_u16(head, 0) as usize, MOST_PLACES);
-    report_into(&records[..n], &mut rows, places, fill)
+    report_into(rt, &records[..n], &mut rows, places, fill)
 }
 
-fn turn() -> bool {
+fn turn(rt: &(impl Input + Print)) -> bool {
     let mut head = [0u8; 10];
-    match replay::read_head(&mut head) {
+    match replay::read_head(rt, &mut head) {
         Head::End => false,
-        Head::Cut => replay::print_short(),
-        Head::Whole => case(&head),
+        Head::Cut => replay::print_short(rt),
+        Head::Whole => case(rt, &head),
     }
 }
 
-fn main() {
+fn main(rt: HostRuntime) {
     let mut left = replay::MOST_CASES;
     while left > 0 {
-        if !turn() {
+        if !turn(&rt) {
             return;
         }
         left -= 1;

@@ -9,36 +9,36 @@ use replay::Head;
 // The longest list that is lent.
 const MOST_PLACES: usize = 1000;
 
-fn print_nearest(answer: Nearest) -> bool {
+fn print_nearest(rt: &impl Print, answer: Nearest) -> bool {
     match answer {
-        Nearest::Refused(n) => replay::print_refusal(n),
+        Nearest::Refused(n) => replay::print_refusal(rt, n),
         Nearest::Record(n) => {
-            replay::print(b"N ");
-            replay::print_number(n as u64);
-            replay::print_end()
+            replay::print(rt, b"N ");
+            replay::print_number(rt, n as u64);
+            replay::print_end(rt)
         }
-        Nearest::Nothing => replay::print_none(),
+        Nearest::Nothing => replay::print_none(rt),
     }
 }
 
-fn nearest() -> bool {
+fn nearest(rt: &(impl Input + Print)) -> bool {
     let mut head = [0u8; 16];
-    if !replay::read_part(&mut head) {
-        return replay::print_short();
+    if !replay::read_part(rt, &mut head) {
+        return replay::print_short(rt);
     }
     let mut records = [0u8; 120000];
-    let k = replay::read_bytes(&mut records);
+    let k = replay::read_bytes(rt, &mut records);
     if !k.whole {
-        return replay::print_short();
+        return replay::print_short(rt);
     }
     let n = k.count;
     let time = endian::get_f64(&head, 0);
     let within = endian::get_f64(&head, 8);
-    print_nearest(grip::nearest_message(&records[..n], time, within))
+    print_nearest(rt, grip::nearest_message(&records[..n], time, within))
 }
 
 // How many places from one on up to another hold the fill.
-fn print_kept(numbers: &[u32], from: usize, places: usize, fill: u32) -> bool
+fn print_kept(rt: &impl Print, numbers: &[u32], from: usize, places: usize, fill: u32) -> bool
     requires { places ≤ length numbers.now }
 {
     let mut count: u64 = 0;
@@ -51,25 +51,25 @@ fn print_kept(numbers: &[u32], from: usize, places: usize, fill: u32) -> bool
             i += 1;
         }
     }
-    replay::print(b"K ");
-    replay::print_number(count);
-    replay::print_end()
+    replay::print(rt, b"K ");
+    replay::print_number(rt, count);
+    replay::print_end(rt)
 }
 
 // The first n numbers, of those that the list can hold, in a line.
-fn print_numbers(numbers: &[u32], n: usize) {
-    replay::print(b"A");
+fn print_numbers(rt: &impl Print, numbers: &[u32], n: usize) {
+    replay::print(rt, b"A");
     let mut p: usize = 0;
     while p < numbers.len() {
         if p == n {
-            replay::print_end();
+            replay::print_end(rt);
             return;
         }
-        replay::print(b" ");
-        replay::print_number(wide(numbers[p]));
+        replay::print(rt, b" ");
+        replay::print_number(rt, wide(numbers[p]));
         p += 1;
     }
-    replay::print_end();
+    replay::print_end(rt);
 }
 
 fn wide(x: u32) -> u64 {
@@ -77,65 +77,72 @@ fn wide(x: u32) -> u64 {
 }
 
 // The call, on the first places of a list.
-fn hear_into(records: &[u8], instant: f64, numbers: &mut [u32], places: usize, fill: u32) -> bool
+fn hear_into(
+    rt: &impl Print,
+    records: &[u8],
+    instant: f64,
+    numbers: &mut [u32],
+    places: usize,
+    fill: u32,
+) -> bool
     requires { places ≤ length numbers.old }
 {
     let air = grip::on_air(records, instant, &mut numbers[..places]);
     match air {
         Air::Refused(n) => {
-            replay::print_refusal(n);
-            print_kept(numbers, 0, places, fill)
+            replay::print_refusal(rt, n);
+            print_kept(rt, numbers, 0, places, fill)
         }
         Air::Numbers(n) => {
             if n == 0 {
-                replay::print_none();
+                replay::print_none(rt);
             } else {
-                print_numbers(numbers, n);
+                print_numbers(rt, numbers, n);
             }
-            print_kept(numbers, n, places, fill)
+            print_kept(rt, numbers, n, places, fill)
         }
     }
 }
 
-fn on_air() -> bool {
+fn on_air(rt: &(impl Input + Print)) -> bool {
     let mut head = [0u8; 14];
-    if !replay::read_part(&mut head) {
-        return replay::print_short();
+    if !replay::read_part(rt, &mut head) {
+        return replay::print_short(rt);
     }
     let mut records = [0u8; 120000];
-    let k = replay::read_bytes(&mut records);
+    let k = replay::read_bytes(rt, &mut records);
     if !k.whole {
-        return replay::print_short();
+        return replay::print_short(rt);
     }
     let n = k.count;
     let instant = endian::get_f64(&head, 0);
     let fill = endian::get_u32(&head, 10);
     let mut numbers = [fill; 1000];
     let places = whole::least(endian::get_u16(&head, 8) as usize, MOST_PLACES);
-    hear_into(&records[..n], instant, &mut numbers, places, fill)
+    hear_into(rt, &records[..n], instant, &mut numbers, places, fill)
 }
 
-fn case(kind: u8) -> bool {
+fn case(rt: &(impl Input + Print), kind: u8) -> bool {
     match kind {
-        0 => nearest(),
-        1 => on_air(),
-        _ => replay::print_short(),
+        0 => nearest(rt),
+        1 => on_air(rt),
+        _ => replay::print_short(rt),
     }
 }
 
-fn turn() -> bool {
+fn turn(rt: &(impl Input + Print)) -> bool {
     let mut kind = [0u8; 1];
-    match replay::read_head(&mut kind) {
+    match replay::read_head(rt, &mut kind) {
         Head::End => false,
-        Head::Cut => replay::print_short(),
-        Head::Whole => case(kind[0]),
+        Head::Cut => replay::print_short(rt),
+        Head::Whole => case(rt, kind[0]),
     }
 }
 
-fn main() {
+fn main(rt: HostRuntime) {
     let mut left = replay::MOST_CASES;
     while left > 0 {
-        if !turn() {
+        if !turn(&rt) {
             return;
         }
         left -= 1;

@@ -33,14 +33,14 @@ fn wide(n: u8) -> usize {
     n as usize
 }
 
-fn read_windows(n: usize) -> Windows {
+fn read_windows(rt: &impl Input, n: usize) -> Windows {
     let none = Window { start: 0, end: 0 };
     let mut windows = [none; 32];
     let mut whole = true;
     let mut i: usize = 0;
     while i < n {
         let mut part = [0u8; 4];
-        whole = whole & replay::read_part(&mut part);
+        whole = whole & replay::read_part(rt, &mut part);
         if i < shifts::MOST_WINDOWS {
             windows[i] = Window {
                 start: endian::get_u16(&part, 0),
@@ -53,16 +53,16 @@ fn read_windows(n: usize) -> Windows {
 }
 
 // A count, and that many closed dates, at the front of the list; those past its last place are read over.
-fn read_dates(closed: &mut [u32]) -> Kept
+fn read_dates(rt: &impl Input, closed: &mut [u32]) -> Kept
     ensures { Front result.count closed.new }
 {
     let mut count = [0u8; 2];
-    let mut whole = replay::read_part(&mut count);
+    let mut whole = replay::read_part(rt, &mut count);
     let n = endian::get_u16(&count, 0) as usize;
     let mut i: usize = 0;
     while i < n {
         let mut part = [0u8; 4];
-        whole = whole & replay::read_part(&mut part);
+        whole = whole & replay::read_part(rt, &mut part);
         if i < closed.len() {
             closed[i] = endian::get_u32(&part, 0);
             i += 1;
@@ -83,21 +83,21 @@ fn start_of(given: u8, second: u32) -> StreamStart {
     StreamStart::Given(second)
 }
 
-fn read_behind(closed: &mut [u32]) -> Block
+fn read_behind(rt: &impl Input, closed: &mut [u32]) -> Block
     ensures { Front result.dates closed.new }
 {
     let mut head = [0u8; 6];
-    let first = replay::read_part(&mut head);
+    let first = replay::read_part(rt, &mut head);
     let start = start_of(head[0], endian::get_u32(&head, 1));
     let count = wide(head[5]);
-    let w = read_windows(count);
+    let w = read_windows(rt, count);
     let windows = w.windows;
     let shifts = Shifts {
         start,
         windows,
         count,
     };
-    let kept = read_dates(closed);
+    let kept = read_dates(rt, closed);
     Block {
         whole: first & (w.whole & kept.whole),
         shifts,
@@ -106,11 +106,11 @@ fn read_behind(closed: &mut [u32]) -> Block
 }
 
 // What stands behind the arguments; no shifts where nothing does.
-pub fn read_block(behind: bool, closed: &mut [u32]) -> Block
+pub fn read_block(rt: &impl Input, behind: bool, closed: &mut [u32]) -> Block
     ensures { Front result.dates closed.new }
 {
     if behind {
-        return read_behind(closed);
+        return read_behind(rt, closed);
     }
     let shifts = Shifts::none();
     Block {

@@ -65,16 +65,16 @@ fn distance(start: u64, base: u64) -> i32 {
 }
 
 // A count, and that many starts; those past the last place are read over.
-fn read_starts(starts: Starts, base: u64) -> GivenStarts {
+fn read_starts(rt: &impl Input, starts: Starts, base: u64) -> GivenStarts {
     let mut count = [0u8; 1];
-    let mut whole = replay::read_part(&mut count);
+    let mut whole = replay::read_part(rt, &mut count);
     let n = small(count[0]);
     let mut t = starts;
     t.count = n;
     let mut i: usize = 0;
     while i < n {
         let mut part = [0u8; 8];
-        whole = whole & replay::read_part(&mut part);
+        whole = whole & replay::read_part(rt, &mut part);
         if i < 96 {
             t.at[i] = distance(endian::get_u64(&part, 0), base);
         }
@@ -159,9 +159,9 @@ fn message_of(r: &[u8; 120]) -> SigfoxMessage {
 }
 
 // A count, and for each message its record and the time of the frame that joined last; those past the last place are read over.
-fn read_waiting(waiting: Waiting) -> GivenWaiting {
+fn read_waiting(rt: &impl Input, waiting: Waiting) -> GivenWaiting {
     let mut count = [0u8; 1];
-    let mut whole = replay::read_part(&mut count);
+    let mut whole = replay::read_part(rt, &mut count);
     let n = small(count[0]);
     let mut t = waiting;
     t.count = n;
@@ -169,8 +169,8 @@ fn read_waiting(waiting: Waiting) -> GivenWaiting {
     while i < n {
         let mut r = [0u8; 120];
         let mut part = [0u8; 8];
-        let a = replay::read_part(&mut r);
-        let b = replay::read_part(&mut part);
+        let a = replay::read_part(rt, &mut r);
+        let b = replay::read_part(rt, &mut part);
         whole = whole & (a & b);
         if i < receiver_waiting::OPEN_PLACES {
             let message = message_of(&r);
@@ -185,16 +185,16 @@ fn read_waiting(waiting: Waiting) -> GivenWaiting {
 }
 
 // The state of the input, for a rate; its samples go into the buffer.
-pub fn read_state(rate: u32, samples: &mut [f32; 48001]) -> Given {
+pub fn read_state(rt: &impl Input, rate: u32, samples: &mut [f32; 48001]) -> Given {
     let mut head = [0u8; 12];
-    let first = replay::read_part(&mut head);
-    let kept = replay::read_f32s(samples);
+    let first = replay::read_part(rt, &mut head);
+    let kept = replay::read_f32s(rt, samples);
     let mut receiver = SigfoxReceiver::new(rate);
     let starts = receiver.starts;
     let base = endian::get_u64(&head, 0);
-    let s = read_starts(starts, base);
+    let s = read_starts(rt, starts, base);
     let waiting = receiver.waiting;
-    let w = read_waiting(waiting);
+    let w = read_waiting(rt, waiting);
     receiver.base = base;
     receiver.unscanned = endian::get_u32(&head, 8) as usize;
     receiver.held = kept.count;

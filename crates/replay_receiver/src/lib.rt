@@ -20,9 +20,9 @@ struct State {
     receiver: SigfoxReceiver,
 }
 
-fn short(s: State) -> State {
+fn short(rt: &impl Print, s: State) -> State {
     let mut t = s;
-    t.open = replay::print_short();
+    t.open = replay::print_short(rt);
     t
 }
 
@@ -33,20 +33,21 @@ fn ended(s: State) -> State {
 }
 
 // The state after a call, its lines printed.
-fn after(s: State, name: &[u8], r: Received, events: &mut [u8; 30720]) -> State {
+fn after(rt: &impl Print, s: State, name: &[u8], r: Received, events: &mut [u8; 30720]) -> State {
     let mut t = s;
     let next = r.receiver;
     t.receiver = next;
     t.index = std::num::wrapping_add_u64(s.index, 1);
     if r.refused != 0 {
-        t.open = replay::print_refusal(r.refused);
+        t.open = replay::print_refusal(rt, r.refused);
         return t;
     }
-    t.open = print_answer(s.index, name, r.count, next, events);
+    t.open = print_answer(rt, s.index, name, r.count, next, events);
     t
 }
 
 fn push(
+    rt: &(impl Input + Print),
     s: State,
     samples: &mut [f32; 48001],
     events: &mut [u8; 30720],
@@ -55,10 +56,10 @@ fn push(
 ) -> State {
     let mut dbm = [0.0f32; 48001];
     let mut closed = [0u32; 64];
-    let kept = replay::read_f32s(&mut dbm);
-    let behind = read_block(s.shifted, &mut closed);
+    let kept = replay::read_f32s(rt, &mut dbm);
+    let behind = read_block(rt, s.shifted, &mut closed);
     if !(kept.whole & behind.whole) {
-        return short(s);
+        return short(rt, s);
     }
     let n = kept.count;
     let dates = behind.dates;
@@ -73,10 +74,11 @@ fn push(
         scratch32,
         scratch64,
     );
-    after(s, b"push", r, events)
+    after(rt, s, b"push", r, events)
 }
 
 fn push_raw(
+    rt: &(impl Input + Print),
     s: State,
     samples: &mut [f32; 48001],
     events: &mut [u8; 30720],
@@ -85,10 +87,10 @@ fn push_raw(
 ) -> State {
     let mut raw = [0u8; 48001];
     let mut closed = [0u32; 64];
-    let kept = replay::read_bytes(&mut raw);
-    let behind = read_block(s.shifted, &mut closed);
+    let kept = replay::read_bytes(rt, &mut raw);
+    let behind = read_block(rt, s.shifted, &mut closed);
     if !(kept.whole & behind.whole) {
-        return short(s);
+        return short(rt, s);
     }
     let n = kept.count;
     let dates = behind.dates;
@@ -103,10 +105,11 @@ fn push_raw(
         scratch32,
         scratch64,
     );
-    after(s, b"push_raw", r, events)
+    after(rt, s, b"push_raw", r, events)
 }
 
 fn flush(
+    rt: &(impl Input + Print),
     s: State,
     samples: &mut [f32; 48001],
     events: &mut [u8; 30720],
@@ -114,9 +117,9 @@ fn flush(
     scratch64: &mut [f64; limits::SCRATCH64],
 ) -> State {
     let mut closed = [0u32; 64];
-    let behind = read_block(s.shifted, &mut closed);
+    let behind = read_block(rt, s.shifted, &mut closed);
     if !behind.whole {
-        return short(s);
+        return short(rt, s);
     }
     let dates = behind.dates;
     let shifts = behind.shifts;
@@ -129,14 +132,14 @@ fn flush(
         scratch32,
         scratch64,
     );
-    after(s, b"flush", r, events)
+    after(rt, s, b"flush", r, events)
 }
 
 // A state that is handed in takes the place of the receiver's; the next call judges it.
-fn take_over(s: State, samples: &mut [f32; 48001]) -> State {
-    let g = read_state(s.receiver.rate, samples);
+fn take_over(rt: &(impl Input + Print), s: State, samples: &mut [f32; 48001]) -> State {
+    let g = read_state(rt, s.receiver.rate, samples);
     if !g.whole {
-        return short(s);
+        return short(rt, s);
     }
     let mut t = s;
     let receiver = g.receiver;
@@ -145,6 +148,7 @@ fn take_over(s: State, samples: &mut [f32; 48001]) -> State {
 }
 
 fn call(
+    rt: &(impl Input + Print),
     s: State,
     number: u8,
     samples: &mut [f32; 48001],
@@ -153,15 +157,16 @@ fn call(
     scratch64: &mut [f64; limits::SCRATCH64],
 ) -> State {
     match number {
-        0 => push(s, samples, events, scratch32, scratch64),
-        1 => push_raw(s, samples, events, scratch32, scratch64),
-        2 => flush(s, samples, events, scratch32, scratch64),
-        3 => take_over(s, samples),
-        _ => short(s),
+        0 => push(rt, s, samples, events, scratch32, scratch64),
+        1 => push_raw(rt, s, samples, events, scratch32, scratch64),
+        2 => flush(rt, s, samples, events, scratch32, scratch64),
+        3 => take_over(rt, s, samples),
+        _ => short(rt, s),
     }
 }
 
 fn turn(
+    rt: &(impl Input + Print),
     s: State,
     samples: &mut [f32; 48001],
     events: &mut [u8; 30720],
@@ -169,17 +174,17 @@ fn turn(
     scratch64: &mut [f64; limits::SCRATCH64],
 ) -> State {
     let mut head = [0u8; 1];
-    match replay::read_head(&mut head) {
+    match replay::read_head(rt, &mut head) {
         Head::End => ended(s),
-        Head::Cut => short(s),
-        Head::Whole => call(s, head[0], samples, events, scratch32, scratch64),
+        Head::Cut => short(rt, s),
+        Head::Whole => call(rt, s, head[0], samples, events, scratch32, scratch64),
     }
 }
 
 // The rate of the input, and a fresh receiver of it.
-fn start(shifted: bool) -> State {
+fn start(rt: &impl Input, shifted: bool) -> State {
     let mut head = [0u8; 4];
-    let whole = replay::read_part(&mut head);
+    let whole = replay::read_part(rt, &mut head);
     let receiver = SigfoxReceiver::new(endian::get_u32(&head, 0));
     State {
         shifted,
@@ -190,18 +195,25 @@ fn start(shifted: bool) -> State {
 }
 
 // The program `events`, or `shifts`.
-pub fn run(shifted: bool) {
+pub fn run(rt: &(impl Input + Print), shifted: bool) {
     let mut samples = [0.0f32; 48001];
     let mut events = [0u8; 30720];
     let mut scratch32 = [0.0f32; 48000];
     let mut scratch64 = [0.0f64; limits::SCRATCH64];
-    let mut s = start(shifted);
+    let mut s = start(rt, shifted);
     let mut left = replay::MOST_CASES;
     while left > 0 {
         if !s.open {
             return;
         }
-        s = turn(s, &mut samples, &mut events, &mut scratch32, &mut scratch64);
+        s = turn(
+            rt,
+            s,
+            &mut samples,
+            &mut events,
+            &mut scratch32,
+            &mut scratch64,
+        );
         left -= 1;
     }
 }

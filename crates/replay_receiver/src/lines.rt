@@ -18,75 +18,76 @@ fn sample(base: u64, d: i32) -> u64 {
     if k <= base { base - k } else { 0 }
 }
 
-fn print_starts(s: Starts, base: u64) {
+fn print_starts(rt: &impl Print, s: Starts, base: u64) {
     let n = s.count;
     let mut i: usize = 0;
     while i < receiver_starts::MOST_STARTS {
         if i == n {
             return;
         }
-        replay::print(b" ");
-        replay::print_number(sample(base, s.at[i]));
+        replay::print(rt, b" ");
+        replay::print_number(rt, sample(base, s.at[i]));
         i += 1;
     }
 }
 
 // Device, counter and the time of the frame that joined last.
-fn print_message(p: Pending) {
+fn print_message(rt: &impl Print, p: Pending) {
     let m = p.message;
-    replay::print(b" ");
-    replay::print_hex(m.device_id as u64, 8);
-    replay::print(b":");
-    replay::print_number(m.counter as u64);
-    replay::print(b":");
-    replay::print_f64(p.last);
+    replay::print(rt, b" ");
+    replay::print_hex(rt, m.device_id as u64, 8);
+    replay::print(rt, b":");
+    replay::print_number(rt, m.counter as u64);
+    replay::print(rt, b":");
+    replay::print_f64(rt, p.last);
 }
 
-fn print_waiting(w: Waiting) {
+fn print_waiting(rt: &impl Print, w: Waiting) {
     let n = w.count;
     let mut i: usize = 0;
     while i < receiver_waiting::OPEN_PLACES {
         if i == n {
             return;
         }
-        print_message(w.messages[i]);
+        print_message(rt, w.messages[i]);
         i += 1;
     }
 }
 
-fn print_field(n: u64) {
-    replay::print(b" ");
-    replay::print_number(n);
+fn print_field(rt: &impl Print, n: u64) {
+    replay::print(rt, b" ");
+    replay::print_number(rt, n);
 }
 
-fn print_state(r: SigfoxReceiver) -> bool {
+fn print_state(rt: &impl Print, r: SigfoxReceiver) -> bool {
     let starts = r.starts;
     let waiting = r.waiting;
-    replay::print(b"S");
-    print_field(r.held as u64);
-    print_field(r.base);
-    print_field(r.unscanned as u64);
-    print_field(starts.count as u64);
-    print_starts(starts, r.base);
-    print_field(waiting.count as u64);
-    print_waiting(waiting);
-    replay::print_end()
+    replay::print(rt, b"S");
+    print_field(rt, r.held as u64);
+    print_field(rt, r.base);
+    print_field(rt, r.unscanned as u64);
+    print_field(rt, starts.count as u64);
+    print_starts(rt, starts, r.base);
+    print_field(rt, waiting.count as u64);
+    print_waiting(rt, waiting);
+    replay::print_end(rt)
 }
 
 // The call, its records, and the state.
 pub fn print_answer(
+    rt: &impl Print,
     index: u64,
     name: &[u8],
     count: usize,
     r: SigfoxReceiver,
     events: &mut [u8; 30720],
 ) -> bool {
-    replay::print(b"C");
-    print_field(index);
-    replay::print(b" ");
-    replay::print(name);
-    print_field(count as u64);
-    replay::print_end();
-    replay_records::print_records(events, count);
-    print_state(r)
+    replay::print(rt, b"C");
+    print_field(rt, index);
+    replay::print(rt, b" ");
+    replay::print(rt, name);
+    print_field(rt, count as u64);
+    replay::print_end(rt);
+    replay_records::print_records(rt, events, count);
+    print_state(rt, r)
 }

@@ -58,33 +58,33 @@ pub fn without_signs(record: &mut [u8])
 }
 
 // A record's hexadecimal digits; its zeros lose their sign.
-pub fn print_record(record: &mut [u8])
+pub fn print_record(rt: &impl Print, record: &mut [u8])
     requires { record_size ≤ length «record».old }
     ensures { «record».new ≡ without_signs «record».old }
 {
     without_signs(record);
-    replay::print_bytes(record, limits::RECORD);
+    replay::print_bytes(rt, record, limits::RECORD);
 }
 
 // The line of one of the records in a buffer.
-fn print_line(events: &mut [u8], i: usize)
+fn print_line(rt: &impl Print, events: &mut [u8], i: usize)
     requires { record_size * i + record_size ≤ length events.old }
 {
     let from = limits::RECORD * i;
     let to = from + limits::RECORD;
-    print_record(&mut events[from..to]);
-    replay::print_end();
+    print_record(rt, &mut events[from..to]);
+    replay::print_end(rt);
 }
 
 // A line a record, as many as `count` says, of those that the buffer can hold.
-pub fn print_records(events: &mut [u8], count: usize) -> bool {
+pub fn print_records(rt: &impl Print, events: &mut [u8], count: usize) -> bool {
     let most = events.len() / limits::RECORD;
     let mut i: usize = 0;
     while i < most {
         if i == count {
             return true;
         }
-        print_line(events, i);
+        print_line(rt, events, i);
         i += 1;
     }
     true

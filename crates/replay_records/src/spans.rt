@@ -23,10 +23,10 @@ pub fn span_of(s: Span) -> FrameSpan
 }
 
 // As many spans as a message has, three at most.
-pub fn read_spans(count: u8) -> Spans {
-    let a = replay::read_span(0 < count);
-    let b = replay::read_span(1 < count);
-    let c = replay::read_span(2 < count);
+pub fn read_spans(rt: &impl Input, count: u8) -> Spans {
+    let a = replay::read_span(rt, 0 < count);
+    let b = replay::read_span(rt, 1 < count);
+    let c = replay::read_span(rt, 2 < count);
     Spans {
         whole: a.whole & (b.whole & c.whole),
         three: [span_of(a), span_of(b), span_of(c)],

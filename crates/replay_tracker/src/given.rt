@@ -73,9 +73,9 @@ fn tracker_of(head: &[u8; 85]) -> FrequencyTracker {
 }
 
 // A list's count in the input.
-fn read_count() -> Kept {
+fn read_count(rt: &impl Input) -> Kept {
     let mut part = [0u8; 4];
-    let whole = replay::read_part(&mut part);
+    let whole = replay::read_part(rt, &mut part);
     Kept {
         whole,
         count: endian::get_u32(&part, 0) as usize,
@@ -91,13 +91,13 @@ fn kept_of(whole: bool, count: usize, places: usize) -> Kept {
 }
 
 // A count, and that many u64.
-fn read_u64s(out: &mut [u64]) -> Kept {
-    let n = read_count();
+fn read_u64s(rt: &impl Input, out: &mut [u64]) -> Kept {
+    let n = read_count(rt);
     let end = n.count;
     let mut i: usize = 0;
     while i < end {
         let mut part = [0u8; 8];
-        if !replay::read_part(&mut part) {
+        if !replay::read_part(rt, &mut part) {
             return kept_of(false, 0, 0);
         }
         if i < out.len() {
@@ -111,13 +111,13 @@ fn read_u64s(out: &mut [u64]) -> Kept {
 }
 
 // A count, and that many u32.
-fn read_u32s(out: &mut [u32]) -> Kept {
-    let n = read_count();
+fn read_u32s(rt: &impl Input, out: &mut [u32]) -> Kept {
+    let n = read_count(rt);
     let end = n.count;
     let mut i: usize = 0;
     while i < end {
         let mut part = [0u8; 4];
-        if !replay::read_part(&mut part) {
+        if !replay::read_part(rt, &mut part) {
             return kept_of(false, 0, 0);
         }
         if i < out.len() {
@@ -131,13 +131,13 @@ fn read_u32s(out: &mut [u32]) -> Kept {
 }
 
 // A count, and that many f64.
-fn read_f64s(out: &mut [f64]) -> Kept {
-    let n = read_count();
+fn read_f64s(rt: &impl Input, out: &mut [f64]) -> Kept {
+    let n = read_count(rt);
     let end = n.count;
     let mut i: usize = 0;
     while i < end {
         let mut part = [0u8; 8];
-        if !replay::read_part(&mut part) {
+        if !replay::read_part(rt, &mut part) {
             return kept_of(false, 0, 0);
         }
         if i < out.len() {
@@ -151,9 +151,9 @@ fn read_f64s(out: &mut [f64]) -> Kept {
 }
 
 // The fields of the tracker, and the scratch's length.
-fn read_fields() -> Given {
+fn read_fields(rt: &impl Input) -> Given {
     let mut head = [0u8; 85];
-    let whole = replay::read_part(&mut head);
+    let whole = replay::read_part(rt, &mut head);
     let tracker = tracker_of(&head);
     Given {
         whole,
@@ -170,10 +170,16 @@ fn read_fields() -> Given {
 }
 
 // The lists of readings behind the fields.
-fn read_readings(given: Given, at: &mut [u64], lo: &mut [u32], hz: &mut [f64]) -> Given {
-    let a = read_u64s(at);
-    let b = read_u32s(lo);
-    let c = read_f64s(hz);
+fn read_readings(
+    rt: &impl Input,
+    given: Given,
+    at: &mut [u64],
+    lo: &mut [u32],
+    hz: &mut [f64],
+) -> Given {
+    let a = read_u64s(rt, at);
+    let b = read_u32s(rt, lo);
+    let c = read_f64s(rt, hz);
     let mut g = given;
     g.whole = g.whole & (a.whole & (b.whole & c.whole));
     g.lengths.at = a.count;
@@ -183,9 +189,9 @@ fn read_readings(given: Given, at: &mut [u64], lo: &mut [u32], hz: &mut [f64]) -
 }
 
 // The lists of tunings behind those.
-fn read_tunings(given: Given, tuned: &mut [u64], freq: &mut [u32]) -> Given {
-    let a = read_u64s(tuned);
-    let b = read_u32s(freq);
+fn read_tunings(rt: &impl Input, given: Given, tuned: &mut [u64], freq: &mut [u32]) -> Given {
+    let a = read_u64s(rt, tuned);
+    let b = read_u32s(rt, freq);
     let mut g = given;
     g.whole = g.whole & (a.whole & b.whole);
     g.lengths.tuned = a.count;
@@ -195,13 +201,14 @@ fn read_tunings(given: Given, tuned: &mut [u64], freq: &mut [u32]) -> Given {
 
 // The tracker of the input; its lists go into those of the program.
 pub fn read_tracker(
+    rt: &impl Input,
     at: &mut [u64],
     lo: &mut [u32],
     hz: &mut [f64],
     tuned: &mut [u64],
     freq: &mut [u32],
 ) -> Given {
-    let fields = read_fields();
-    let given = read_readings(fields, at, lo, hz);
-    read_tunings(given, tuned, freq)
+    let fields = read_fields(rt);
+    let given = read_readings(rt, fields, at, lo, hz);
+    read_tunings(rt, given, tuned, freq)
 }

@@ -38,12 +38,12 @@ fn going(s: State, open: bool) -> State {
     t
 }
 
-fn short(s: State) -> State {
-    going(s, replay::print_short())
+fn short(rt: &impl Print, s: State) -> State {
+    going(s, replay::print_short(rt))
 }
 
-fn refused(s: State, n: u8) -> State {
-    going(s, replay::print_refusal(n))
+fn refused(rt: &impl Print, s: State, n: u8) -> State {
+    going(s, replay::print_refusal(rt, n))
 }
 
 // The state with the tracker that an accepted call gave back.
@@ -54,25 +54,26 @@ fn after(s: State, tracker: FrequencyTracker, open: bool) -> State {
     t
 }
 
-fn tuned(s: State, tuned: &mut [u64], freq: &mut [u32]) -> State {
+fn tuned(rt: &(impl Input + Print), s: State, tuned: &mut [u64], freq: &mut [u32]) -> State {
     let mut part = [0u8; 4];
-    if !replay::read_part(&mut part) {
-        return short(s);
+    if !replay::read_part(rt, &mut part) {
+        return short(rt, s);
     }
     if s.refused != 0 {
-        return refused(s, s.refused);
+        return refused(rt, s, s.refused);
     }
     let tracker = s.tracker;
     let r = tracker.tuned(endian::get_u32(&part, 0), tuned, freq);
     if r.refused != 0 {
-        return refused(s, r.refused);
+        return refused(rt, s, r.refused);
     }
     let next = r.tracker;
     let answer = next.freq(tuned, freq);
-    after(s, next, print_tuned(answer, next.tunings))
+    after(s, next, print_tuned(rt, answer, next.tunings))
 }
 
 fn samples(
+    rt: &(impl Input + Print),
     s: State,
     at: &mut [u64],
     lo: &mut [u32],
@@ -81,24 +82,25 @@ fn samples(
     freq: &mut [u32],
 ) -> State {
     let mut dbm = [0.0f32; 48001];
-    let kept = replay::read_f32s(&mut dbm);
+    let kept = replay::read_f32s(rt, &mut dbm);
     if !kept.whole {
-        return short(s);
+        return short(rt, s);
     }
     if s.refused != 0 {
-        return refused(s, s.refused);
+        return refused(rt, s, s.refused);
     }
     let n = kept.count;
     let tracker = s.tracker;
     let r = tracker.samples(&dbm[..n], at, lo, hz, tuned, freq);
     if r.refused != 0 {
-        return refused(s, r.refused);
+        return refused(rt, s, r.refused);
     }
     let next = r.tracker;
-    after(s, next, print_samples(next))
+    after(s, next, print_samples(rt, next))
 }
 
 fn cfo(
+    rt: &(impl Input + Print),
     s: State,
     at: &mut [u64],
     lo: &mut [u32],
@@ -107,24 +109,25 @@ fn cfo(
     freq: &[u32],
 ) -> State {
     let mut raw = [0u16; 4097];
-    let kept = replay::read_u16s(&mut raw);
+    let kept = replay::read_u16s(rt, &mut raw);
     if !kept.whole {
-        return short(s);
+        return short(rt, s);
     }
     if s.refused != 0 {
-        return refused(s, s.refused);
+        return refused(rt, s, s.refused);
     }
     let n = kept.count;
     let tracker = s.tracker;
     let r = tracker.cfo(&raw[..n], at, lo, hz, tuned, freq);
     if r.refused != 0 {
-        return refused(s, r.refused);
+        return refused(rt, s, r.refused);
     }
     let next = r.tracker;
-    after(s, next, print_readings(next.readings, at, lo, hz))
+    after(s, next, print_readings(rt, next.readings, at, lo, hz))
 }
 
 fn next_tuning(
+    rt: &impl Print,
     s: State,
     at: &[u64],
     lo: &[u32],
@@ -134,69 +137,92 @@ fn next_tuning(
     scratch: &mut [f64],
 ) -> State {
     if s.refused != 0 {
-        return refused(s, s.refused);
+        return refused(rt, s, s.refused);
     }
     let tracker = s.tracker;
     let r = tracker.next_tuning(at, lo, hz, tuned, freq, scratch);
     if r.refused != 0 {
-        return refused(s, r.refused);
+        return refused(rt, s, r.refused);
     }
     let next = r.tracker;
     let tune = r.tune;
     let signal = next.signal;
-    after(s, next, print_next(tune, signal.retuned))
+    after(s, next, print_next(rt, tune, signal.retuned))
 }
 
-fn frame_frequency(s: State, at: &[u64], lo: &[u32], hz: &[f64], scratch: &mut [f64]) -> State {
-    let one = replay::read_span(true);
+fn frame_frequency(
+    rt: &(impl Input + Print),
+    s: State,
+    at: &[u64],
+    lo: &[u32],
+    hz: &[f64],
+    scratch: &mut [f64],
+) -> State {
+    let one = replay::read_span(rt, true);
     if !one.whole {
-        return short(s);
+        return short(rt, s);
     }
     if s.refused != 0 {
-        return refused(s, s.refused);
+        return refused(rt, s, s.refused);
     }
     let tracker = s.tracker;
     let answer = tracker.frame_frequency(span_of(one), at, lo, hz, scratch);
-    going(s, print_frame_frequency(answer))
+    going(s, print_frame_frequency(rt, answer))
 }
 
-fn frame1(s: State, at: &[u64], lo: &[u32], hz: &[f64], scratch: &mut [f64]) -> State {
+fn frame1(
+    rt: &(impl Input + Print),
+    s: State,
+    at: &[u64],
+    lo: &[u32],
+    hz: &[f64],
+    scratch: &mut [f64],
+) -> State {
     let mut part = [0u8; 2];
-    if !replay::read_part(&mut part) {
-        return short(s);
+    if !replay::read_part(rt, &mut part) {
+        return short(rt, s);
     }
-    let spans = read_spans(part[1]);
+    let spans = read_spans(rt, part[1]);
     if !spans.whole {
-        return short(s);
+        return short(rt, s);
     }
     if s.refused != 0 {
-        return refused(s, s.refused);
+        return refused(rt, s, s.refused);
     }
     let tracker = s.tracker;
     let three = spans.three;
     let answer = tracker.frame1(three, part[0] != 0, at, lo, hz, scratch);
-    going(s, print_frame1(answer))
+    going(s, print_frame1(rt, answer))
 }
 
-fn freq(s: State, tuned: &[u64], freq: &[u32]) -> State {
+fn freq(rt: &impl Print, s: State, tuned: &[u64], freq: &[u32]) -> State {
     if s.refused != 0 {
-        return refused(s, s.refused);
+        return refused(rt, s, s.refused);
     }
     let tracker = s.tracker;
-    going(s, print_freq(tracker.freq(tuned, freq)))
+    going(s, print_freq(rt, tracker.freq(tuned, freq)))
 }
 
 // Every place of the lists as they are lent.
-fn look(s: State, at: &[u64], lo: &[u32], hz: &[f64], tuned: &[u64], freq: &[u32]) -> State {
+fn look(
+    rt: &impl Print,
+    s: State,
+    at: &[u64],
+    lo: &[u32],
+    hz: &[f64],
+    tuned: &[u64],
+    freq: &[u32],
+) -> State {
     if s.refused != 0 {
-        return refused(s, s.refused);
+        return refused(rt, s, s.refused);
     }
     let tracker = s.tracker;
     let requested = tracker.requested;
-    going(s, print_lists(requested, at, lo, hz, tuned, freq))
+    going(s, print_lists(rt, requested, at, lo, hz, tuned, freq))
 }
 
 fn call(
+    rt: &(impl Input + Print),
     s: State,
     number: u8,
     at: &mut [u64],
@@ -207,15 +233,15 @@ fn call(
     scratch: &mut [f64],
 ) -> State {
     match number {
-        0 => tuned(s, tunings, freqs),
-        1 => samples(s, at, lo, hz, tunings, freqs),
-        2 => cfo(s, at, lo, hz, tunings, freqs),
-        3 => next_tuning(s, at, lo, hz, tunings, freqs, scratch),
-        4 => frame_frequency(s, at, lo, hz, scratch),
-        5 => frame1(s, at, lo, hz, scratch),
-        6 => freq(s, tunings, freqs),
-        8 => look(s, at, lo, hz, tunings, freqs),
-        _ => short(s),
+        0 => tuned(rt, s, tunings, freqs),
+        1 => samples(rt, s, at, lo, hz, tunings, freqs),
+        2 => cfo(rt, s, at, lo, hz, tunings, freqs),
+        3 => next_tuning(rt, s, at, lo, hz, tunings, freqs, scratch),
+        4 => frame_frequency(rt, s, at, lo, hz, scratch),
+        5 => frame1(rt, s, at, lo, hz, scratch),
+        6 => freq(rt, s, tunings, freqs),
+        8 => look(rt, s, at, lo, hz, tunings, freqs),
+        _ => short(rt, s),
     }
 }
 
@@ -227,6 +253,7 @@ fn least(a: usize, b: usize) -> usize
 
 // A call with as much of the lists as is lent.
 fn lend(
+    rt: &(impl Input + Print),
     s: State,
     number: u8,
     at: &mut [u64],
@@ -244,6 +271,7 @@ fn lend(
     let mut scratch = [0.0f64; 8000];
     let room = least(lengths.scratch, READINGS);
     call(
+        rt,
         s,
         number,
         &mut at[..a],
@@ -257,6 +285,7 @@ fn lend(
 
 // A tracker that is handed in takes the place of the program's; the next call judges it.
 fn take_over(
+    rt: &(impl Input + Print),
     s: State,
     at: &mut [u64; 8000],
     lo: &mut [u32; 8000],
@@ -264,9 +293,9 @@ fn take_over(
     tunings: &mut [u64; 64],
     freqs: &mut [u32; 64],
 ) -> State {
-    let g = read_tracker(at, lo, hz, tunings, freqs);
+    let g = read_tracker(rt, at, lo, hz, tunings, freqs);
     if !g.whole {
-        return short(s);
+        return short(rt, s);
     }
     let tracker = g.tracker;
     let lengths = g.lengths;
@@ -279,6 +308,7 @@ fn take_over(
 }
 
 fn turn(
+    rt: &(impl Input + Print),
     s: State,
     at: &mut [u64; 8000],
     lo: &mut [u32; 8000],
@@ -287,21 +317,21 @@ fn turn(
     freqs: &mut [u32; 64],
 ) -> State {
     let mut head = [0u8; 1];
-    match replay::read_head(&mut head) {
+    match replay::read_head(rt, &mut head) {
         Head::End => going(s, false),
-        Head::Cut => short(s),
+        Head::Cut => short(rt, s),
         Head::Whole => {
             if head[0] == GIVEN {
-                return take_over(s, at, lo, hz, tunings, freqs);
+                return take_over(rt, s, at, lo, hz, tunings, freqs);
             }
-            lend(s, head[0], at, lo, hz, tunings, freqs)
+            lend(rt, s, head[0], at, lo, hz, tunings, freqs)
         }
     }
 }
 
-fn start() -> State {
+fn start(rt: &impl Input) -> State {
     let mut head = [0u8; 16];
-    let whole = replay::read_part(&mut head);
+    let whole = replay::read_part(rt, &mut head);
     let rate = endian::get_u32(&head, 0);
     let base = endian::get_u32(&head, 4);
     let fresh = FrequencyTracker::new(rate, base, endian::get_f64(&head, 8));
@@ -321,19 +351,19 @@ fn start() -> State {
     }
 }
 
-fn main() {
+fn main(rt: HostRuntime) {
     let mut at = [0u64; 8000];
     let mut lo = [0u32; 8000];
     let mut hz = [0.0f64; 8000];
     let mut tunings = [0u64; 64];
     let mut freqs = [0u32; 64];
-    let mut s = start();
+    let mut s = start(&rt);
     let mut left = replay::MOST_CASES;
     while left > 0 {
         if !s.open {
             return;
         }
-        s = turn(s, &mut at, &mut lo, &mut hz, &mut tunings, &mut freqs);
+        s = turn(&rt, s, &mut at, &mut lo, &mut hz, &mut tunings, &mut freqs);
         left -= 1;
     }
 }

@@ -11,25 +11,26 @@ use writer::Written;
 const MOST_ROOM: usize = 700;
 
 // The count of each repetition, by rank.
-fn print_written(written: Written) {
+fn print_written(rt: &impl Print, written: Written) {
     match written {
         Written::Refused(n) => {
-            replay::print_refusal(n);
+            replay::print_refusal(rt, n);
         }
         Written::Bits(n) => {
-            replay::print(b"W ");
-            replay::print_number(n as u64);
-            replay::print(b" ");
-            replay::print_number(n as u64);
-            replay::print(b" ");
-            replay::print_number(n as u64);
-            replay::print_end();
+            replay::print(rt, b"W ");
+            replay::print_number(rt, n as u64);
+            replay::print(rt, b" ");
+            replay::print_number(rt, n as u64);
+            replay::print(rt, b" ");
+            replay::print_number(rt, n as u64);
+            replay::print_end(rt);
         }
     }
 }
 
 // The call, on the first places of a slice.
 fn write_into(
+    rt: &impl Print,
     fields: UplinkFields,
     payload: &[u8],
     auth: &[u8],
@@ -39,31 +40,32 @@ fn write_into(
     requires { (room ≤ length out.old) × (room ≤ 700) }
 {
     let written = writer::write_uplink(fields, payload, auth, &mut out[..room]);
-    print_written(written);
-    replay::print_slice(out, room);
-    replay::print_end()
+    print_written(rt, written);
+    replay::print_slice(rt, out, room);
+    replay::print_end(rt)
 }
 
-fn case(head: &[u8; 8]) -> bool {
+fn case(rt: &(impl Input + Print), head: &[u8; 8]) -> bool {
     let mut payload = [0u8; 13];
-    let p = replay::read_bytes(&mut payload);
+    let p = replay::read_bytes(rt, &mut payload);
     if !p.whole {
-        return replay::print_short();
+        return replay::print_short(rt);
     }
     let mut auth = [0u8; 6];
-    let a = replay::read_bytes(&mut auth);
+    let a = replay::read_bytes(rt, &mut auth);
     if !a.whole {
-        return replay::print_short();
+        return replay::print_short(rt);
     }
     let mut lent = [0u8; 3];
-    if !replay::read_part(&mut lent) {
-        return replay::print_short();
+    if !replay::read_part(rt, &mut lent) {
+        return replay::print_short(rt);
     }
     let mut out = [lent[2]; 700];
     let room = whole::least(endian::get_u16(&lent, 0) as usize, MOST_ROOM);
     let n = p.count;
     let m = a.count;
     write_into(
+        rt,
         replay_records::uplinks::fields_of(head),
         &payload[..n],
         &auth[..m],
@@ -72,19 +74,19 @@ fn case(head: &[u8; 8]) -> bool {
     )
 }
 
-fn turn() -> bool {
+fn turn(rt: &(impl Input + Print)) -> bool {
     let mut head = [0u8; 8];
-    match replay::read_head(&mut head) {
+    match replay::read_head(rt, &mut head) {
         Head::End => false,
-        Head::Cut => replay::print_short(),
-        Head::Whole => case(&head),
+        Head::Cut => replay::print_short(rt),
+        Head::Whole => case(rt, &head),
     }
 }
 
-fn main() {
+fn main(rt: HostRuntime) {
     let mut left = replay::MOST_CASES;
     while left > 0 {
-        if !turn() {
+        if !turn(&rt) {
             return;
         }
         left -= 1;

@@ -1,3 +1,4 @@
+-- The invariant: what is written, what is left to do and what is kept make the whole, and the state after what is left is the end's.
 use mathlib.Core.Path.{◌≡◌}
 use mathlib.Core.List.{◌++◌, map}
 use Prim.Native.Nat.{◌+◌, ◌-◌, ◌≤◌, ◌<◌}

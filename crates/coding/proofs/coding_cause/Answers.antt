@@ -1,3 +1,4 @@
+-- The tests stand in the order of the causes.
 use mathlib.Core.Path.{sym, ◌∙◌}
 use Rattle.coding.proofs.Causes.{short_out, long-bits, high-rank, not-bits, accepted}
 use Rattle.coding.proofs.coding_cause.Goals as goal

@@ -1,3 +1,4 @@
+-- The invariant: n is the number of the bytes from i on.
 use mathlib.Core.Path.{◌≡◌}
 use Prim.Native.Nat.{◌+◌, ◌-◌, ◌≤◌}
 use Rattle.endian.specs.Bytes.{number_at}

@@ -1,3 +1,4 @@
+-- 4 bytes make a number that fits.
 use native.Mathlib.Omega.{arith}
 use Rattle.endian.proofs.Numbers.{number_lt}
 use Rattle.endian.proofs.get_u32.Goals as goal

@@ -1,3 +1,4 @@
+-- The invariant: the bytes that are left, stored from here on, make the whole.
 use mathlib.Core.Path.{◌≡◌}
 use Prim.Native.Nat.{◌+◌, ◌-◌, ◌≤◌}
 use lib.ListN.{length}

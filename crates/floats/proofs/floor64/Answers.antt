@@ -1,3 +1,4 @@
+-- `proofs/Floors.antt` says what `floor` is for each range of the exponent's field.
 use Rattle.std.proofs.Common.{ℕ, ◌/◌, ◌%◌, ◌^◌, ◌<◌, ◌≤◌, true, false, T, sym, subst, arith, rules}
 use lib.Ieee.{binary64, fits, to_bits}
 use Rattle.floats.proofs.Fields.{negative, positive}

@@ -1,3 +1,4 @@
+-- The pattern that it makes is that of w, rounded, which is w.
 use Rattle.std.proofs.Common.{◌≡◌, ℕ, ◌^◌, ◌<◌, false, refl, ap, ◌∙◌, arith, rules}
 use lib.Ieee.{binary64, of_bits, round}
 use Rattle.floats.proofs.Whole.{at_most_lem, at_least, moved-lt, is_whole, not_nan}

@@ -1,3 +1,4 @@
+-- The invariant: the terms that are left, from here on, make the whole.
 use Rattle.std.proofs.Common.{◌≡◌, ◌-◌, ◌≤◌}
 use Rattle.floats.specs.Trig.{terms, series}
 use Rattle.floats.proofs.series_of.Given as goal

@@ -1,3 +1,4 @@
+-- `proofs/Saturating.antt` says what the whole part is for each range of the exponent's field.
 use Rattle.std.proofs.Common.{T, sym, subst, rules}
 use lib.Ieee.{binary64, fits}
 use Rattle.floats.proofs.Saturating.{whole-low, whole-mid, whole-high, whole_over}

@@ -1,3 +1,4 @@
+-- The invariant: what was seen is valid just where the first samples of both halves are.
 use mathlib.Core.Path.{◌≡◌}
 use Prim.Native.Nat.{◌-◌, ◌≤◌}
 use Rattle.limits.proofs.Pairs.{seen}

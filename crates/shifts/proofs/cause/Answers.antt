@@ -1,0 +1,11 @@
+use mathlib.Core.Path.{refl, sym, ◌∙◌}
+use Rattle.shifts.specs.Shifts.{shifts_cause}
+use Rattle.shifts.proofs.cause.Goals as goal
+
+pub returns-then-shifts_ok : goal.returns-then-shifts_ok
+unfolding shifts_cause
+returns-then-shifts_ok c = rw (sym c.shifts_ok.ensures ∙ c.if-shifts_ok.true) refl
+
+pub returns : goal.returns
+unfolding shifts_cause
+returns c = rw (sym c.shifts_ok.ensures ∙ c.if-shifts_ok.false) refl
