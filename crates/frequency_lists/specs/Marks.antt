@@ -1,5 +1,5 @@
 -- `retain` and `filter` on parallel lists: a mark for each element says whether it is taken. Assumes nothing.
-use Rattle.std.specs.Prelude.{ℕ, suc, Bool, true, false, ◌&&◌, List, [], ◌∷◌, ◌++◌, drop, set, slice_set}
+use Rattle.std.specs.Prelude.{ℕ, suc, Bool, true, false, ◌&&◌, List, [], ◌∷◌, ◌++◌, drop, slice_set}
 
 -- how many marks are set
 unfoldable pub marked : List Bool → ℕ

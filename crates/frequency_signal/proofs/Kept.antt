@@ -1,8 +1,8 @@
 -- What a line of samples keeps: the indices stay within the stream's count. Assumes nothing.
-use Rattle.std.proofs.Common.{ℕ, ◌+◌, ◌≤◌, Bool, true, false, List, [], ◌∷◌, arith}
+use Rattle.std.proofs.Common.{ℕ, ◌+◌, Bool, true, false, List, [], ◌∷◌, arith}
 use lib.Ieee.{Float, binary64, lt, add}
 use Rattle.frequency_signal.specs.declared.Sample.{Sample}
-use Rattle.frequency_signal.specs.declared.Sample.TheVariants.{Never, At}
+use Rattle.frequency_signal.specs.declared.Sample.TheVariants.{At}
 use Rattle.frequency_signal.specs.declared.Signal.{Signal}
 use Rattle.frequency_signal.specs.Seconds.{gap}
 use Rattle.frequency_signal.specs.Order.{Index}

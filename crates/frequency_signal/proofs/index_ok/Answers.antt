@@ -1,0 +1,6 @@
+use Rattle.std.proofs.Common.{sym, ap}
+use Rattle.frequency_signal.specs.Order.{index_ok}
+use Rattle.frequency_signal.proofs.index_ok.Goals as goal
+
+pub returns-in-At : goal.returns-in-At
+returns-in-At c = sym (ap (index_ok c.args.n) c.in-At.is)
