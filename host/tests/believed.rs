@@ -191,7 +191,7 @@ impl Tree {
                     .map(|rest| rest.trim_start_matches("extern \"C\" "));
                 let function = head
                     .and_then(|head| head.strip_prefix("fn "))
-                    .and_then(|rest| rest.split('(').next());
+                    .and_then(|rest| rest.split(['(', '<']).next());
                 inside = function.map_or(inside, |function| functions.contains(function));
                 inside &= line.trim() != "{";
                 if inside {

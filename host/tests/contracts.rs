@@ -28,7 +28,7 @@ fn module(folder: &Path, file: &Path) -> String {
 fn exported(line: &str) -> Option<&str> {
     let rest = line.trim_start().strip_prefix("pub ")?;
     let rest = rest.strip_prefix("extern \"C\" ").unwrap_or(rest);
-    rest.strip_prefix("fn ")?.split('(').next()
+    rest.strip_prefix("fn ")?.split(['(', '<']).next()
 }
 
 fn functions_of(folder: &Path, file: &Path) -> Vec<Function> {
