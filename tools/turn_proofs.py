@@ -62,7 +62,7 @@ class Fn:
 class Turn:
     """The rewriting of one declaration's text."""
 
-    accessors, wants, own = {}, {}, []
+    accessors, wants, aliases, own = {}, {}, {}, []
 
     def __init__(self, fn, warn, defs, goalname=None):
         self.fn, self.warn, self.defs, self.goalname = fn, warn, defs, goalname
@@ -93,8 +93,7 @@ class Turn:
         comps = text.split(".")
         v = comps[0]
         if v in self.args and len(comps) > 1:
-            if re.fullmatch(r"t\d+", comps[1]) and self.own and comps[1] not in self.own and int(comps[1][1:]) <= len(self.own):
-                comps[1] = self.own[int(comps[1][1:]) - 1]
+            comps[1] = self.arg(comps[1])
             return ("text", ".".join(comps))
         if v in self.prefixes:
             var, home, front = self.prefixes[v]
@@ -123,8 +122,8 @@ class Turn:
         s = norm(rest[0])
         s = {"pre": "requires", "well_formed": "well_formed"}.get(s, s)
         tail = [field(x) for x in rest[1:]]
-        if s == "args" and tail and re.fullmatch(r"t\d+", tail[0]) and self.own and tail[0] not in self.own and int(tail[0][1:]) <= len(self.own):
-            tail[0] = self.own[int(tail[0][1:]) - 1]
+        if s == "args" and tail:
+            tail[0] = self.arg(tail[0])
         if s in ROOT:
             return ("text", ".".join([var, s] + tail))
         anc = fn.ancestors(p)
@@ -140,12 +139,30 @@ class Turn:
         # the goal's own fields
         if s in ("type_inv", "auto", "ensures", "shown", "either", "branch", "kept"):
             return ("text", ".".join([var, s] + tail))
+        if s.endswith("_lem"):
+            return self.path(".".join(comps[:len(comps) - len(rest)] + [rest[0][:-4]] + rest[1:]))
         self.warn(f"step {rest[0]} of {text} not found from {fn.place[p]['old'] if p in fn.place else p}")
         return ("text", ".".join([var, rest[0]] + tail))
+
+    def arg(self, x):
+        """a parameter's name"""
+        if re.fullmatch(r"t\d+", x) and self.own and x not in self.own and int(x[1:]) <= len(self.own):
+            return self.own[int(x[1:]) - 1]
+        return x.replace("-", "_")
 
     def arm(self, var, home, step, tail):
         """what a step that a pattern makes gives, as a field of its arm (names.json has the old paths under `arms`)"""
         best = None
+        if norm(step).startswith("match") and tail[:1] == ["rest"]:
+            q = next((x for x in self.fn.ancestors(home) if norm(self.fn.place[x]["step"][0]) == norm(step)), None)
+            if q:
+                arms = [x for x in self.fn.place.values() if x["parent"] == self.fn.place[q]["parent"] and norm(x["step"][0]) == norm(step)]
+                keys = [x["step"][1].split("in-", 1)[-1] for x in arms if "keys" in x["old"]]
+                k, n = 1, 0
+                while k < len(tail) and tail[k] == "0":
+                    k, n = k + 1, n + 1
+                if k < len(tail) and tail[k] == "1" and n < len(keys):
+                    return ".".join([var, self.fn.place[q]["step"][1], "not-" + keys[len(keys) - 1 - n]] + tail[k + 1:])
         for q in self.fn.ancestors(home):
             a = self.fn.place[q].get("arm")
             if not a:
@@ -171,6 +188,8 @@ class Turn:
         if self.fn.place[q]["old"].startswith("At-loop"):
             if tail and tail[0] == "inv":
                 tail = ["invariant"] + tail[1:]
+            if tail and tail[0] not in ("invariant", "auto"):
+                tail = [tail[0].replace("-", "_")] + tail[1:]
             return tail
         if tail and tail[0] in ("new", "last"):
             tail = ["new"] + tail[1:]
@@ -182,11 +201,8 @@ class Turn:
                 tail = ["new", params[k - 1]] + tail[k + 1:]
         return tail
 
-    def body(self, text):
-        """rewrite a body (after the binders are in env)"""
-        # lets of places vanish
-        out = []
-        pos = 0
+    def expand(self, text):
+        """the helpers that lead to an earlier place, as paths"""
         while self.accessors:
             names = "|".join(re.escape(x) for x in sorted(self.accessors, key=len, reverse=True))
             arg = PATH.pattern.replace("(?<![\\w.\\-'«»₀-₉])", "", 1)
@@ -195,6 +211,14 @@ class Turn:
                 break
             name, what = (m.group(1), m.group(2)) if m.group(1) else (m.group(3), m.group(4))
             text = text[:m.start()] + what + ".‡" + self.accessors[name] + text[m.end():]
+        return text
+
+    def body(self, text):
+        """rewrite a body (after the binders are in env)"""
+        # lets of places vanish
+        out = []
+        pos = 0
+        text = self.expand(text)
         let = re.compile(r"let\s+(«?[\w\-'₀-₉]+»?)\s*=\s*")
         while True:
             m = let.search(text, pos)
@@ -418,7 +442,7 @@ def uses_for(uses, body, drop=()):
                     parts = [q for q in local.split("◌") if q]
                     if all(q in words or q in body for q in parts):
                         k.append(x)
-                elif local in words:
+                elif local in words or (not re.match(r"[\w«]", local) and local in body):
                     k.append(x)
             if k:
                 keep.append(f"use {m.group(1)}.{{{', '.join(k)}}}")
@@ -482,6 +506,8 @@ def invariants(fn, ds, warn):
 
 
 def place_of(fn, ty):
+    if ty.strip() in Turn.aliases:
+        return Turn.aliases[ty.strip()]
     m = re.match(r"^\(?(?:tie|lts)\.([A-Z][\w\-₀-₉]*)", ty.strip())
     if m and norm(m.group(1)) in fn.place:
         return norm(m.group(1))
@@ -491,6 +517,9 @@ def place_of(fn, ty):
 def typed(fn, tr, text, places):
     """a type with its record types in today's names, and its paths turned"""
     out, pos = [], 0
+    text = tr.expand(text)
+    for a, q in Turn.aliases.items():
+        text = re.sub(r"(?<![\w.\-])" + re.escape(a) + r"(?![\w\-'])", lambda m: "tie." + fn.place[q]["old"], text)
     for m in re.finditer(r"\b(?:tie|lts)\.([A-Z][\w\-₀-₉]*)", text):
         q = norm(m.group(1))
         if q not in fn.place or m.start() < pos:
@@ -573,7 +602,12 @@ def turn_file(crate, f, path, names, warn):
             if g:
                 defs[d["name"]] = g["new"]
     # helpers that only lead from a place to an earlier one, and the place that another helper takes first
-    Turn.accessors, Turn.wants = {}, {}
+    Turn.accessors, Turn.wants, Turn.aliases = {}, {}, {}
+    for d in ds:
+        if d["kind"] == "decl" and re.search(r": Type\b", d["sig"][0]) and len(d["eqs"]) == 1:
+            se = split_eq(d["eqs"][0][1])
+            if se and not se[1] and place_of(fn, se[2].strip()):
+                Turn.aliases[d["name"]] = place_of(fn, se[2].strip())
     Turn.own = params_of(crate, f)
     for d in ds:
         if d["kind"] == "decl" and d["name"] not in info and d["name"] not in inv_done:
@@ -657,7 +691,7 @@ def turn_file(crate, f, path, names, warn):
                 items.append([g["new"], txt])
         else:
             # a helper
-            if d["name"] in Turn.accessors:
+            if d["name"] in Turn.accessors or d["name"] in Turn.aliases:
                 continue
             sig = "\n".join(d["sig"])
             m = re.match(r"^((?:pub |abbrev |unfoldable )*)(\S+) :\s?", sig)

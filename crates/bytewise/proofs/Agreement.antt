@@ -16,7 +16,7 @@ use Rattle.conv_tables.specs.Tables.{decoded_byte, next_state}
 use Rattle.conv_tables.proofs.TableLaws.{decoded-entry, next-entry}
 use Rattle.bytewise.specs.Steps.{by_bytes, state_bytes}
 use Rattle.bytewise.specs.Answers.{state_is, bytes_cause, undone, bytes_answer, bytes_out, rest_out}
-use Rattle.bytewise.specs.Agreement.{by_tables, state_by_tables, Bytes, BytesAgree, StatesAgree, AnyLength, Call, CallAgrees}
+use Rattle.bytewise.specs.Agreement.{by_tables, state_by_tables, Bytes, BytesAgree, StatesAgree, AnyLength, CallAgrees}
 use Rattle.bytewise.proofs.Walk.{next-lt, bits-agree, states_agree}
 
 -- ---- the tables' walk is the rule's

@@ -1,10 +1,9 @@
 -- What the two walks of `deconvolve_bytes` leave is what goes bit by bit. Assumes nothing.
-use mathlib.Core.Path.{◌≡◌, refl, sym, ap, ap₂, ◌∙◌}
-use mathlib.Core.Bool.{Bool}
-use mathlib.Core.List.{List, ◌++◌, map}
+use mathlib.Core.Path.{◌≡◌, sym, ap, ap₂, ◌∙◌}
+use mathlib.Core.List.{List, map}
 use Prim.Native.Nat.{ℕ, ◌*◌}
 use lib.ListN.{length, drop}
-use Rattle.coding.specs.Bits.{odd, bit_of, bytes_bits, to_bytes}
+use Rattle.coding.specs.Bits.{odd, to_bytes}
 use Rattle.coding.specs.Convolution.{State, numbered, state_after, deconvolved}
 use Rattle.bytewise.specs.Steps.{by_bytes, state_bytes}
 use Rattle.bytewise.specs.Answers.{handed, undone}

@@ -1,17 +1,9 @@
 -- What the contract of `deconvolve_bytes` tells a caller is `Call` of the theorem, and it asks nothing of its caller; so the agreement holds of every call. Assumes nothing.
-use mathlib.Core.Path.{◌≡◌}
-use mathlib.Core.List.{◌++◌, map}
-use lib.ListN.{length, take}
 use contract.Lifetimes.{Lfts}
 use borrow.Fn.World.{ArgsD, ResD}
 use borrow.Fn.Kinds.{ended_of}
 use denote.Triple.Clauses.{AtExit}
-use Rattle.limits.specs.Answer.{accepted}
-use Rattle.coding.specs.Bits.{odd, bytes_bits}
-use Rattle.coding.specs.Convolution.{State, state_after, deconvolved}
-use Rattle.bytewise.specs.Answers.{state_is, said}
 use Rattle.bytewise.specs.Agreement.{Call}
-use Rattle.bytewise.proofs.Agreement.{call_agrees}
 use Rattle.bytewise.specs.contracts.deconvolve_bytes as bytes-fn
 use Rattle.bytewise.proofs.deconvolve_bytes.Kinds as kinds
 use Rattle.bytewise.proofs.deconvolve_bytes.Reads as reads

@@ -1,11 +1,11 @@
 -- Instances of the theorem and of the contract, computed. Assumes nothing.
 use mathlib.Core.Path.{◌≡◌, refl}
-use mathlib.Core.Bool.{Bool, true, false}
-use mathlib.Core.List.{List, [], ◌∷◌, ◌++◌}
+use mathlib.Core.Bool.{false}
+use mathlib.Core.List.{List, [], ◌∷◌}
 use Prim.Native.Nat.{ℕ}
-use Rattle.limits.specs.Answer.{Answer, refused, accepted, answer, leaves}
+use Rattle.limits.specs.Answer.{refused, accepted, answer, leaves}
 use Rattle.coding.specs.Bits.{digits, value, bytes_bits, to_bytes, are_bits}
-use Rattle.coding.specs.Convolution.{State, numbered, state_after, deconvolved}
+use Rattle.coding.specs.Convolution.{numbered, state_after, deconvolved}
 use Rattle.conv_tables.specs.Tables.{decoded_byte, next_state, tabulated, decoded_table, next_table}
 use Rattle.bytewise.specs.Answers.{bytes_cause, undone, bytes_answer, bytes_out, rest_out}
 use Rattle.bytewise.specs.Agreement.{by_tables, state_by_tables}

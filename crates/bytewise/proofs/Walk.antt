@@ -2,13 +2,13 @@
 use mathlib.Core.Path.{◌≡◌, refl, sym, ap, ap₂, ◌∙◌}
 use mathlib.Core.Bool.{Bool, true, false}
 use mathlib.Core.List.{List, [], ◌∷◌, ◌++◌, append_assoc, append-nil}
-use Prim.Native.Nat.{ℕ, zero, suc, ◌+◌, ◌*◌, ◌/◌, ◌%◌, ◌<◌}
+use Prim.Native.Nat.{ℕ, suc, ◌+◌, ◌*◌, ◌/◌, ◌%◌, ◌<◌}
 use native.Mathlib.Nat.{mod-eq_of_lt}
 use native.Mathlib.Omega.{arith}
 use lib.ListN.{length, take, drop}
 use lib.Seq.{take_at, drop_at}
 use Rattle.coding.specs.Bits.{odd, bit_of, digits, value, bytes_bits, to_bytes}
-use Rattle.coding.specs.Convolution.{State, state_of, state_number, numbered, state_after, deconvolved}
+use Rattle.coding.specs.Convolution.{State, state_number, numbered, state_after, deconvolved}
 use Rattle.coding.proofs.BitLaws.{bit-lt, bit-odd, plus-false}
 use Rattle.coding.proofs.Digits.{length_digits, value-digits}
 use Rattle.coding.proofs.Values.{digits_value}

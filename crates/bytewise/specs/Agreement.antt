@@ -1,13 +1,13 @@
 -- REQUEST 06'S THEOREM: "Bytewise and bitwise decoding agree for all lists of whole bytes and every starting state, shown over the rank; a remainder under
 -- eight bits goes bit by bit." Bitwise is coding's `deconvolved`, bytewise a walk by the tables' entries. Assumes nothing.
-use Rattle.std.specs.Prelude.{ℕ, ◌+◌, ◌*◌, ◌/◌, ◌≤◌, ◌<◌, ◌≡◌, Bool, List, [], ◌∷◌, ◌++◌, map, length, take, drop, get_or}
+use Rattle.std.specs.Prelude.{ℕ, ◌*◌, ◌/◌, ◌≤◌, ◌<◌, ◌≡◌, Bool, List, [], ◌∷◌, ◌++◌, map, length, take, drop, get_or}
 use Rattle.limits.specs.Answer.{accepted}
 use Rattle.coding.specs.Bits.{odd, bytes_bits, to_bytes}
 use Rattle.coding.specs.Convolution.{State, numbered, state_after, deconvolved}
 use Rattle.conv_tables.specs.Tables.{place, decoded_table, next_table}
 use Rattle.bytewise.specs.declared.ConvState.{ConvState}
 use Rattle.bytewise.specs.declared.Undone.{Undone}
-use Rattle.bytewise.specs.Answers.{state_is, said, bytes_answer, bytes_out, rest_out, undone}
+use Rattle.bytewise.specs.Answers.{state_is, said, bytes_answer, bytes_out, rest_out}
 
 -- the bytes that the tables give, one after the other, from the state of a number; and the number of the state after them
 unfoldable pub by_tables : ℕ → ℕ → List ℕ → List ℕ

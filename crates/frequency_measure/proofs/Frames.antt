@@ -2,7 +2,7 @@
 use mathlib.Core.Path.{◌≡◌, refl, sym, ap, ◌∙◌, subst}
 use mathlib.Core.Bool.{Bool, true, false, cond, ◌&&◌}
 use mathlib.Core.List.{List, [], ◌∷◌, ◌++◌, map}
-use Prim.Native.Nat.{ℕ, zero, suc, ◌+◌, ◌-◌, ◌≤◌, ◌<◌}
+use Prim.Native.Nat.{ℕ, zero, suc, ◌+◌, ◌≤◌, ◌<◌}
 use native.Mathlib.Nat.{le_of_suc-le-suc}
 use native.Mathlib.Numerals.{add-one}
 use native.Mathlib.Omega.{arith}
@@ -109,7 +109,9 @@ pub frame_some : (l : List Reading) (lo : ℕ) (hzs : List Float) → 0 < length
     → frame_of l ≡ pick_measured (leb fewest (length hzs)) (Found (median hzs) lo) Unmeasured
 unfolding frame_of last_or
 frame_some [] lo hzs h e p = absurd (omega arith)
-frame_some (x ∷ l) lo hzs h e p = rw (p, e) refl
+frame_some (x ∷ l) lo hzs h e p =
+    let at-last = λ (z : ℕ). map (λ (y : Reading). y.hz) (retained (map (λ (y : Reading). eqb y.lo z) (x ∷ l)) (x ∷ l)) in
+    rw p (subst (λ (z : ℕ). frame_of (x ∷ l) ≡ pick_measured (leb fewest (length (at-last z))) (Found (median (at-last z)) z) Unmeasured) (sym e) refl)
 
 -- ---- the parallel lists
 module _ (at lo : List ℕ) (hz : List Float) (p : length at ≡ length lo) (q : length at ≡ length hz) where

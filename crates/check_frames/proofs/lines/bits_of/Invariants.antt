@@ -1,3 +1,4 @@
+-- The digits are counted up.
 use Prim.Native.Nat.{◌-◌, ◌≤◌}
 use lib.ListN.{length}
 use Rattle.check_frames.proofs.lines.bits_of.Given as goal

@@ -1,0 +1,9 @@
+use mathlib.Core.Path.{◌≡◌}
+use lib.ListN.{length}
+use borrow.Author.Rules.{rules}
+use Rattle.receiver_message.proofs.SpanLaws.{front_is, length_mapped}
+use Rattle.receiver_message.proofs.in_front.Goals as goal
+
+pub returns : goal.returns
+returns c = let h : length c.args.spans ≡ 3 = search (rules, length_mapped) in
+    front_is c.args.spans h
