@@ -25,16 +25,21 @@ fn say_no_input(rt: &impl Eprint) -> bool {
     false
 }
 
-// A line on standard error: why the file of records can't be read, in the system's words alone.
+// The system's words of an error's text, without its number behind them.
+fn words_of(text: &str) -> &str {
+    match text.split_once(" (os error ") {
+        Some((words, _)) => words,
+        None => text,
+    }
+}
+
+// A line on standard error: why the file of records can't be read.
 fn say_why(rt: &(impl Eprint + Alloc), error: Error) {
     let Ok(text) = format!(in rt.alloc(); "{error}") else {
         let _ = eprintln!(rt; "grips: the file of records: {error}");
         return;
     };
-    let words = match text.split_once(" (os error ") {
-        Some((words, _)) => words,
-        None => text.as_str(),
-    };
+    let words = words_of(text.as_str());
     let _ = eprintln!(rt; "grips: the file of records: {words}");
 }
 

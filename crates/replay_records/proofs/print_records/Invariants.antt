@@ -1,3 +1,4 @@
+-- The invariant: the records counted lie within the buffer.
 use Prim.Native.Nat.{◌-◌, ◌*◌, ◌≤◌}
 use mathlib.Core.Path.{◌≡◌}
 use lib.ListN.{length}
