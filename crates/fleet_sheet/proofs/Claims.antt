@@ -15,7 +15,7 @@ use Rattle.event_list.proofs.SumLaws.{sum_perm, those_perm}
 use Rattle.fleet_sheet.specs.declared.Sheet.{Sheet}
 use Rattle.fleet_sheet.specs.Fleet.{each, has_ranks, halves_of, min_z, max_z, over_from, over, is_of, row_from, row_of, devices_of}
 use Rattle.fleet_sheet.specs.Report.{said, most_devices, sheet_places, nine, sheet_of, sheet, fleet_messages, sheet_cause, fleet_cause}
-use Rattle.fleet_sheet.specs.Claims.{Call, device_at, MessageOf, Devices, EveryDevice, column, EverySum, AnyOrder}
+use Rattle.fleet_sheet.specs.Claims.{Call, device_at, MessageOf, EveryDevice, column, EverySum, AnyOrder}
 use Rattle.fleet_sheet.proofs.NumberLaws.{min_assoc, max_assoc, min_comm, max_comm}
 use Rattle.fleet_sheet.proofs.DeviceLaws.{has, has_insert, has_at, devices_perm, rising-devices, none_of, delta, delta-once, sum-insert}
 

@@ -1,8 +1,6 @@
 -- Rows one behind the other in a list of numbers: read, stored and moved. Assumes nothing.
-use Rattle.std.proofs.Common.{◌≡◌, ℕ, zero, suc, ◌+◌, ◌-◌, ◌*◌, ◌<◌, ◌≤◌, List, [], ◌∷◌, ◌++◌, map, length, get_or, take, drop, set, ℤ, pos, sym, refl, ap, ◌∙◌, subst, append_assoc, arith, length-append, length-drop, length-take-le, get_or-drop, drop-cons, get_or-take, take-take, take_at, drop_at}
-use mathlib.Core.List.{map-append}
-use lib.ListN.{length-map}
-use lib.Seq.{sets, sets-eq, length-sets, slice, length-slice, take-append-le, take-set-lt, take-nil, drop-nil}
+use Rattle.std.proofs.Common.{◌≡◌, ℕ, zero, suc, ◌+◌, ◌*◌, ◌<◌, ◌≤◌, List, [], ◌∷◌, ◌++◌, map, length, get_or, take, drop, set, ℤ, pos, sym, refl, ap, ◌∙◌, append_assoc, arith, length-append, length-take-le, get_or-drop, drop-cons, get_or-take, take-take, take_at, drop_at}
+use lib.Seq.{sets, sets-eq, slice, length-slice, take-append-le, take-set-lt, take-nil, drop-nil}
 use Rattle.fleet_sheet.specs.declared.rows.Row.{Row}
 use Rattle.fleet_sheet.specs.Table.{numbers, flat, row_at, shifted}
 use Rattle.fleet_sheet.proofs.PlaceLaws.{length-shifted}

@@ -1,5 +1,5 @@
 -- Signed numbers: the lower and the higher of two, and how far a sum may lie from 0. Assumes nothing.
-use Rattle.std.proofs.Common.{◌≡◌, ℕ, suc, ◌+◌, ◌-◌, ◌^◌, ◌<◌, ◌≤◌, min, max, Bool, true, false, cond, ltb, ℤ, pos, negsuc, ◌+ℤ◌, sym, refl, ap, ◌∙◌, true≢false, pow-suc, arith, ltb-false, ltb-true}
+use Rattle.std.proofs.Common.{◌≡◌, ℕ, suc, ◌+◌, ◌-◌, ◌^◌, ◌<◌, ◌≤◌, min, max, Bool, true, false, cond, ltb, ℤ, pos, negsuc, ◌+ℤ◌, sym, refl, ap, true≢false, pow-suc, arith, ltb-false, ltb-true}
 use lib.IntN.{sub_ℕ}
 use lib.Signed.{mag, lt_z}
 use lib.Ieee.{binary64, of_bits, of_int, round}

@@ -1,5 +1,5 @@
 -- The place of a number in a rising list, and moving a part of a list on. Assumes nothing.
-use Rattle.std.proofs.Common.{◌≡◌, ℕ, zero, suc, ◌+◌, ◌-◌, ◌<◌, ◌≤◌, true, eqb, ltb, List, [], ◌∷◌, ◌++◌, length, get_or, take, drop, set, sym, refl, ap, ◌∙◌, subst, ⊎_elim, eq-or-lt_of_le, arith, length-append, length-drop, take-append-drop, length-take-le, get_or-take, take-suc, ltb-true, le-ltb, lt-ltb, eqb-true}
+use Rattle.std.proofs.Common.{◌≡◌, ℕ, zero, suc, ◌+◌, ◌<◌, ◌≤◌, true, eqb, ltb, List, [], ◌∷◌, ◌++◌, length, get_or, take, drop, set, sym, refl, ap, ◌∙◌, subst, ⊎_elim, eq-or-lt_of_le, arith, length-append, length-drop, take-append-drop, length-take-le, get_or-take, take-suc, ltb-true, le-ltb, lt-ltb, eqb-true}
 use lib.ListN.{get_or-append}
 use lib.Seq.{slice, slice-cons, slice_empty, length-slice, append_snoc, set_at}
 use Rattle.limits.proofs.Samples.{and_left, and_right}

@@ -1,14 +1,13 @@
 -- The row of a device as its messages come, and how far its sums may lie from 0. Assumes nothing.
-use Rattle.std.proofs.Common.{◌≡◌, ℕ, suc, ◌+◌, ◌*◌, ◌^◌, ◌<◌, ◌≤◌, Bool, true, false, cond, eqb, List, [], ◌∷◌, ◌++◌, length, ℤ, pos, ◌+ℤ◌, sym, refl, ap, ◌∙◌, subst, arith, lit<}
+use Rattle.std.proofs.Common.{◌≡◌, ℕ, ◌*◌, ◌^◌, ◌<◌, ◌≤◌, Bool, true, false, eqb, List, [], ◌∷◌, ◌++◌, length, ℤ, ◌+ℤ◌, sym, ap, ◌∙◌, arith, lit<}
 use lib.Signed.{mag}
-use lib.Ieee.{binary64, mul, to_signed}
+use lib.Ieee.{binary64, mul}
 use lib.Ieee.Casts.{to_signed_in}
 use Rattle.floats.specs.Number.{num}
 use Rattle.floats.specs.Floor.{floor}
 use Rattle.record.specs.Readers.{ppm_of, rssi_of}
 use Rattle.event_list.specs.Sums.{sum_of}
 use Rattle.event_list.proofs.SumLaws.{sum-append, sum_one}
-use Rattle.fleet_sheet.specs.declared.rows.Row.{Row}
 use Rattle.fleet_sheet.specs.Fleet.{ranks_of, half_decibels, halves_of, one_if, has_ranks, each, min_z, max_z, over_from, over, row_from}
 use Rattle.fleet_sheet.specs.Table.{single, merge, Small}
 use Rattle.fleet_sheet.proofs.NumberLaws.{sum-le, min_assoc, max_assoc, min_comm, max_comm}

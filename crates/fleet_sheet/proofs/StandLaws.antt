@@ -1,5 +1,5 @@
 -- The rows stand for the messages read so far: kept by every record. Assumes nothing.
-use Rattle.std.proofs.Common.{◌≡◌, ℕ, suc, ◌+◌, ◌*◌, ◌^◌, ◌<◌, ◌≤◌, Bool, true, false, cond, ◌&&◌, eqb, ltb, List, [], ◌∷◌, ◌++◌, map, length, get_or, take, drop, set, ℤ, sym, refl, ap, ◌∙◌, subst, true≢false, append_assoc, append-nil, arith, length-append, length-drop, length-set, length-take-le, get_or-take, ltb-false, ltb-true, le-ltb, lt-ltb, eq-eqb, ne_eqb, eqb-true}
+use Rattle.std.proofs.Common.{◌≡◌, ℕ, ◌+◌, ◌*◌, ◌^◌, ◌<◌, ◌≤◌, Bool, true, false, cond, ◌&&◌, eqb, ltb, List, [], ◌∷◌, ◌++◌, map, length, get_or, take, drop, set, ℤ, sym, refl, ap, ◌∙◌, subst, true≢false, append_assoc, append-nil, arith, length-append, length-drop, length-set, length-take-le, get_or-take, ltb-false, ltb-true, eq-eqb, ne_eqb, eqb-true}
 use mathlib.Core.List.{map-append}
 use lib.ListN.{length-map, get_or-map}
 use lib.Seq.{sets, length-sets}
@@ -9,14 +9,14 @@ use Rattle.event_list.specs.Events.{is_message, messages_of}
 use Rattle.event_list.specs.Sums.{those}
 use Rattle.event_list.proofs.SumLaws.{those-append, those_one, those_none, those-le}
 use Rattle.fleet_sheet.specs.declared.rows.Row.{Row}
-use Rattle.fleet_sheet.specs.Fleet.{is_of, row_from, row_of, insert, devices_of}
+use Rattle.fleet_sheet.specs.Fleet.{is_of, row_from, row_of, devices_of}
 use Rattle.fleet_sheet.specs.Table.{single, merge, Small, numbers, flat, row_at, place_of, shifted, at, is_there, is_known, taken_count, taken_ids, taken_table, rows_most, Stands, Gathered}
 use Rattle.fleet_sheet.specs.declared.Tally.{Tally}
 use Rattle.fleet_sheet.specs.Tallies.{Held}
 use Rattle.fleet_sheet.proofs.PlaceLaws.{length-shifted}
 use Rattle.fleet_sheet.proofs.DeviceLaws.{three, has, devices_more, rising-devices, none_of, some_of, there_is, insert_at, has_at, place-le, insert-le}
 use Rattle.fleet_sheet.proofs.RowLaws.{row_one, row_more, row_small}
-use Rattle.fleet_sheet.proofs.FlatLaws.{length-flat, flat_append, take-flat, drop-flat, row_read, take_sets, sets_flat, gap-filled, map_same, map_one, map-take, map-drop}
+use Rattle.fleet_sheet.proofs.FlatLaws.{flat_append, take-flat, drop-flat, row_read, take_sets, sets_flat, gap-filled, map_same, map_one, map-take, map-drop}
 use Rattle.fleet_sheet.proofs.TakenLaws.{Took}
 
 there_same : (d p n : ℕ) (ids : List ℕ) → n ≤ length ids → is_there d p n ids ≡ is_there d p (length (take n ids)) (take n ids)

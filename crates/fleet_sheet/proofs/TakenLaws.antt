@@ -1,7 +1,6 @@
 -- The four ways of taking a record into the rows. Assumes nothing.
-use Rattle.std.proofs.Common.{◌≡◌, ℕ, ◌+◌, ◌*◌, ◌^◌, ◌<◌, ◌≤◌, Bool, true, false, cond, ◌&&◌, eqb, ltb, List, get_or, take, set, ℤ, pos, sym, refl, ap, ◌∙◌, subst, arith, ltb-true, le-ltb, lt-ltb}
+use Rattle.std.proofs.Common.{◌≡◌, ℕ, ◌+◌, ◌*◌, ◌<◌, ◌≤◌, Bool, true, false, eqb, ltb, List, get_or, take, set, ℤ, sym, refl, ap, ◌∙◌, ltb-true, le-ltb, lt-ltb}
 use lib.Seq.{sets}
-use lib.Signed.{mag}
 use Rattle.limits.proofs.Samples.{and_left}
 use Rattle.record.specs.Readers.{device_of}
 use Rattle.event_list.specs.Events.{is_message}

@@ -1,13 +1,13 @@
 -- REQUEST 09'S CLAIMS, over every call of `fleet_report`: which devices have a row, 'the sums over all devices equal those over all message records', and that the order of the records doesn't matter.
 -- `Call` is what the contract of `fleet_report` ensures of a call; proofs/Contracts.antt takes it from the contract itself. Assumes nothing.
-use Rattle.std.specs.Prelude.{◌≡◌, ℕ, zero, suc, ◌+◌, ◌*◌, ◌<◌, List, [], length, drop, ℤ, pos, ◌+ℤ◌, slice_index_or}
+use Rattle.std.specs.Prelude.{◌≡◌, ℕ, zero, suc, ◌*◌, ◌<◌, List, [], length, drop, ℤ, pos, ◌+ℤ◌, slice_index_or}
 use Rattle.std.proofs.lemmas.List.Edits.{sets}
 use Rattle.limits.specs.Answer.{answer, number, leaves, accepted}
 use Rattle.record.specs.Readers.{device_of}
 use Rattle.event_list.specs.Events.{Reordered}
-use Rattle.event_list.specs.Sums.{those, sum_of}
+use Rattle.event_list.specs.Sums.{sum_of}
 use Rattle.fleet_sheet.specs.declared.Sheet.{Sheet}
-use Rattle.fleet_sheet.specs.Fleet.{each, has_ranks, halves_of, devices_of}
+use Rattle.fleet_sheet.specs.Fleet.{has_ranks, halves_of, devices_of}
 use Rattle.fleet_sheet.specs.Report.{said, sheet, fleet_messages, fleet_cause}
 
 -- a call: the records, the result list before and after it, and its answer

@@ -1,5 +1,5 @@
 -- frequency.rs: the tracker as a record with its lists, and each call as a function on it. Assumes nothing.
-use Rattle.std.specs.Prelude.{ℕ, ◌+◌, Bool, true, false, cond, not, List, [], ◌∷◌, ◌++◌, map, ltb, eqb, length, Float}
+use Rattle.std.specs.Prelude.{ℕ, Bool, true, false, cond, not, List, [], ◌∷◌, ◌++◌, map, ltb, eqb, length, Float}
 use Rattle.frequency_signal.specs.declared.Signal.{Signal}
 use Rattle.frequency_signal.specs.Seconds.{quiet, late, kept}
 use Rattle.frequency_signal.specs.Heard.{heard}
