@@ -3,7 +3,6 @@ use Rattle.std.proofs.Common.{◌≡◌, ℕ, ◌+◌, ◌-◌, ◌/◌, ◌<◌
 use mathlib.Core.Option.{none, some}
 use lib.ListN.{length-map}
 use lib.Ieee.{Float, nan, binary64, to_unsigned}
-use Rattle.floats.specs.Number.{num}
 use Rattle.floats.proofs.Saturating.{signed-fits}
 use Rattle.clock.specs.declared.Clock.{Clock}
 use Rattle.clock.specs.declared.Fit.TheVariants.{Astray, Fitted}

@@ -8,7 +8,7 @@ use Rattle.floats.specs.Trig.{magnitude}
 use Rattle.order.specs.Sorted.{insert, sorted}
 use Rattle.order.specs.Order.{place, key, kth}
 use Rattle.dips.specs.Dips.{Dip}
-use Rattle.clock.specs.Clock.{size_of, lost, at_most, Point, BitClock, last_index, refit, index_at, skips, pushed, joined, track, start_clock}
+use Rattle.clock.specs.Clock.{size_of, lost, at_most, Point, last_index, refit, index_at, skips, pushed, joined, track, start_clock}
 use Rattle.clock.specs.Bits.{median_depth}
 
 dip : Float → Float → Dip

@@ -11,7 +11,7 @@ use Rattle.clock.specs.Numbers.{farthest_bit}
 use Rattle.clock.specs.Running.{step, astray, after, added, kept, fit_from, points_from, depths_from}
 use Rattle.order.specs.Order.{Numbers}
 use Rattle.dips.proofs.DipLaws.{lt_or_ge}
-use Rattle.dips.proofs.Depths.{Number, AllNumbers}
+use Rattle.dips.proofs.Depths.{AllNumbers}
 use Rattle.clock.proofs.FitLaws.{Point, joined-point}
 use Rattle.clock.specs.Walk.{Rising, flat, rise}
 

@@ -5,7 +5,6 @@ use lib.IntN.{suc_ℤ}
 use lib.Ieee.{Float, binary64, add, sub, mul, div, lt}
 use lib.Ieee.Fits.{div-fits}
 use Rattle.floats.specs.Number.{num}
-use Rattle.order.specs.Order.{kth}
 use Rattle.dips.specs.Dips.{Dip, positions_of, depths_of}
 use Rattle.clock.specs.declared.Clock.{Clock}
 use Rattle.clock.specs.declared.Fit.{Fit}

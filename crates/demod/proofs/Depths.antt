@@ -1,7 +1,7 @@
 -- Depths worked out: 'half decibels, rounded down, 255 if more'. Assumes nothing.
 use mathlib.Core.Path.{◌≡◌, refl}
 use Prim.Native.Nat.{ℕ}
-use lib.Ieee.{Float, binary64, of_int, of_bits, mul, div, round, to_unsigned}
+use lib.Ieee.{binary64, of_int, of_bits, mul, div, round, to_unsigned}
 use Rattle.floats.specs.Floor.{floor}
 use Rattle.floats.specs.Number.{num}
 use Rattle.demod.specs.Decode.{depth_byte}

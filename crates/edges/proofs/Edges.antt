@@ -8,7 +8,7 @@ use lib.Ieee.{Float, round, neg, add, sub, mul, div, lt, le, eq, of_int, of_bits
 use Rattle.floats.specs.Floor as floats
 use Rattle.floats.specs.Floor.{round_half_up}
 use Rattle.floats.specs.Trig.{magnitude}
-use Rattle.floats.specs.Number.{num, near}
+use Rattle.floats.specs.Number.{num}
 use Rattle.order.specs.Order.{place, key, kth}
 use Rattle.order.specs.Sorted.{insert, sorted}
 use Rattle.coding.specs.Bits.{digits, value, bytes_bits}

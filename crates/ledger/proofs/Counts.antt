@@ -1,6 +1,6 @@
 -- How many frames and open messages a call can have, from any state that is in order.
 use mathlib.Core.Path.{◌≡◌, refl}
-use mathlib.Core.Logic.{◌⊎◌, ⊎_elim}
+use mathlib.Core.Logic.{⊎_elim}
 use mathlib.Core.List.{List, [], ◌∷◌, ◌++◌}
 use mathlib.Core.Bool.{Bool, true, false, cond}
 use mathlib.Core.Option.{Option, none, some}
@@ -12,9 +12,7 @@ use lib.Ieee.{Float}
 use borrow.Author.Tests.{leb-false}
 use Rattle.ledger.specs.Types.{DecodedFrame, Burst}
 use Rattle.ledger.specs.Frames.{frame_at, rank_of, right_crc, start_of}
-use Rattle.ledger.specs.Merge.{place}
 use Rattle.ledger.specs.Ledger.{Kind, Demod, capacity, half, tail, seconds, Ledger, join, hear, remember, takes, take_one, take_each, forget, scan, halve, amount, add, scanned, due, fill, fills}
-use Rattle.ledger.specs.Causes.{waits}
 use Rattle.ledger.specs.Room.{Fair, ThroughBursts, ThroughFill, ThroughFills, Room, push_frames}
 use Rattle.ledger.proofs.Basics.{either, map-join}
 use Rattle.ledger.proofs.Spacing.{heard_starts, Spread, taken, one-spread, forget-spread, scanned-spread, add-spread}

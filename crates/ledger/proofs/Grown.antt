@@ -1,6 +1,6 @@
 -- A ledger that grew from a fresh one: at most 34 messages wait, and it is in order.
 use mathlib.Core.Path.{◌≡◌, refl, sym, ap}
-use mathlib.Core.Logic.{◌⊎◌, ⊎_elim}
+use mathlib.Core.Logic.{⊎_elim}
 use mathlib.Core.List.{List, [], ◌∷◌, ◌++◌, map}
 use mathlib.Core.Bool.{false, ◌&&◌}
 use mathlib.Core.Option.{none, some}

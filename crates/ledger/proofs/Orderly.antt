@@ -1,24 +1,23 @@
 -- A ledger that grew from a fresh one is in order; and no call, from any state that is in order, needs more room than there is.
 use mathlib.Core.Path.{◌≡◌, refl}
-use mathlib.Core.Logic.{◌⊎◌, inl, ⊎_elim}
+use mathlib.Core.Logic.{inl, ⊎_elim}
 use mathlib.Core.List.{List, [], ◌∷◌, ◌++◌}
 use mathlib.Core.Bool.{true}
-use Prim.Native.Nat.{ℕ, zero, suc, ◌+◌, ◌-◌, ◌*◌, ◌≤◌, ◌<◌}
+use Prim.Native.Nat.{ℕ, zero, suc, ◌+◌, ◌*◌, ◌≤◌, ◌<◌}
 use native.Mathlib.Omega.{arith}
 use lib.ListN.{length, take, drop}
 use lib.Dec.{eqb}
 use lib.Ieee.{Float}
-use Rattle.limits.specs.Limits.{stream, longest_stream}
+use Rattle.limits.specs.Limits.{longest_stream}
 use Rattle.limits.specs.Samples.{is_dbm, all_dbm}
 use Rattle.ledger.specs.Types.{Burst}
-use Rattle.ledger.specs.Merge.{place}
 use Rattle.ledger.specs.Ledger.{Kind, Demod, capacity, half, spaced, Ledger, Call, push, flush, ready, fresh, take_one, take_each, forget, scan, halve, amount, add, fill, fills, start_call, scans, now, closed, messages}
-use Rattle.ledger.specs.Causes.{oldest_s, most_waiting, below, waits, unlike, all_fit, Attempt, number, after_call, after}
+use Rattle.ledger.specs.Causes.{oldest_s, most_waiting, unlike, all_fit, Attempt, number, after_call, after}
 use Rattle.ledger.specs.Room.{Fair, InOrder, Accepts, Accepted, ThroughBursts, Through, Room, push_frames, flush_frames, Bounded}
 use Rattle.ledger.proofs.Firsts.{first_none}
 use Rattle.ledger.proofs.Basics.{either, and_true}
 use Rattle.ledger.proofs.Spacing.{start-spread, none_far}
-use Rattle.ledger.proofs.Pigeon.{third, fits}
+use Rattle.ledger.proofs.Pigeon.{third}
 use Rattle.ledger.proofs.Bursts.{Proper, proper, few}
 use Rattle.ledger.proofs.Sizes.{scan-still, due_held, scans-small}
 use Rattle.ledger.proofs.OpenKinds.{Lawful}

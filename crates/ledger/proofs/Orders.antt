@@ -13,8 +13,6 @@ use Rattle.ledger.specs.Ledger.{Kind, capacity, Ledger, Call, push, flush}
 use Rattle.ledger.specs.Causes.{most_starts, oldest_s, most_waiting, below, since, unlike, all_fit, starts_ordered, counts_of, orderly, any_nan, Lent, too_short, call_cause, cause}
 use Rattle.ledger.specs.Room.{Below, Since, InOrder, Accepted}
 use Rattle.ledger.proofs.Basics.{and_true}
-use Rattle.ledger.proofs.Pigeon.{fits}
-use Rattle.ledger.proofs.Bursts.{few}
 
 -- ---- starts
 

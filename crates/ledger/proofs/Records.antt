@@ -1,9 +1,8 @@
 -- Laws of the records: who is written, and whose frames are whose.
 use mathlib.Core.Path.{◌≡◌, refl, sym, ap, ◌∙◌}
-use mathlib.Core.Logic.{◌⊎◌, ⊎_elim}
+use mathlib.Core.Logic.{⊎_elim}
 use mathlib.Core.List.{List, [], ◌∷◌, ◌++◌}
 use mathlib.Core.Bool.{Bool, true, false, not, ◌&&◌, ◌||◌, cond, or-true, or_assoc, and-false}
-use Prim.Native.Nat.{◌+◌, ◌-◌}
 use borrow.Author.Tests.{not-true}
 use Rattle.ledger.specs.Frames.{Key, same}
 use Rattle.ledger.specs.Demand3.{SeenFrame, SeenMessage, Seen, frame, message, written, Belongs, mine}

@@ -1,7 +1,6 @@
 -- The bursts of a scan lie in a row; and the ledger's whole numbers are the Rust's binary64 expressions, for every accepted rate.
-use mathlib.Core.Path.{◌≡◌, refl, sym, ap, ◌∙◌}
+use mathlib.Core.Path.{◌≡◌, sym, ◌∙◌}
 use mathlib.Core.List.{List, [], ◌∷◌}
-use mathlib.Core.Bool.{true}
 use Prim.Native.Nat.{ℕ, ◌+◌, ◌-◌, ◌*◌, ◌^◌, ◌≤◌}
 use native.Mathlib.Omega.{arith}
 use lib.ListN.{length}
@@ -15,7 +14,7 @@ use Rattle.rates.proofs.Lengths.{long_at_is}
 use Rattle.bursts.specs.declared.Burst.{Burst}
 use Rattle.bursts.specs.Levels.{noise_floor}
 use Rattle.bursts.specs.Bursts.{gap_samples}
-use Rattle.bursts.proofs.Rows.{InRow, done, next, bursts_in_row}
+use Rattle.bursts.proofs.Rows.{InRow, next, bursts_in_row}
 use Rattle.ledger.specs.Scanning.{scan_min_ms, scan_options, held_bursts}
 use Rattle.ledger.specs.Ledger.{capacity, tail, dist, close}
 use Rattle.ledger.specs.Room.{gap, Row}

@@ -1,6 +1,6 @@
 -- No two frames start under 0.3 s apart: a start that is forgotten is too far back to matter.
 use mathlib.Core.Path.{◌≡◌, refl, sym, ◌∙◌}
-use mathlib.Core.Logic.{◌⊎◌, ⊎_elim}
+use mathlib.Core.Logic.{⊎_elim}
 use mathlib.Core.List.{List, [], ◌∷◌, ◌++◌, map, append_assoc, append-nil}
 use mathlib.Core.Bool.{true, false, not, ◌&&◌, ◌||◌, or_assoc}
 use mathlib.Core.Option.{Option, none, some}

@@ -2,13 +2,13 @@
 use mathlib.Core.Path.{◌≡◌, refl, sym}
 use mathlib.Core.List.{List, [], ◌++◌, map, append_assoc, append-nil}
 use mathlib.Core.Bool.{true, cond}
-use Prim.Native.Nat.{ℕ, zero, suc, ◌+◌, ◌-◌, ◌≤◌}
+use Prim.Native.Nat.{ℕ, zero, suc, ◌+◌, ◌≤◌}
 use native.Mathlib.Omega.{arith}
 use lib.ListN.{length}
 use lib.Dec.{eqb}
 use borrow.Author.Tests.{ne_eqb}
 use Rattle.ledger.specs.Frames.{start_of}
-use Rattle.ledger.specs.Ledger.{ranked, by_frames, Demod, capacity, spaced, Ledger, join, Call, push, flush, ready, chosen, fresh, scans, now, closed, messages}
+use Rattle.ledger.specs.Ledger.{by_frames, Demod, capacity, spaced, Ledger, Call, push, flush, ready, chosen, fresh, scans, now, closed, messages}
 use Rattle.ledger.specs.Causes.{after_call, call_events}
 use Rattle.ledger.specs.Demand3.{Seen, samples_of, mine}
 use Rattle.ledger.specs.History.{see}

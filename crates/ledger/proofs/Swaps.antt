@@ -1,6 +1,6 @@
 -- Two open messages that stand in either order, and what joining and closing make of them.
 use mathlib.Core.Path.{◌≡◌, refl, ap}
-use mathlib.Core.Logic.{◌⊎◌, ⊎_elim}
+use mathlib.Core.Logic.{⊎_elim}
 use mathlib.Core.List.Perm
 use mathlib.Core.List.{List, [], ◌∷◌, ◌++◌, Perm}
 use mathlib.Core.Bool.{Bool, true, false, not}

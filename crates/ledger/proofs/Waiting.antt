@@ -1,9 +1,8 @@
 -- Laws of the open messages: the frames that wait under a key.
 use mathlib.Core.Path.{◌≡◌, refl, sym, ap, ◌∙◌}
-use mathlib.Core.Logic.{◌⊎◌, ⊎_elim}
+use mathlib.Core.Logic.{⊎_elim}
 use mathlib.Core.List.{List, [], ◌∷◌, ◌++◌, map}
 use mathlib.Core.Bool.{Bool, true, false, ◌||◌, cond, or-true}
-use Prim.Native.Nat.{◌+◌, ◌-◌}
 use Rattle.ledger.specs.Frames.{Key, same, Frame, key_of}
 use Rattle.ledger.specs.Ledger.{Message, message_key, by_frames, join, chosen, others}
 use Rattle.ledger.specs.Demand3.{SeenFrame, written}

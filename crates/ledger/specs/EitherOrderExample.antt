@@ -6,7 +6,7 @@ use Rattle.std.proofs.Math.Option.{some}
 use Rattle.std.specs.Float.Ieee.{neg, of_int, lt, sub, add, mul, div, le, round}
 use Rattle.floats.specs.Number.{num}
 use Rattle.ledger.specs.Types.{Unchanged, Absent, DecodedFrame, Burst, Pending}
-use Rattle.ledger.specs.Frames.{Frame, frame_at, key_of, rank_of, right_crc, time_of, rssi_of}
+use Rattle.ledger.specs.Frames.{Frame, frame_at, key_of, rank_of, right_crc, time_of}
 use Rattle.ledger.specs.Merge as merge
 use Rattle.ledger.specs.Ledger as ledger
 use Rattle.ledger.specs.Ledger.{Demod, Ledger, Message, by_frames, by_entry, Call, push, scans, closed, messages}

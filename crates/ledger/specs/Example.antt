@@ -1,6 +1,6 @@
 -- One run worked out, so that nobody can call the claims empty. At 200 samples/s a frame from 1.00 to 2.45 s is heard in the push that brings 3 s; a push with short
 -- scratch is refused with 2; the message is written in the push that brings 11.1 s, or in a flush where that comes first.
-use Rattle.std.specs.Prelude.{◌≡◌, refl, List, [], ◌∷◌, map, Bool, true, false, cond, ℕ, ◌-◌, ◌≤◌, length, replicate, leb, pos, Float}
+use Rattle.std.specs.Prelude.{◌≡◌, refl, List, [], ◌∷◌, map, Bool, true, false, cond, ℕ, ◌≤◌, length, replicate, leb, pos, Float}
 use Rattle.std.proofs.Common.{sym, ap, arith, leb-true}
 use Rattle.std.proofs.Math.Option.{some}
 use Rattle.std.specs.Float.{binary64}

@@ -1,4 +1,4 @@
-use Rattle.std.proofs.Common.{◌≡◌, ◌-◌, get_or, refl, ap, ◌∙◌, arith}
+use Rattle.std.proofs.Common.{◌≡◌, get_or, refl, ap, ◌∙◌, arith}
 use lib.Seq.{slice}
 use lib.Ieee.{Float, nan}
 use Rattle.floats.specs.Trig.{sine, cosine}

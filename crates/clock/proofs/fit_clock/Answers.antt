@@ -1,4 +1,4 @@
-use Rattle.std.proofs.Common.{◌-◌, sym, refl, ◌∙◌, arith, lt-length-set}
+use Rattle.std.proofs.Common.{sym, refl, ◌∙◌, arith, lt-length-set}
 use Rattle.clock.proofs.FitLaws.{joined-point, fit_start, fit_end, fit-lost, fit-skipped, fit-joined}
 use Rattle.clock.proofs.fit_clock.Goals as goal
 

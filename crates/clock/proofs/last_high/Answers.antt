@@ -1,4 +1,4 @@
-use Rattle.std.proofs.Common.{◌-◌, sym, refl, ◌∙◌, arith}
+use Rattle.std.proofs.Common.{sym, refl, ◌∙◌, arith}
 use Rattle.clock.proofs.EndLaws.{high_here, high-below, high_none}
 use Rattle.clock.proofs.last_high.Goals as goal
 

@@ -1,0 +1,26 @@
+use Rattle.frequency.specs.Lent.{lists}
+use Rattle.frequency.proofs.Choices.{chosen, passed}
+use Rattle.frequency_grown.proofs.KnownLaws.{next-cause}
+use lib.ListN.{length}
+use mathlib.Core.Path.{refl, sym, ◌∙◌}
+use native.Mathlib.Omega.{arith}
+use borrow.Author.Tests.{lt-ltb, le-ltb}
+use Rattle.frequency_grown.proofs.next_tuning.Goals as goal
+
+pub returns-then-out-t : goal.returns-then-out-t
+returns-then-out-t c =
+    let a = c.args in
+    let l = lists a.at.now a.lo.now a.hz.now a.tuned.now a.freq.now in
+    record {
+      refusal = sym (next-cause a.t l c.requires (length a.out.now) ∙ chosen 2 _ (lt-ltb _ _ c.if-out-t.true));
+      state = λ e. absurd (omega arith);
+      answer = λ e. absurd (omega arith);
+      same_state = λ e. refl;
+      no_answer = λ e. refl;
+      same_scratch = λ e. refl;
+    }
+
+pub choose_tuning-requires : goal.choose_tuning-requires
+choose_tuning-requires c =
+    let a = c.args in
+    next-cause a.t (lists a.at.now a.lo.now a.hz.now a.tuned.now a.freq.now) c.requires (length a.out.now) ∙ passed 2 _ (le-ltb _ _ c.if-out-t.false)
