@@ -5,7 +5,7 @@ use mathlib.Core.List.{List, []}
 use Prim.Native.Nat.{ℕ, zero, suc, ◌+◌, ◌≤◌, ◌<◌}
 use native.Mathlib.Omega.{arith}
 use borrow.Author.Tests.{lt-ltb, le-ltb}
-use lib.Dec.{T, ltb}
+use lib.Dec.{T}
 use lib.Signed.{non_neg}
 use lib.ListN.{length, get_or, replicate, get_or-replicate, length-replicate}
 use lib.IntN.{ℤ, nat_abs}
@@ -15,7 +15,6 @@ use Rattle.limits.proofs.Samples.{and_right}
 use Rattle.event_list.specs.Events.{events_of, messages_of, list_ok}
 use Rattle.event_list.specs.Sums.{count}
 use Rattle.subscription.specs.declared.Plan.{Plan}
-use Rattle.subscription.specs.declared.Charge.{Charge}
 use Rattle.subscription.specs.declared.Charge.TheVariants.{Refused, Cents}
 use Rattle.subscription.specs.Charges.{said, days, latest_start, sum_to, all_in_month, day_cost, plan_ok, start_ok, cost_of, rounded_up, cents_of, on_day, month_cause, charge_cause}
 use Rattle.subscription.specs.Counting.{second_of, tallied}

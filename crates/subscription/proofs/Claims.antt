@@ -15,11 +15,10 @@ use Rattle.limits.specs.Answer.{answer, number, accepted}
 use Rattle.limits.proofs.Samples.{and_assoc, and_left, and_right}
 use Rattle.record.specs.Readers.{time_of}
 use Rattle.event_list.specs.Events.{events_of, is_message, messages_of, all_ok, list_ok}
-use Rattle.event_list.specs.Sums.{those, count}
+use Rattle.event_list.specs.Sums.{count}
 use Rattle.event_list.proofs.SumLaws.{those-append, count-append, those_perm, count_perm}
 use Rattle.event_list.proofs.EventLaws.{events-append, ok_append, ok_reordered}
 use Rattle.subscription.specs.declared.Plan.{Plan}
-use Rattle.subscription.specs.declared.Charge.{Charge}
 use Rattle.subscription.specs.Charges.{sum_to, days, dearest, latest_start, in_day, in_month, all_in_month, price_of, step_of, day_cost, plan_ok, start_ok, rounded_up, cost_of, cents_of, on_day, month_cause, charge_cause}
 use Rattle.subscription.specs.Counting.{stepped, tallied}
 use Rattle.subscription.specs.Claims.{number_cost, message_cost, list_cost, Sum, EverySum, AnyOrder}

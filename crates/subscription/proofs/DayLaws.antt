@@ -8,7 +8,7 @@ use borrow.Author.Tests.{ltb-true, ltb-false, leb-true, leb-false, eqb-true, eqb
 use lib.Dec.{T, leb, ltb, eqb}
 use lib.Signed.{non_neg}
 use lib.IntN.{ℤ, pos, negsuc, nat_abs}
-use lib.Ieee.{Float, nan, inf, fin, up, down, lt, le, eq, to_unsigned}
+use lib.Ieee.{Float, nan, inf, fin, up, down, lt, le, to_unsigned}
 use lib.Ieee.Exact.{HasValue}
 use lib.Ieee.Fits.{down_pos}
 use lib.Ieee.Positive.{first_pos}
