@@ -13,7 +13,6 @@ use lib.ListN.{get_or, length, length-map, set}
 use borrow.Author.Tests.{eq-eqb, le-leb, le-ltb, lt-leb, lt-ltb, ne_eqb}
 use Rattle.floats.specs.Number.{num}
 use Rattle.ledger.specs.Causes.{end_nan, span_nan, spans_fit, in_front}
-use Rattle.ledger.specs.Demand3.{message}
 use Rattle.ledger.specs.Frames.{Frame, rank_of, rssi_of, time_of}
 use Rattle.ledger.specs.Merge.{end_after, estimate, finished, frame_gap_s, has, known_of, later, louder, lower, lowest_later, meet, merge, no_span, open_entry, or_else, place, span_of, three_ranks}
 use Rattle.record.specs.Spans.{spans_ok}

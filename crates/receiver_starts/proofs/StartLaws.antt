@@ -1,7 +1,7 @@
 -- Turns of the loops over remembered starts, on plain lists. Assumes nothing.
 use mathlib.Core.Bool.{◌&&◌, true, false}
 use mathlib.Core.List.{List, [], ◌++◌, ◌∷◌}
-use mathlib.Core.Logic.{◌⊎◌, ⊎_elim}
+use mathlib.Core.Logic.{⊎_elim}
 use mathlib.Core.Path.{◌∙◌, ◌≡◌, ap, ap₂, refl, sym}
 use Prim.Native.Nat.{◌*◌, ◌+◌, ◌-◌, ◌/◌, ◌<◌, ◌^◌, ◌≤◌, suc, ℕ}
 use native.Mathlib.Numerals.{add-one}

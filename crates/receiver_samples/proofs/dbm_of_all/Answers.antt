@@ -1,10 +1,8 @@
 use mathlib.Core.Path.{◌∙◌, ◌≡◌, refl}
-use Prim.Native.Nat.{◌-◌}
 use native.Mathlib.Omega.{arith}
 use lib.ListN.{length, length-set}
 use lib.Seq.{take-length}
 use borrow.Author.Rules.{rules}
-use Rattle.ledger.specs.Ledger.{dbm_of}
 use Rattle.receiver_samples.proofs.BufferLaws.{raw-turn}
 use Rattle.receiver_samples.proofs.dbm_of_all.Goals as goal
 
