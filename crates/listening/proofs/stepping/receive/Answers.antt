@@ -1,0 +1,33 @@
+use mathlib.Core.Path.{refl}
+use mathlib.Core.List.{List}
+use Prim.Native.Nat.{ℕ}
+use native.Mathlib.Omega.{arith}
+use Rattle.ledger.specs.Ledger.{by_frames, Ledger}
+use Rattle.frequency.specs.Lent.{lists}
+use Rattle.listening_lines.specs.Text.{Added}
+use Rattle.listening_receiver.specs.Standing.{StandsFor}
+use Rattle.listening.specs.Hand.{state_of}
+use Rattle.listening.proofs.StepLaws.{goes-received}
+use Rattle.listening.proofs.stepping.receive.Goals as goal
+
+pub hear-h-requires : goal.hear-h-requires
+hear-h-requires c =
+    let p = c.requires in
+    record { standing = p.standing; most_in_bounds = (omega (arith, p.end_le_widest.0, p.end_le_widest.1), p.end_le_widest.3, p.end_le_widest.4, p.end_le_widest.2) }
+
+pub returns : goal.returns
+returns c =
+    let h = c.hear-h in
+    let b = c.add_refused-last.ensures in record {
+      goes = λ (g : Ledger by_frames) (tuned freq old text : List ℕ) (st : StandsFor c.args.receiver c.args.samples.now g) (a : Added old 0 text c.args.end c.args.out.now).
+          goes-received (state_of c.args.l (lists c.args.at.now c.args.lo.now c.args.hz.now tuned freq) g) _ text old _ _ _ _ _ _ _ _ _ _ st a h.ensures b.added;
+      receives = record {
+        tracker = refl;
+        passed = refl;
+        samples = refl;
+        frames = h.ensures.frames;
+        messages = h.ensures.messages;
+        end = omega (arith, c.requires.end_le_widest.0, h.ensures.end, b.upper_bound);
+        room = omega (arith, h.ensures.room, b.added.room);
+      };
+    }

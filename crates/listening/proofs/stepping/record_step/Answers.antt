@@ -1,0 +1,26 @@
+use mathlib.Core.Path.{◌≡◌, sym}
+use native.Mathlib.Omega.{arith}
+use lib.Seq.{length-take-le}
+use Rattle.ledger.specs.Ledger.{by_frames, Ledger}
+use Rattle.listening_receiver.specs.Standing.{StandsFor}
+use Rattle.listening.proofs.StepLaws.{led_room, stop-steps, both_steps, goes_as}
+use Rattle.listening.proofs.stepping.record_step.Goals as goal
+
+pub returns-then-f-ne0 : goal.returns-then-f-ne0
+returns-then-f-ne0 c =
+    let f = c.follow-f in
+    let n : f.result.refused ≡ 0 → ⊥ = omega (arith, c.if-f-ne0.true) in record { goes = λ (g : Ledger by_frames) (st : StandsFor c.args.receiver c.args.samples.now g). f.ensures.follows.stops n g _ _ st; steps = stop-steps c.args.l f.result _ _ _ _ f.ensures.leads }
+
+pub receive-requires : goal.receive-requires
+receive-requires c =
+    let p = c.requires in
+    let f = c.follow-f.ensures.leads in
+    let q = led_room _ _ _ _ _ f p.single.1 in
+    record { standing = p.standing; end_le_widest = (f.end, omega (arith, f.room, p.single.2), q.0, q.1, q.2) }
+
+pub returns : goal.returns
+returns c =
+    let f = c.follow-f in
+    let h = f.ensures.follows in
+    let r = c.receive.ensures in
+    let z : f.result.refused ≡ 0 = omega (arith, c.if-f-ne0.false) in record { goes = λ (g : Ledger by_frames) (st : StandsFor c.args.receiver c.args.samples.now g). goes_as (h.on z g) (r.goes g _ _ _ h.text st (h.added z)); steps = both_steps c.args.l f.result _ _ _ _ _ f.ensures.leads r.receives }

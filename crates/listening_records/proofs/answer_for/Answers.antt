@@ -1,0 +1,11 @@
+use mathlib.Core.Path.{◌∙◌}
+use Rattle.listening_records.proofs.EmissionLaws.{not_started, answered}
+use Rattle.listening_records.proofs.answer_for.Goals as goal
+
+pub returns-then-not-started : goal.returns-then-not-started
+returns-then-not-started c = not_started _ _ (c.if-not-started.true)
+
+pub returns : goal.returns
+returns c =
+    c.frame1.ensures.says
+    ∙ rw (c.spans_of-spans.ensures, c.earlier.ensures, c.downlink_of.ensures) (answered _ _ (c.if-not-started.false))
