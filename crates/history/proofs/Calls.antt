@@ -27,6 +27,7 @@ use Rattle.receiver.specs.declared.SigfoxReceiver.{SigfoxReceiver}
 use Rattle.history.specs.Runs as runs
 use Rattle.history.specs.Runs.{Request, ask_push, ask_raw, ask_flush, call_of, Typed, Exchange, Port, memory_of, Did, port_after, fresh_port, records_from, turn_from, attempt_of}
 use Rattle.history.specs.Theorem.{Untouched}
+pub use Rattle.history.proofs.Standing.{Stands}
 use Rattle.history.proofs.States.{For, new_for, number_is, records_are, state-for, samples_kept}
 
 -- ---- the samples of a call are binary32 numbers
@@ -69,12 +70,6 @@ same_port p q e f = make e f
     make e f = cc
 
 -- ---- the port stands for a ledger
-
-pub record Stands (rate : ℕ) (first : List Float) (p : Port) (l : Ledger by_frames) : Type 0 where
-  pub state : For rate p.receiver (carry l)
-  pub size : length p.samples ≡ length first
-  pub holds : take (length l.held) p.samples ≡ l.held
-  pub sound : Sound l
 
 pub fresh-stands : (rate : ℕ) (first : List Float) → Stands rate first (fresh_port rate first) fresh
 unfolding fresh

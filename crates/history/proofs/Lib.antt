@@ -1,6 +1,7 @@
 -- Demand 3 of the port: buffers and states, one call, the theorem.
 pub mod Buffers
 pub mod States
+pub mod Standing
 pub mod Calls
 pub mod Theorem
 pub mod Example

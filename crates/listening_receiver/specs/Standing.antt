@@ -6,7 +6,7 @@ use Rattle.ledger.specs.Ledger.{by_frames, Ledger, Call}
 use Rattle.ledger.specs.Records.{with_records}
 use Rattle.receiver.specs.declared.SigfoxReceiver.{SigfoxReceiver}
 use Rattle.receiver.specs.Calls.{Memory, refusal_of, records_of, state_after, samples_after}
-use Rattle.history.proofs.Calls.{Stands}
+use Rattle.history.proofs.Standing.{Stands}
 use Rattle.listening_lines.specs.Text.{widest}
 use Rattle.listening_records.specs.Emission.{Emission, Asked, Tells}
 use Rattle.listening_records.specs.declared.Told.{Told}
