@@ -1,4 +1,4 @@
-//! Makes the Rust that the port is compared with, from the published text, and links what `rt staticlib` has made.
+//! Makes the Rust that the port is compared with, from the published text, and links what `tools/build` has made.
 //! Each text to be replaced must stand in its module exactly once, else the build fails and names it.
 
 use std::path::{Path, PathBuf};
