@@ -1,7 +1,6 @@
 -- Scaffolding. The records of the messages that a call writes at its end. Assumes nothing.
-use Rattle.std.specs.Prelude.{◌≡◌, List, [], ◌∷◌, map, Bool, cond, ℕ, length, Float}
+use Rattle.std.specs.Prelude.{List, map, Bool, cond, ℕ, Float}
 use Rattle.std.proofs.lemmas.List.Edits.{sets}
-use Rattle.limits.specs.Limits.{record_size}
 use Rattle.ledger.specs.Ledger.{by_entry, chosen, event_of}
 use Rattle.ledger.specs.Records.{record_of}
 use Rattle.ledger.specs.declared.Pending.{Pending}

@@ -1,6 +1,6 @@
 -- Scaffolding. A call under way: what the starts, the open messages and the event buffer stand for, and what a step of a scan asks and does. Assumes nothing.
-use Rattle.std.specs.Prelude.{◌≡◌, List, [], ◌∷◌, map, Bool, true, not, ◌&&◌, ℕ, ◌+◌, ◌≤◌, length, leb, ltb, ℤ, pos, Float}
-use Rattle.limits.specs.Limits.{lowest_rate, highest_rate, longest_stream, record_size, events_size, scratch64}
+use Rattle.std.specs.Prelude.{◌≡◌, List, map, Bool, true, not, ◌&&◌, ℕ, ◌+◌, ◌≤◌, length, leb, ltb, ℤ, pos, Float}
+use Rattle.limits.specs.Limits.{lowest_rate, highest_rate, longest_stream, events_size, scratch64}
 use Rattle.limits.specs.Samples.{all_dbm}
 use Rattle.bursts.specs.declared.Burst.{Burst}
 use Rattle.ledger.specs.Ledger.{Ledger, by_entry, capacity, seconds, hear, remember}

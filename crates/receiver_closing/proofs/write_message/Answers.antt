@@ -7,7 +7,6 @@ use Rattle.limits.specs.Limits.{record_size}
 use Rattle.record.specs.Record.{message_record}
 use Rattle.ledger.specs.Merge.{finished}
 use Rattle.shifts.specs.Shifts.{mark_of}
-use Rattle.receiver_waiting.specs.Waiting.{leaves}
 use Rattle.receiver_closing.proofs.WrittenLaws.{finished-size}
 use Rattle.receiver_closing.proofs.write_message.Goals.{Start}
 use Rattle.receiver_closing.proofs.write_message.Goals as goal

@@ -1,5 +1,4 @@
-use mathlib.Core.Path.{refl, sym}
-use lib.Seq.{length-take-le}
+use mathlib.Core.Path.{refl}
 use native.Mathlib.Omega.{arith}
 use Rattle.listening.proofs.handing.hand_over.Goals as goal
 

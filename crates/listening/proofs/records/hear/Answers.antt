@@ -1,6 +1,5 @@
 use mathlib.Core.Path.{refl}
-use mathlib.Core.Bool.{true, false}
-use Prim.Native.Nat.{◌+◌, ◌*◌, ◌-◌, ◌/◌}
+use Prim.Native.Nat.{◌+◌, ◌*◌}
 use native.Mathlib.Omega.{arith}
 use Rattle.listening.proofs.ReadLaws.{along_start, reached, next-wide, not_both, went_on, along-part, along-next, along_end, loop-room, loop-near}
 use Rattle.listening.proofs.records.hear.Goals as goal

@@ -1,6 +1,5 @@
-use mathlib.Core.Path.{◌≡◌, sym}
+use mathlib.Core.Path.{◌≡◌}
 use native.Mathlib.Omega.{arith}
-use lib.Seq.{length-take-le}
 use Rattle.ledger.specs.Ledger.{by_frames, Ledger}
 use Rattle.listening_receiver.specs.Standing.{StandsFor}
 use Rattle.listening.proofs.StepLaws.{led_room, stop-steps, both_steps, goes_as}
