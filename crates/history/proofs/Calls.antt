@@ -5,7 +5,7 @@ use Prim.Native.Nat.{ℕ, zero, suc}
 use lib.Ieee.{Float, binary32, neg, of_int}
 use lib.Ieee.Fits.{div-fits}
 use lib.IntN.{pos}
-use lib.ListN.{length, take}
+use lib.ListN.{length}
 use Rattle.floats.specs.Number.{num}
 use Rattle.demod.proofs.NumberFacts.{Singles}
 use Rattle.ledger.specs.Ledger.{by_frames, Ledger, Call, push, flush, dbm_of, fresh}
@@ -19,7 +19,6 @@ use Rattle.ledger.proofs.Firsts.{first_none}
 use Rattle.ledger.proofs.Basics.{Every}
 use Rattle.ledger.proofs.Throughout.{given}
 use Rattle.ledger.proofs.Ranks.{AllRanked}
-use Rattle.ledger.proofs.Carry.{carry}
 use Rattle.ledger.proofs.Seeing.{Clear, RecordSized, events-seen, events-size, records_in_lem, no_records}
 use Rattle.ledger.proofs.Sound.{Sound, fresh-sound, sound-ranked, call-sound}
 use Rattle.receiver.specs.Calls.{Memory, lengths_of, refusal_of, records_of, state_after, samples_after, Free, Answered}
@@ -28,7 +27,7 @@ use Rattle.history.specs.Runs as runs
 use Rattle.history.specs.Runs.{Request, ask_push, ask_raw, ask_flush, call_of, Typed, Exchange, Port, memory_of, Did, port_after, fresh_port, records_from, turn_from, attempt_of}
 use Rattle.history.specs.Theorem.{Untouched}
 pub use Rattle.history.proofs.Standing.{Stands}
-use Rattle.history.proofs.States.{For, new_for, number_is, records_are, state-for, samples_kept}
+use Rattle.history.proofs.States.{new_for, number_is, records_are, state-for, samples_kept}
 
 -- ---- the samples of a call are binary32 numbers
 

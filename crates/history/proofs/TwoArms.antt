@@ -8,7 +8,7 @@ use lib.ListN.{length, drop}
 use lib.Seq.{take-append_seam}
 use Rattle.shifts.specs.Shifts.{Schedule, mark_by}
 use Rattle.ledger.specs.Frames.{same, Frame, key_of}
-use Rattle.ledger.specs.Ledger.{Ledger, by_entry, Call, scans, closed, messages, of_frame, event_of, events}
+use Rattle.ledger.specs.Ledger.{Ledger, by_entry, Call, scans, closed, messages, of_frame, event_of}
 use Rattle.ledger.specs.Causes.{call_events}
 use Rattle.ledger.specs.Demodulation.{demod_of}
 use Rattle.ledger.specs.Records.{frame_bytes, record_of, with_records}

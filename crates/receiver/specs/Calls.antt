@@ -1,7 +1,7 @@
 -- What push, push_raw and flush answer and leave, for any state that is given: one record for the three. Assumes nothing.
 use Rattle.std.specs.Prelude.{◌≡◌, List, map, ℕ, zero, suc, length, Float}
 unfoldable pub use Rattle.limits.specs.Answer.{Free}
-use Rattle.ledger.specs.Ledger.{Call, push, flush, by_entry, closed, scans}
+use Rattle.ledger.specs.Ledger.{Call, push, flush, closed, scans}
 use Rattle.shifts.specs.Shifts.{Schedule, mark_by}
 use Rattle.ledger.specs.Causes.{Lent, cause_with, call_events}
 use Rattle.ledger.specs.Demodulation.{demod_of}

@@ -3,7 +3,7 @@ use mathlib.Core.Bool.{Bool, ◌&&◌, ◌||◌, false, true}
 use mathlib.Core.List.{List, [], ◌++◌, ◌∷◌, append-nil, map}
 use mathlib.Core.Logic.{◌⊎◌, inl, inr, ⊎_elim}
 use mathlib.Core.Path.{◌∙◌, ◌≡◌, ap, ap₂, refl, subst, sym}
-use Prim.Native.Nat.{◌*◌, ◌+◌, ◌-◌, ◌<◌, ◌≤◌, suc, zero, ℕ}
+use Prim.Native.Nat.{◌*◌, ◌+◌, ◌<◌, ◌≤◌, suc, ℕ}
 use native.Mathlib.Nat.{le_of_suc-le-suc, not-suc-le-zero}
 use native.Mathlib.Numerals.{add-one}
 use native.Mathlib.Omega.{arith}
@@ -15,9 +15,8 @@ use lib.Seq.{get_or-take, length-take-le, slice, slice-cons, slice_empty, take-a
 use borrow.Author.Tests.{eq-eqb, eqb-false, eqb-true, le-leb, lt-leb, ne_eqb}
 use Rattle.floats.specs.Number.{num}
 use Rattle.ledger.specs.Causes.{all_fit, any_nan, entry_fits, entry_nan, most_waiting, unlike, waits}
-use Rattle.ledger.specs.Demand3.{message}
 use Rattle.ledger.specs.Frames.{Frame, key_of}
-use Rattle.ledger.specs.Ledger.{by_entry, chosen, join, messages, others}
+use Rattle.ledger.specs.Ledger.{by_entry, chosen, join, others}
 use Rattle.ledger.specs.Merge.{entry_key, expires, merge, open_entry}
 use Rattle.ledger.specs.Room.{open_places}
 use Rattle.receiver_message.specs.Messages.{frame_of}
