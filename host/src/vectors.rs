@@ -178,7 +178,7 @@ pub fn vectors() -> Vec<Vector> {
     groups().into_iter().flat_map(|group| group.vectors).collect()
 }
 
-/// crates/check_frames/src/vectors.rt
+/// crates/check_frames/src/vectors.rt, before `rt fmt` breaks its lines
 pub fn source() -> String {
     let mut out = "// Literal frames: hexadecimal digits, and how many bits of them are received. The Rust alone made them: `host/sample frames` writes this file with its
 // encode_uplink (host/src/vectors.rs), and a test of host/ fails where the two differ. A payload is the first bytes of 10 21 32 .. cb.
@@ -186,9 +186,9 @@ use crate::lines::frame_line;
 "
     .to_string();
     for group in groups() {
-        out += &format!("\n// {}\npub fn {}() {{\n", group.what, group.name);
+        out += &format!("\n// {}\npub fn {}(rt: &impl Print) {{\n", group.what, group.name);
         for v in &group.vectors {
-            out += &format!("    frame_line(b\"{}\", {}); // {}\n", v.hex(), v.bits.len(), v.what);
+            out += &format!("    frame_line(rt, b\"{}\", {}); // {}\n", v.hex(), v.bits.len(), v.what);
         }
         out += "}\n";
     }

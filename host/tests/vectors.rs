@@ -12,9 +12,15 @@ fn stored(file: &str) -> String {
     fs::read_to_string(&path).unwrap_or_else(|e| panic!("{}: {e}", path.display()))
 }
 
+/// A text without the blanks and line breaks, and the commas at a line's end, that `rt fmt` puts in.
+fn unbroken(text: &str) -> String {
+    let solid: String = text.split_whitespace().collect();
+    solid.replace(",)", ")")
+}
+
 #[test]
 fn literals() {
-    assert_eq!(stored("crates/check_frames/src/vectors.rt"), source());
+    assert_eq!(unbroken(&stored("crates/check_frames/src/vectors.rt")), unbroken(&source()));
 }
 
 #[test]

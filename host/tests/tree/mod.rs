@@ -11,12 +11,13 @@ pub fn text(path: &Path) -> String {
     fs::read_to_string(path).unwrap_or_else(|e| panic!("{}: {e}", path.display()))
 }
 
-/// The files below a folder that end so, in order; none where there is no such folder.
+/// The files below a folder that end so, in order; none where there is no such folder. What `rt` keeps in out/ is none of the repository's.
 pub fn files(folder: &Path, end: &str) -> Vec<PathBuf> {
     let Ok(entries) = fs::read_dir(folder) else {
         return vec![];
     };
     let mut paths: Vec<PathBuf> = entries.map(|e| e.expect("it can be read").path()).collect();
+    paths.retain(|path| !path.ends_with("out"));
     paths.sort();
     let below = |path: PathBuf| if path.is_dir() { files(&path, end) } else { vec![path] };
     let mut found: Vec<PathBuf> = paths.into_iter().flat_map(below).collect();
