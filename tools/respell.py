@@ -3,7 +3,7 @@
 
 usage: python3 tools/respell.py [FOLDER]     the top of the repository; without it the current folder
 
-It runs once after /opt/rattle/port/port.py. It goes by whole words: specs/, proofs/, the clauses and ghost items of src/, must-fail edits, and the
+It runs once, after port.py of the kit. It goes by whole words: specs/, proofs/, the clauses and ghost items of src/, must-fail edits, and the
 names in README.md and docs/. A name that a file imports from the kit stays as it is there, as do strings, and names with a dash in comments.
 Functions of src/ keep their names: the table has none of them. A second run changes nothing.
 """
