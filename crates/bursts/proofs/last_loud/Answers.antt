@@ -19,10 +19,10 @@ loop-i-preserved c =
     let e = c.loud_at.ensures in
     elim c.if-loud_at.branch [
       | then-loud_at w ↦
-          subst (λ (k : ℕ). OpenAt a.threshold a.gap a.dbm.now a.first k (c.loop-i.i + 1)) (sym w.last_is)
+          subst (λ (k : ℕ). OpenAt a.threshold a.gap a.dbm.now a.first k (c.loop-i.i + 1)) (sym w.last-is)
           (open-loud a.threshold a.gap a.dbm.now a.first c.loop-i.last c.loop-i.i c.loop-i.invariant t (sym e ∙ w.if-loud_at.true))
       | else-loud_at+else-gap-i w ↦
-          subst (λ (k : ℕ). OpenAt a.threshold a.gap a.dbm.now a.first k (c.loop-i.i + 1)) (sym w.last_is)
+          subst (λ (k : ℕ). OpenAt a.threshold a.gap a.dbm.now a.first k (c.loop-i.i + 1)) (sym w.last-is)
           (open-quiet a.threshold a.gap a.dbm.now a.first c.loop-i.last c.loop-i.i c.loop-i.invariant t (sym e ∙ w.if-loud_at.false) w.if-gap-i.false)
     ]
 
