@@ -5,7 +5,8 @@ usage: python3 tools/respell.py [FOLDER]     the top of the repository; without 
 
 It runs once, after port.py of the kit. It goes by whole words: specs/, proofs/, the clauses and ghost items of src/, must-fail edits, and the
 names in README.md and docs/. A name that a file imports from the kit stays as it is there, as do strings, and names with a dash in comments.
-Functions of src/ keep their names: the table has none of them. A second run changes nothing.
+Functions of src/ keep their names: the table has none of them. It is not for a tree whose proofs are turned already: there a name that Rattle makes
+can be spelled as a law was.
 """
 
 import os
