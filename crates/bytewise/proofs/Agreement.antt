@@ -81,7 +81,7 @@ length-bits (b ∷ l) = ap suc (length-bits l)
 
 pub call_agrees : CallAgrees
 unfolding bytes_answer bytes_out rest_out undone
-call_agrees bytes rest rank start out out_rest after afterRest r s c e =
+call_agrees bytes rest rank start out out_rest after after_rest r s c e =
     let n = length bytes in
     let m = length rest in
     let plain = deconvolved rank (state_is start) (bytes_bits bytes ++ map odd rest) in
@@ -91,10 +91,10 @@ call_agrees bytes rest rank start out out_rest after afterRest r s c e =
     ∙ ap₂ ◌+◌ (length-bytes-bits bytes) (length-map-odd rest) in
     let back-size : length (map bit_of back) ≡ m = length-bits back ∙ omega (arith, size, length-drop (8 * n) plain) in
     let a = accepts (bytes_cause bytes rest rank (length out) (length out_rest)) (state_after (state_is start) plain) s (to_bytes n plain ++ drop n out) out after
-    (map bit_of back ++ drop m out_rest) out_rest afterRest (sym e ∙ c.answered) c.left c.left_rest in
+    (map bit_of back ++ drop m out_rest) out_rest after_rest (sym e ∙ c.answered) c.left c.left_rest in
     let front : bytes_bits (take n after) ≡ take (8 * n) plain =
     ap (λ (l : List ℕ). bytes_bits (take n l)) a.wrote ∙ ap bytes_bits (take_at (to_bytes n plain) (drop n out) n (length-bytes n plain))
     ∙ ap bytes_bits (sym (taken (to_bytes n plain) n (length-bytes n plain))) ∙ bytes_bits_lem n n plain (omega arith) (omega (arith, size)) in
-    let last : map odd (take m afterRest) ≡ back =
+    let last : map odd (take m after_rest) ≡ back =
     ap (λ (l : List ℕ). map odd (take m l)) a.wrote-rest ∙ ap (map odd) (take_at (map bit_of back) (drop m out_rest) m back-size) ∙ odd-bits back in
     (ap₂ ◌++◌ front last ∙ take-append-drop (8 * n) plain, a.state)

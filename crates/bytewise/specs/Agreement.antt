@@ -45,15 +45,15 @@ AnyLength =
 -- ---- the call
 
 -- what the contract of `deconvolve_bytes` ensures of a call; proofs/Contracts.antt takes it from the contract itself
-pub record Call (bytes rest : List ℕ) (rank : ℕ) (start : ConvState) (out out_rest after afterRest : List ℕ) (r : Undone) : Type 0 where
+pub record Call (bytes rest : List ℕ) (rank : ℕ) (start : ConvState) (out out_rest after after_rest : List ℕ) (r : Undone) : Type 0 where
   pub answered : said r ≡ bytes_answer bytes rest rank start out out_rest
   pub left : after ≡ bytes_out bytes rest rank start out out_rest
-  pub left_rest : afterRest ≡ rest_out bytes rest rank start out out_rest
+  pub left_rest : after_rest ≡ rest_out bytes rest rank start out out_rest
 
 -- an accepted call, at every rank: the bits of its bytes and its remainder are those that go bit by bit, and so is its end state
 abbrev pub CallAgrees : Type 0
 CallAgrees =
-    (bytes rest : List ℕ) (rank : ℕ) (start : ConvState) (out out_rest after afterRest : List ℕ) (r : Undone) (s : State)
-    → Call bytes rest rank start out out_rest after afterRest r → said r ≡ accepted s
-    → (bytes_bits (take (length bytes) after) ++ map odd (take (length rest) afterRest) ≡ deconvolved rank (state_is start) (bytes_bits bytes ++ map odd rest))
+    (bytes rest : List ℕ) (rank : ℕ) (start : ConvState) (out out_rest after after_rest : List ℕ) (r : Undone) (s : State)
+    → Call bytes rest rank start out out_rest after after_rest r → said r ≡ accepted s
+    → (bytes_bits (take (length bytes) after) ++ map odd (take (length rest) after_rest) ≡ deconvolved rank (state_is start) (bytes_bits bytes ++ map odd rest))
     × (s ≡ state_after (state_is start) (deconvolved rank (state_is start) (bytes_bits bytes ++ map odd rest)))

@@ -26,9 +26,9 @@ bit_count bytes rest = 8 * length bytes + length rest
 -- the first cause that applies, 0 where none does: 2 a lent slice under its input's length, 3 over 1,024 bits, 9 rank over 2 or a bit byte over 1
 unfoldable pub bytes_cause : List ℕ → List ℕ → ℕ → ℕ → ℕ → ℕ
 unfolding are_bits
-bytes_cause bytes rest rank room restRoom =
+bytes_cause bytes rest rank room rest_room =
     cond (ltb room (length bytes)) short
-    (cond (ltb restRoom (length rest)) short
+    (cond (ltb rest_room (length rest)) short
     (cond (ltb most_bits (bit_count bytes rest)) long (cond (ltb highest_rank rank) bad_number (cond (are_bits rest) 0 bad_number))))
 
 -- the bits that are handed in: the bytes', each byte's highest first, then the remainder
