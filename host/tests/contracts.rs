@@ -129,24 +129,30 @@ fn every_function_has_its_row() {
 #[test]
 fn every_cause_is_named() {
     let folder = root().join("crates/limits");
-    let (code, specs) = (
-        text(&folder.join("src/lib.rt")),
+    let code = text(&folder.join("src/lib.rt"));
+    let (_, rest) = code.split_once("pub enum Refusal {").expect("limits has its refusals");
+    let (refusals, _) = rest.split_once("\n}").expect("they end");
+    let (numbers, cases) = (
         text(&folder.join("specs/Limits.antt")),
+        text(&folder.join("specs/Refusals.antt")),
     );
     let rows = table_rows(CONTRACTS, "number");
     for cells in &rows {
         let [number, _, names, _] = &cells[..] else {
             panic!("a cause has four columns: {cells:?}");
         };
-        let (definition, constant) = names.split_once(", ").expect("two names");
-        let constant = format!("pub const {}: u8 = {number};", constant.trim_matches('`'));
-        assert!(code.contains(&constant), "limits has no {constant}");
+        let (definition, case) = names.split_once(", ").expect("two names");
+        let case = case.trim_matches('`');
+        let constant = format!("\n    {case} = {number},");
+        assert!(refusals.contains(&constant), "Refusal has no {constant}");
+        let joined = format!("\nnumber_of {case} = {definition}\n");
+        assert!(cases.contains(&joined), "limits has no {joined}");
         let definition = format!("\n{definition} = {number}\n");
-        assert!(specs.contains(&definition), "limits has no {definition}");
+        assert!(numbers.contains(&definition), "limits has no {definition}");
     }
     assert_eq!(
         rows.len(),
-        code.matches(": u8 = ").count(),
+        refusals.matches(" = ").count(),
         "causes in the table, in limits"
     );
 }

@@ -1,5 +1,5 @@
 -- A list without a NaN, on plain lists. Assumes nothing.
-use mathlib.Core.Path.{◌≡◌, refl, sym, ◌∙◌, subst}
+use mathlib.Core.Path.{◌≡◌, refl, sym, ap, ◌∙◌, subst}
 use mathlib.Core.Bool.{Bool, true, false, not, ◌&&◌}
 use mathlib.Core.List.{List, [], ◌∷◌}
 use Prim.Native.Nat.{ℕ, zero, suc, ◌+◌, ◌≤◌, ◌<◌}
@@ -11,7 +11,7 @@ use lib.Seq.{drop-cons, drop-length}
 use borrow.Author.Tests.{le-leb, lt-leb}
 use lib.Ieee.{Float, Format, nan, inf, fin, is_nan, eq, of_bits}
 use Rattle.order.specs.Order.{Numbers, kth}
-use Rattle.bench.specs.Select.{numbers, selected}
+use Rattle.bench.specs.Select.{selfsame, numbers, selected}
 
 and_assoc : (a b c : Bool) → (a && b) && c ≡ a && (b && c)
 and_assoc true b c = refl
@@ -26,14 +26,22 @@ rest true b e = e
 rest false b e = absurd (subst (λ (t : Bool). T (not t)) e tt)
 
 -- a turn of the loop that looks at each element, and its end
-pub turn : (ok : Bool) (l : List Float) (i : ℕ) (w : Bool) → i < length l → ok && numbers (drop i l) ≡ w
-    → (ok && eq (get_or l i nan) (get_or l i nan)) && numbers (drop (i + 1) l) ≡ w
-unfolding numbers
-turn ok l i w h p = rw (add-one i) (and_assoc ok (eq (get_or l i nan) (get_or l i nan)) (numbers (drop (suc i) l)) ∙ rw (drop-cons l i nan h) at p)
+module _ {A : Type 0} (same : A → A → Bool) (ok : Bool) (l : List A) (i : ℕ) (w : Bool) (p : ok && selfsame same (drop i l) ≡ w) where
+  pub turn : (x : A) → i < length l → x ≡ get_or l i x → (ok && same x x) && selfsame same (drop (i + 1) l) ≡ w
+  unfolding selfsame
+  turn x h e =
+      let d : drop i l ≡ x ∷ drop (suc i) l = drop-cons l i x h ∙ ap (λ (y : A). y ∷ drop (suc i) l) (sym e) in
+      rw (add-one i) (and_assoc ok (same x x) (selfsame same (drop (suc i) l)) ∙ rw d at p)
 
-pub end : (ok : Bool) (l : List Float) (i : ℕ) (w : Bool) → i ≡ length l → ok && numbers (drop i l) ≡ w → ok ≡ w
-unfolding numbers
-end ok l i w e p = sym (and_true ok) ∙ rw (e, drop-length l) at p
+  pub end : i ≡ length l → ok ≡ w
+  unfolding selfsame
+  end e = sym (and_true ok) ∙ rw (e, drop-length l) at p
+
+-- of floats
+pub numbers_are : (l : List Float) → selfsame eq l ≡ numbers l
+unfolding selfsame numbers
+numbers_are [] = refl
+numbers_are (x ∷ l) = ap (λ (b : Bool). eq x x && b) (numbers_are l)
 
 pub none_nan : (l : List Float) → numbers l ≡ true → Numbers l
 unfolding numbers eq is_nan

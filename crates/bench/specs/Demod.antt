@@ -1,11 +1,10 @@
 -- Of an answer of demod.rs's calls the number that the benchmark compares, 0 where there is none. Assumes nothing.
-use Rattle.std.specs.Prelude.{ℕ, Float}
-use Rattle.std.proofs.Math.Option.{Option, none, some}
+use Rattle.std.specs.Prelude.{ℕ, Float, Option, None, Some}
 use Rattle.std.specs.Float.{binary32}
 use Rattle.std.specs.Float.Ieee.{of_bits}
 use Rattle.limits.specs.Answer.{Answer, refused, accepted}
 use Rattle.bursts.specs.declared.Burst.{Burst}
-use Rattle.clock.specs.Bits.{Values}
+use Rattle.clock.specs.declared.BurstBits.{BurstBits}
 
 -- the floor
 abbrev pub level_of : Answer Float → Float
@@ -15,8 +14,8 @@ level_of (accepted x) = x
 -- where the burst ends
 abbrev pub end_of : Answer (Option Burst) → ℕ
 end_of (refused n) = 0
-end_of (accepted none) = 0
-end_of (accepted (some b)) = b.end
+end_of (accepted None) = 0
+end_of (accepted (Some b)) = b.end
 
 -- how many dips, how many records
 abbrev pub count_of : Answer ℕ → ℕ
@@ -24,7 +23,7 @@ count_of (refused n) = 0
 count_of (accepted n) = n
 
 -- how many bits
-abbrev pub bit_count_of : Answer (Option Values) → ℕ
+abbrev pub bit_count_of : Answer (Option BurstBits) → ℕ
 bit_count_of (refused n) = 0
-bit_count_of (accepted none) = 0
-bit_count_of (accepted (some v)) = v.count
+bit_count_of (accepted None) = 0
+bit_count_of (accepted (Some v)) = v.count

@@ -4,6 +4,11 @@ use Rattle.std.specs.Float.{Format}
 use Rattle.std.specs.Float.Ieee.{eq, of_bits}
 use Rattle.order.specs.Order.{kth}
 
+-- each element is equal to itself
+unfoldable pub selfsame : {A : Type 0} → (A → A → Bool) → List A → Bool
+selfsame same [] = true
+selfsame same (x ∷ l) = same x x && selfsame same l
+
 -- no element is a NaN, which alone is not equal to itself
 unfoldable pub numbers : List Float → Bool
 numbers [] = true

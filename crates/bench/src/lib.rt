@@ -8,36 +8,28 @@ ghost use Rattle.bursts.specs.Levels.{floor_answer};
 ghost use Rattle.dips.specs.Dips.{dip_answer, dips_after};
 ghost use Rattle.limits.specs.Answer.{answer, number, leaves, Free};
 ghost use Rattle.clock.specs.Bits.{outcome, handed, bits_answer};
-ghost use Rattle.bench.specs.Select.{numbers, selected};
+ghost use Rattle.bench.specs.Select.{selfsame, selected};
 ghost use Rattle.demod.specs.Capture.{floor_of, captured, capture_answer, in_front};
 ghost use Rattle.bench.specs.Demod.{level_of, end_of, count_of, bit_count_of};
 ghost use Rattle.writer.specs.Uplink.{uplink_bits, bit_count};
 ghost use Rattle.writer.specs.Answers.{write_cause, put_all};
 ghost use Rattle.bench.specs.Writer.{sent_of, plain_fields};
 
-use bursts::{BurstOptions, Level, NextBurst};
-use clock::BurstBits;
-use demod::{Captured, Floor};
-use dips::DipCount;
-use frame::SingleBit;
+use bursts::BurstOptions;
 use frame::header::UplinkFields;
-use writer::Written;
 
 // Whether no element is a NaN. No early exit, so that it runs several elements at a time.
-fn all_numbers32(xs: &[f32]) -> bool
-    ensures { result ≡ numbers xs.now }
+fn all_numbers<T: Copy + PartialEq>(xs: &[T]) -> bool
+    ensures { result ≡ selfsame T.eq xs.now }
 {
     let mut ok = true;
-    let mut i: usize = 0;
-    while i < xs.len() {
-        let x = xs[i];
-        ok = ok & (x == x);
-        i += 1;
+    for x in xs {
+        ok &= *x == *x;
     }
     ok
 }
 
-// order::select32, or 0 where it has no answer.
+// order::select, or 0 where it has no answer.
 #[unsafe(no_mangle)]
 pub extern "C" fn bench_select32(xs: &[f32], k: usize) -> f32
     ensures { result ≡ selected binary32 xs.now k }
@@ -45,27 +37,13 @@ pub extern "C" fn bench_select32(xs: &[f32], k: usize) -> f32
     if xs.len() <= k {
         return 0.0;
     }
-    if all_numbers32(xs) {
-        return order::select32(xs, k);
+    if all_numbers(xs) {
+        return order::select::<f32>(xs, k);
     }
     0.0
 }
 
-// Whether no element is a NaN.
-fn all_numbers64(xs: &[f64]) -> bool
-    ensures { result ≡ numbers xs.now }
-{
-    let mut ok = true;
-    let mut i: usize = 0;
-    while i < xs.len() {
-        let x = xs[i];
-        ok = ok & (x == x);
-        i += 1;
-    }
-    ok
-}
-
-// order::select64, or 0 where it has no answer.
+// order::select, or 0 where it has no answer.
 #[unsafe(no_mangle)]
 pub extern "C" fn bench_select64(xs: &[f64], k: usize) -> f64
     ensures { result ≡ selected binary64 xs.now k }
@@ -73,8 +51,8 @@ pub extern "C" fn bench_select64(xs: &[f64], k: usize) -> f64
     if xs.len() <= k {
         return 0.0;
     }
-    if all_numbers64(xs) {
-        return order::select64(xs, k);
+    if all_numbers(xs) {
+        return order::select::<f64>(xs, k);
     }
     0.0
 }
@@ -85,8 +63,8 @@ pub extern "C" fn bench_noise_floor(dbm: &[f32], scratch: &mut [f32]) -> f32
     ensures { (result ≡ level_of (floor_answer dbm.now (length scratch.old))) × (scratch.new ≡ scratch.old) }
 {
     match bursts::noise_floor(dbm, scratch) {
-        Level::Refused(_) => 0.0,
-        Level::Dbm(x) => x,
+        Err(_) => 0.0,
+        Ok(x) => x,
     }
 }
 
@@ -96,9 +74,9 @@ pub extern "C" fn bench_next_burst(dbm: &[f32], rate: u32, floor: f32, from: usi
     ensures { result ≡ end_of (burst_answer dbm.now rate default_options floor from) }
 {
     match bursts::find_bursts(dbm, rate, BurstOptions::new(), floor, from) {
-        NextBurst::Refused(_) => 0,
-        NextBurst::Nothing => 0,
-        NextBurst::Found(b) => b.end,
+        Err(_) => 0,
+        Ok(None) => 0,
+        Ok(Some(b)) => b.end,
     }
 }
 
@@ -109,8 +87,8 @@ pub extern "C" fn bench_find_dips(seg: &[f32], rate: u32, level: f64, dips: &mut
         × (dips.new ≡ dips_after seg.now rate level dips.old) }
 {
     match dips::find_dips(seg, rate, level, dips) {
-        DipCount::Refused(_) => 0,
-        DipCount::Count(n) => n,
+        Err(_) => 0,
+        Ok(n) => n,
     }
 }
 
@@ -129,9 +107,9 @@ pub extern "C" fn bench_burst_bits(
         × Free (number (bits_answer seg.now rate (length bits.old) (length scratch32.old) (length scratch64.old))) scratch64.old scratch64.new }
 {
     match clock::burst_bits(seg, rate, bits, scratch32, scratch64) {
-        BurstBits::Refused(_) => 0,
-        BurstBits::Nothing => 0,
-        BurstBits::Bits(count, _, _, _, _, _) => count,
+        Err(_) => 0,
+        Ok(None) => 0,
+        Ok(Some(b)) => b.count,
     }
 }
 
@@ -145,14 +123,14 @@ pub extern "C" fn bench_capture(
     scratch32: &mut [f32],
     scratch64: &mut [f64],
 ) -> usize
-    ensures { (result ≡ count_of (capture_answer dbm.now rate t0 Floor.Measured (length events.old) (length scratch32.old) (length scratch64.old)))
-        × (events.new ≡ leaves (number (capture_answer dbm.now rate t0 Floor.Measured (length events.old) (length scratch32.old) (length scratch64.old))) (in_front (captured dbm.now rate t0 (floor_of Floor.Measured dbm.now)) events.old) events.old)
-        × Free (number (capture_answer dbm.now rate t0 Floor.Measured (length events.old) (length scratch32.old) (length scratch64.old))) scratch32.old scratch32.new
-        × Free (number (capture_answer dbm.now rate t0 Floor.Measured (length events.old) (length scratch32.old) (length scratch64.old))) scratch64.old scratch64.new }
+    ensures { (result ≡ count_of (capture_answer dbm.now rate t0 None (length events.old) (length scratch32.old) (length scratch64.old)))
+        × (events.new ≡ leaves (number (capture_answer dbm.now rate t0 None (length events.old) (length scratch32.old) (length scratch64.old))) (in_front (captured dbm.now rate t0 (floor_of None dbm.now)) events.old) events.old)
+        × Free (number (capture_answer dbm.now rate t0 None (length events.old) (length scratch32.old) (length scratch64.old))) scratch32.old scratch32.new
+        × Free (number (capture_answer dbm.now rate t0 None (length events.old) (length scratch32.old) (length scratch64.old))) scratch64.old scratch64.new }
 {
-    match demod::decode_capture(dbm, rate, t0, Floor::Measured, events, scratch32, scratch64) {
-        Captured::Refused(_) => 0,
-        Captured::Count(n) => n,
+    match demod::decode_capture(dbm, rate, t0, None, events, scratch32, scratch64) {
+        Err(_) => 0,
+        Ok(n) => n,
     }
 }
 
@@ -171,11 +149,11 @@ pub extern "C" fn bench_write_uplink(
     let fields = UplinkFields {
         device_id: device,
         counter: counter,
-        bit: SingleBit::Absent,
+        bit: None,
         downlink: false,
     };
     match writer::write_uplink(fields, payload, auth, out) {
-        Written::Refused(_) => 0,
-        Written::Bits(n) => n,
+        Err(_) => 0,
+        Ok(n) => n,
     }
 }

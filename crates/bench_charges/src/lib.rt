@@ -7,7 +7,7 @@ ghost use Rattle.event_list.specs.Events.{events_of, messages_of};
 ghost use Rattle.subscription.specs.Charges.{cents_of, on_day, charge_cause};
 ghost use Rattle.bench_charges.specs.Cents.{bench_plan, cents_in};
 
-use subscription::{Charge, Plan};
+use subscription::Plan;
 
 // The cents that subscription::charges answers for a plan of three steps, 0 where it refuses.
 #[unsafe(no_mangle)]
@@ -21,8 +21,5 @@ pub extern "C" fn bench_charges(records: &[u8], month_start: i64) -> u64
         uppers: [10000, 20000, 0, 0, 0, 0, 0, 0],
         prices: [700, 400, 250, 0, 0, 0, 0, 0],
     };
-    match subscription::charges(records, plan, month_start) {
-        Charge::Refused(_) => 0,
-        Charge::Cents(n) => n,
-    }
+    subscription::charges(records, plan, month_start).unwrap_or(0)
 }

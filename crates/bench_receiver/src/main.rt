@@ -7,39 +7,50 @@ ghost use Rattle.receiver.specs.Running.{OnlyAdds};
 ghost use Rattle.receiver_grown.specs.InOrder.{InOrder};
 ghost use Rattle.receiver_grown.specs.Grown.{Grown};
 
+use limits::Refusal;
 use receiver::SigfoxReceiver;
 use shifts::Shifts;
 
-// Between two pushes: the receiver, how many records it wrote, and the refusal of the last call or 0.
+// Between two pushes: the receiver, how many records it wrote, and the refusal of the last call.
 #[derive(Clone, Copy)]
 struct State {
     receiver: SigfoxReceiver,
     records: u64,
-    refused: u8,
+    refused: Option<Refusal>,
+}
+
+// A call's records, or its refusal.
+fn note(s: &mut State, answer: Result<usize, Refusal>)
+    ensures { s.new.receiver ≡ s.old.receiver }
+{
+    match answer {
+        Ok(count) => {
+            s.records = s.records.wrapping_add(count as u64);
+            s.refused = None;
+        }
+        Err(refusal) => {
+            s.refused = Some(refusal);
+        }
+    }
 }
 
 fn flush(
-    s: State,
+    s: &mut State,
     samples: &mut [f32; 48000],
     events: &mut [u8; 30720],
     scratch32: &mut [f32; 48000],
     scratch64: &mut [f64; limits::SCRATCH64],
-) -> State {
-    let given = s.receiver;
+) {
     let shifts = Shifts::none();
-    let closed = [0u32; 0];
-    let r = given.flush(shifts, &closed, samples, events, scratch32, scratch64);
-    let receiver = r.receiver;
-    State {
-        receiver,
-        records: std::num::wrapping_add_u64(s.records, r.count as u64),
-        refused: r.refused,
-    }
+    let answer = s
+        .receiver
+        .flush(shifts, &[0u32; 0], samples, events, scratch32, scratch64);
+    note(s, answer);
 }
 
 // Whether a push only adds its samples: by what the calls before it promise where that is proved, else after a test of all that is held.
 fn adds(
-    receiver: SigfoxReceiver,
+    receiver: &SigfoxReceiver,
     proved: bool,
     raw: &[u8],
     shifts: Shifts,
@@ -49,8 +60,8 @@ fn adds(
     scratch32: &[f32],
     scratch64: &[f64],
 ) -> bool
-    requires { InOrder receiver samples.now }
-    ensures { result ≡ true → OnlyAdds receiver (push_raw raw.now) (record { shifts = shifts; closed = closed.now }) (length raw.now)
+    requires { InOrder receiver.now samples.now }
+    ensures { result ≡ true → OnlyAdds receiver.now (push_raw raw.now) (record { shifts = shifts; closed = closed.now }) (length raw.now)
         (record { samples = samples.entry.now; events = events.now; scratch32 = scratch32.now; scratch64 = scratch64.now }) }
 {
     if proved {
@@ -61,8 +72,42 @@ fn adds(
     receiver.adds_raw(raw, shifts, closed, samples, events, scratch32, scratch64)
 }
 
+// One push.
+fn push(
+    s: &mut State,
+    proved: bool,
+    raw: &[u8],
+    samples: &mut [f32; 48000],
+    events: &mut [u8; 30720],
+    scratch32: &mut [f32; 48000],
+    scratch64: &mut [f64; limits::SCRATCH64],
+)
+    requires { Grown s.old.receiver samples.old }
+    ensures { Grown s.new.receiver samples.new }
+{
+    let shifts = Shifts::none();
+    let closed = [0u32; 0];
+    if adds(
+        &s.receiver,
+        proved,
+        raw,
+        shifts,
+        &closed,
+        samples,
+        events,
+        scratch32,
+        scratch64,
+    ) {
+        s.receiver.add_raw(raw, shifts, &closed, samples, events, scratch32, scratch64);
+        s.refused = None;
+        return;
+    }
+    let answer = s.receiver.push_raw(raw, shifts, &closed, samples, events, scratch32, scratch64);
+    note(s, answer);
+}
+
 fn push_chunk(
-    s: State,
+    s: &mut State,
     proved: bool,
     raw: &[u8],
     step: usize,
@@ -70,64 +115,21 @@ fn push_chunk(
     events: &mut [u8; 30720],
     scratch32: &mut [f32; 48000],
     scratch64: &mut [f64; limits::SCRATCH64],
-) -> State
-    requires { (0 < step) × Grown s.receiver samples.old }
-    ensures { Grown result.receiver samples.new }
+)
+    requires { (0 < step) × Grown s.old.receiver samples.old }
+    ensures { Grown s.new.receiver samples.new }
 {
-    let mut receiver = s.receiver;
-    let mut records = s.records;
-    let mut refused = s.refused;
-    let shifts = Shifts::none();
-    let closed = [0u32; 0];
-    let mut at: usize = 0;
-    while at < raw.len() {
-        let n = whole::least(step, raw.len() - at);
-        let end = at + n;
-        if adds(
-            receiver,
-            proved,
-            &raw[at..end],
-            shifts,
-            &closed,
-            samples,
-            events,
-            scratch32,
-            scratch64,
-        ) {
-            let r = receiver.add_raw(
-                &raw[at..end],
-                shifts,
-                &closed,
-                samples,
-                events,
-                scratch32,
-                scratch64,
-            );
-            let next = r.receiver;
-            receiver = next;
-            refused = 0;
-        } else {
-            let r = receiver.push_raw(
-                &raw[at..end],
-                shifts,
-                &closed,
-                samples,
-                events,
-                scratch32,
-                scratch64,
-            );
-            let next = r.receiver;
-            receiver = next;
-            records = std::num::wrapping_add_u64(records, r.count as u64);
-            refused = r.refused;
-        }
-        at = end;
+    for part in raw.chunks(step) {
+        push(s, proved, part, samples, events, scratch32, scratch64);
     }
-    State {
-        receiver,
-        records,
-        refused,
-    }
+}
+
+// How many records there were, and the number of the refusal that ended the pushes, 0 for none.
+fn print_totals(rt: &impl Print, records: u64, refused: Option<Refusal>) {
+    replay::print_number(rt, records);
+    replay::print(rt, b" ");
+    replay::print_number(rt, refused.map_or(0, |r| u64::from(u8::from(r))));
+    replay::print_end(rt);
 }
 
 fn main(rt: HostRuntime) {
@@ -137,13 +139,13 @@ fn main(rt: HostRuntime) {
     let mut scratch64 = [0.0f64; limits::SCRATCH64];
     let mut head = [0u8; 12];
     let whole = replay::read_part(&rt, &mut head);
-    let receiver = SigfoxReceiver::new(endian::get_u32(&head, 0));
-    let step = endian::get_u32(&head, 4) as usize;
-    let proved = 0 < endian::get_u32(&head, 8);
+    let receiver = SigfoxReceiver::new(endian::get::<u32>(&head, 0));
+    let step = endian::get::<u32>(&head, 4) as usize;
+    let proved = 0 < endian::get::<u32>(&head, 8);
     let mut s = State {
         receiver,
         records: 0,
-        refused: 0,
+        refused: None,
     };
     let mut left = replay::MOST_CASES;
     let mut more = whole & (0 < step);
@@ -153,8 +155,8 @@ fn main(rt: HostRuntime) {
         more = n == 48000;
         left -= 1;
         if 0 < step && n <= 48000 {
-            s = push_chunk(
-                s,
+            push_chunk(
+                &mut s,
                 proved,
                 &raw[..n],
                 step,
@@ -165,9 +167,12 @@ fn main(rt: HostRuntime) {
             );
         }
     }
-    s = flush(s, &mut samples, &mut events, &mut scratch32, &mut scratch64);
-    replay::print_number(&rt, s.records);
-    replay::print(&rt, b" ");
-    replay::print_number(&rt, s.refused as u64);
-    replay::print_end(&rt);
+    flush(
+        &mut s,
+        &mut samples,
+        &mut events,
+        &mut scratch32,
+        &mut scratch64,
+    );
+    print_totals(&rt, s.records, s.refused);
 }

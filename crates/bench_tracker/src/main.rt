@@ -3,12 +3,13 @@
 #![tactic(auto)]
 
 ghost use Rattle.std.specs.Prelude.{◌≡◌, List, ℕ, ◌≤◌, ◌<◌, Float};
+ghost use Rattle.limits.specs.Answer.{cause_of};
 ghost use Rattle.frequency.specs.Lent.{Lists, lists};
-ghost use Rattle.frequency.specs.Calls.{SamplesEnd, CfoEnd, NextEnd};
+ghost use Rattle.frequency.specs.Calls.{SamplesEnd, CfoEnd, NextEnd, tune_of};
 ghost use Rattle.frequency_grown.specs.Rising.{Single};
 
-use frequency::{FrequencyTracker, Next, Tracked};
-use frequency_measure::Frequency;
+use frequency::FrequencyTracker;
+use limits::Refusal;
 
 const RATE: u32 = 1000;
 
@@ -24,28 +25,11 @@ struct State {
     tracker: FrequencyTracker,
 }
 
-// The state after a call that was refused.
-fn refused(rt: &impl Print, s: State, tracker: FrequencyTracker, n: u8) -> State
-    ensures { result.tracker ≡ tracker }
-{
-    replay::print_refusal(rt, n);
-    State {
-        all: s.all,
-        known: s.known,
-        open: false,
-        started: true,
-        tracker: tracker,
-    }
-}
-
-fn print_tune(rt: &impl Print, f: Frequency) {
-    match f {
-        Frequency::Nothing => {}
-        Frequency::Hz(hz) => {
-            replay::print(rt, b"T ");
-            replay::print_number(rt, hz as u64);
-            replay::print_end(rt);
-        }
+fn print_tune(rt: &impl Print, f: Option<u32>) {
+    if let Some(hz) = f {
+        replay::print(rt, b"T ");
+        replay::print_number(rt, u64::from(hz));
+        replay::print_end(rt);
     }
 }
 
@@ -66,59 +50,22 @@ fn levels(record: &[u8; 16]) -> [f32; 8] {
     ]
 }
 
-// The tracker of the first record's frequency, or the one that there is.
-fn begun(s: State, freq: u32) -> FrequencyTracker
-    ensures { (l : Lists) → Single s.tracker l → Single result l }
+// The tracker of the first record's frequency, where there was no record before.
+fn begin(s: &mut State, freq: u32)
+    ensures { (l : Lists) → Single s.old.tracker l → Single s.new.tracker l }
 {
-    let tracker = s.tracker;
     if s.started {
-        return tracker;
+        return;
     }
-    let fresh = FrequencyTracker::new(RATE, freq, STEP_HZ);
-    if fresh.refused != 0 {
-        return tracker;
+    s.started = true;
+    if let Ok(first) = FrequencyTracker::new(RATE, freq, STEP_HZ) {
+        s.tracker = first;
     }
-    let first = fresh.tracker;
-    first
-}
-
-// The state after a call.
-fn after(s: State, tracker: FrequencyTracker) -> State
-    ensures { result.tracker ≡ tracker }
-{
-    State {
-        all: s.all,
-        known: s.known,
-        open: true,
-        started: true,
-        tracker: tracker,
-    }
-}
-
-fn tuned(
-    rt: &impl Print,
-    s: State,
-    tracker: FrequencyTracker,
-    freq: u32,
-    tunings: &mut [u64; 64],
-    freqs: &mut [u32; 64],
-) -> State
-    ensures { (at lo : List ℕ) (hz : List Float) → Single tracker (lists at lo hz tunings.old freqs.old) → Single result.tracker (lists at lo hz tunings.new freqs.new) }
-{
-    if s.all {
-        let r = tracker.tuned(freq, tunings, freqs);
-        let next = r.tracker;
-        if r.refused != 0 {
-            return refused(rt, s, next, r.refused);
-        }
-        return after(s, next);
-    }
-    after(s, tracker)
 }
 
 // A line of samples, by one of the two ways.
 fn sampled(
-    t: FrequencyTracker,
+    t: &mut FrequencyTracker,
     known: bool,
     dbm: &[f32],
     at: &mut [u64],
@@ -126,9 +73,9 @@ fn sampled(
     hz: &mut [f64],
     tunings: &mut [u64],
     freqs: &mut [u32],
-) -> Tracked
-    requires { Single t (lists at.old lo.old hz.old tunings.old freqs.old) }
-    ensures { SamplesEnd t dbm.now (lists at.old lo.old hz.old tunings.old freqs.old) result.refused result.tracker (lists at.new lo.new hz.new tunings.new freqs.new) }
+) -> Result<(), Refusal>
+    requires { Single t.old (lists at.old lo.old hz.old tunings.old freqs.old) }
+    ensures { SamplesEnd t.old dbm.now (lists at.old lo.old hz.old tunings.old freqs.old) (cause_of result) t.new (lists at.new lo.new hz.new tunings.new freqs.new) }
 {
     if known {
         return frequency_grown::samples_rising(t, dbm, at, lo, hz, tunings, freqs);
@@ -138,7 +85,7 @@ fn sampled(
 
 // A register value, by one of the two ways.
 fn read(
-    t: FrequencyTracker,
+    t: &mut FrequencyTracker,
     known: bool,
     raw: &[u16],
     at: &mut [u64],
@@ -146,9 +93,9 @@ fn read(
     hz: &mut [f64],
     tunings: &[u64],
     freqs: &[u32],
-) -> Tracked
-    requires { Single t (lists at.old lo.old hz.old tunings.now freqs.now) }
-    ensures { CfoEnd t raw.now (lists at.old lo.old hz.old tunings.now freqs.now) result.refused result.tracker (lists at.new lo.new hz.new tunings.now freqs.now) }
+) -> Result<(), Refusal>
+    requires { Single t.old (lists at.old lo.old hz.old tunings.now freqs.now) }
+    ensures { CfoEnd t.old raw.now (lists at.old lo.old hz.old tunings.now freqs.now) (cause_of result) t.new (lists at.new lo.new hz.new tunings.now freqs.now) }
 {
     if known {
         return frequency_grown::cfo(t, raw, at, lo, hz, tunings, freqs);
@@ -158,7 +105,7 @@ fn read(
 
 // Where to tune, by one of the two ways.
 fn chosen(
-    t: FrequencyTracker,
+    t: &mut FrequencyTracker,
     known: bool,
     at: &[u64],
     lo: &[u32],
@@ -166,9 +113,9 @@ fn chosen(
     tunings: &[u64],
     freqs: &[u32],
     scratch: &mut [f64],
-) -> Next
-    requires { Single t (lists at.now lo.now hz.now tunings.now freqs.now) }
-    ensures { NextEnd t (lists at.now lo.now hz.now tunings.now freqs.now) scratch.old result.refused result.tracker result.tune scratch.new }
+) -> Result<Option<u32>, Refusal>
+    requires { Single t.old (lists at.now lo.now hz.now tunings.now freqs.now) }
+    ensures { NextEnd t.old (lists at.now lo.now hz.now tunings.now freqs.now) scratch.old (cause_of result) t.new (tune_of result) scratch.new }
 {
     if known {
         return frequency_grown::next_tuning(t, at, lo, hz, tunings, freqs, scratch);
@@ -176,65 +123,30 @@ fn chosen(
     t.next_tuning(at, lo, hz, tunings, freqs, scratch)
 }
 
-fn asked(
-    rt: &impl Print,
-    s: State,
-    at: &[u64; 8000],
-    lo: &[u32; 8000],
-    hz: &[f64; 8000],
-    tunings: &[u64; 64],
-    freqs: &[u32; 64],
-    scratch: &mut [f64; 8000],
-) -> State
-    requires { Single s.tracker (lists at.now lo.now hz.now tunings.now freqs.now) }
-    ensures { Single result.tracker (lists at.now lo.now hz.now tunings.now freqs.now) }
-{
-    if s.all {
-        let tracker = s.tracker;
-        let r = chosen(tracker, s.known, at, lo, hz, tunings, freqs, scratch);
-        let next = r.tracker;
-        if r.refused != 0 {
-            return refused(rt, s, next, r.refused);
-        }
-        let tune = r.tune;
-        print_tune(rt, tune);
-        return after(s, next);
-    }
-    s
-}
-
+// The record's samples and its register value.
 fn heard(
-    rt: &impl Print,
-    s: State,
+    t: &mut FrequencyTracker,
+    known: bool,
     record: &[u8; 16],
     at: &mut [u64; 8000],
     lo: &mut [u32; 8000],
     hz: &mut [f64; 8000],
     tunings: &mut [u64; 64],
     freqs: &mut [u32; 64],
-) -> State
-    requires { Single s.tracker (lists at.old lo.old hz.old tunings.old freqs.old) }
-    ensures { Single result.tracker (lists at.new lo.new hz.new tunings.new freqs.new) }
+) -> Result<(), Refusal>
+    requires { Single t.old (lists at.old lo.old hz.old tunings.old freqs.old) }
+    ensures { Single t.new (lists at.new lo.new hz.new tunings.new freqs.new) }
 {
-    let value = [endian::get_u16(record, 8)];
+    let value = [endian::get::<u16>(record, 8)];
     let dbm = levels(record);
-    let tracker = s.tracker;
-    let b = sampled(tracker, s.known, &dbm, at, lo, hz, tunings, freqs);
-    let line = b.tracker;
-    if b.refused != 0 {
-        return refused(rt, s, line, b.refused);
-    }
-    let c = read(line, s.known, &value, at, lo, hz, tunings, freqs);
-    let next = c.tracker;
-    if c.refused != 0 {
-        return refused(rt, s, next, c.refused);
-    }
-    after(s, next)
+    sampled(t, known, &dbm, at, lo, hz, tunings, freqs)?;
+    read(t, known, &value, at, lo, hz, tunings, freqs)
 }
 
-fn all_calls(
+// The calls of one record.
+fn record_calls(
     rt: &impl Print,
-    s: State,
+    s: &mut State,
     record: &[u8; 16],
     at: &mut [u64; 8000],
     lo: &mut [u32; 8000],
@@ -242,62 +154,52 @@ fn all_calls(
     tunings: &mut [u64; 64],
     freqs: &mut [u32; 64],
     scratch: &mut [f64; 8000],
-) -> State
-    requires { Single s.tracker (lists at.old lo.old hz.old tunings.old freqs.old) }
-    ensures { Single result.tracker (lists at.new lo.new hz.new tunings.new freqs.new) }
+) -> Result<(), Refusal>
+    requires { Single s.old.tracker (lists at.old lo.old hz.old tunings.old freqs.old) }
+    ensures { Single s.new.tracker (lists at.new lo.new hz.new tunings.new freqs.new) }
 {
-    let freq = endian::get_u32(record, 10);
-    let tracker = begun(s, freq);
-    let a = tuned(rt, s, tracker, freq, tunings, freqs);
-    if !a.open {
-        return a;
+    let freq = endian::get::<u32>(record, 10);
+    begin(s, freq);
+    if s.all {
+        s.tracker.tuned(freq, tunings, freqs)?;
     }
-    let b = heard(rt, a, record, at, lo, hz, tunings, freqs);
-    if !b.open {
-        return b;
+    heard(&mut s.tracker, s.known, record, at, lo, hz, tunings, freqs)?;
+    if s.all {
+        let tune = chosen(&mut s.tracker, s.known, at, lo, hz, tunings, freqs, scratch)?;
+        print_tune(rt, tune);
     }
-    asked(rt, b, at, lo, hz, tunings, freqs, scratch)
+    Ok(())
 }
 
 // The last line: samples, readings and tunings.
-fn ended(rt: &impl Print, s: State) -> State
-    ensures { result.tracker ≡ s.tracker }
+fn end(rt: &impl Print, s: &mut State)
+    ensures { s.new.tracker ≡ s.old.tracker }
 {
-    if !s.open {
-        return s;
+    if s.open {
+        replay::print(rt, b"E ");
+        replay::print_number(rt, s.tracker.signal.n);
+        replay::print(rt, b" ");
+        replay::print_number(rt, s.tracker.readings as u64);
+        replay::print(rt, b" ");
+        replay::print_number(rt, s.tracker.tunings as u64);
+        replay::print_end(rt);
+        s.open = false;
     }
-    let tracker = s.tracker;
-    let signal = tracker.signal;
-    replay::print(rt, b"E ");
-    replay::print_number(rt, signal.n);
-    replay::print(rt, b" ");
-    replay::print_number(rt, tracker.readings as u64);
-    replay::print(rt, b" ");
-    replay::print_number(rt, tracker.tunings as u64);
-    replay::print_end(rt);
-    let mut t = s;
-    t.open = false;
-    t
 }
 
 // One of the records of a block.
 fn record_of(block: &[u8; 4096], i: usize) -> [u8; 16]
     requires { i < 256 }
 {
-    let from = 16 * i;
     let mut record = [0u8; 16];
-    let mut k = 0usize;
-    while k < 16 {
-        record[k] = block[from + k];
-        k += 1;
-    }
+    record.copy_from_slice(&block[16 * i..16 * i + 16]);
     record
 }
 
-// The first `count` records of a block.
+// The first `count` records of a block; nothing after a refusal.
 fn records(
     rt: &impl Print,
-    s: State,
+    s: &mut State,
     block: &[u8; 4096],
     count: usize,
     at: &mut [u64; 8000],
@@ -306,56 +208,44 @@ fn records(
     tunings: &mut [u64; 64],
     freqs: &mut [u32; 64],
     scratch: &mut [f64; 8000],
-) -> State
-    requires { (count ≤ 256) × Single s.tracker (lists at.old lo.old hz.old tunings.old freqs.old) }
-    ensures { Single result.tracker (lists at.new lo.new hz.new tunings.new freqs.new) }
+)
+    requires { (count ≤ 256) × Single s.old.tracker (lists at.old lo.old hz.old tunings.old freqs.old) }
+    ensures { Single s.new.tracker (lists at.new lo.new hz.new tunings.new freqs.new) }
 {
-    let mut t = s;
-    let mut i = 0usize;
-    while i < count {
-        if !t.open {
-            return t;
+    for i in 0..count {
+        if !s.open {
+            return;
         }
-        t = all_calls(
-            rt,
-            t,
-            &record_of(block, i),
-            at,
-            lo,
-            hz,
-            tunings,
-            freqs,
-            scratch,
-        );
-        i += 1;
+        let record = record_of(block, i);
+        if let Err(refusal) = record_calls(rt, s, &record, at, lo, hz, tunings, freqs, scratch) {
+            s.open = false;
+            replay::print_refusal(rt, refusal);
+        }
     }
-    t
 }
 
 // The records of the next block.
 fn turn(
     rt: &(impl Input + Print),
-    s: State,
+    s: &mut State,
     at: &mut [u64; 8000],
     lo: &mut [u32; 8000],
     hz: &mut [f64; 8000],
     tunings: &mut [u64; 64],
     freqs: &mut [u32; 64],
     scratch: &mut [f64; 8000],
-) -> State
-    requires { Single s.tracker (lists at.old lo.old hz.old tunings.old freqs.old) }
-    ensures { Single result.tracker (lists at.new lo.new hz.new tunings.new freqs.new) }
+)
+    requires { Single s.old.tracker (lists at.old lo.old hz.old tunings.old freqs.old) }
+    ensures { Single s.new.tracker (lists at.new lo.new hz.new tunings.new freqs.new) }
 {
     let mut block = [0u8; 4096];
     let n = reading::read_full(rt, &mut block);
     if n == 4096 {
-        return records(rt, s, &block, 256, at, lo, hz, tunings, freqs, scratch);
+        records(rt, s, &block, 256, at, lo, hz, tunings, freqs, scratch);
+    } else {
+        records(rt, s, &block, n / 16, at, lo, hz, tunings, freqs, scratch);
+        end(rt, s);
     }
-    if n < 4096 {
-        let last = records(rt, s, &block, n / 16, at, lo, hz, tunings, freqs, scratch);
-        return ended(rt, last);
-    }
-    s
 }
 
 fn start(rt: &impl Input, tracker: FrequencyTracker) -> State
@@ -368,7 +258,7 @@ fn start(rt: &impl Input, tracker: FrequencyTracker) -> State
         known: first[1] != 0,
         open: there,
         started: false,
-        tracker: tracker,
+        tracker,
     }
 }
 
@@ -379,20 +269,17 @@ fn main(rt: HostRuntime) {
     let mut tunings = [0u64; 64];
     let mut freqs = [0u32; 64];
     let mut scratch = [0.0f64; 8000];
-    let fresh = FrequencyTracker::new(RATE, 0, STEP_HZ);
-    if fresh.refused != 0 {
+    let Ok(tracker) = FrequencyTracker::new(RATE, 0, STEP_HZ) else {
         return;
-    }
-    let tracker = fresh.tracker;
+    };
     let mut s = start(&rt, tracker);
-    let mut left = replay::MOST_CASES;
-    while left > 0 {
+    for _ in 0..replay::MOST_CASES {
         if !s.open {
             return;
         }
-        s = turn(
+        turn(
             &rt,
-            s,
+            &mut s,
             &mut at,
             &mut lo,
             &mut hz,
@@ -400,6 +287,5 @@ fn main(rt: HostRuntime) {
             &mut freqs,
             &mut scratch,
         );
-        left -= 1;
     }
 }

@@ -1,15 +1,11 @@
 -- The bursts of a list lie in a row: each inside the samples and long enough, the next one more than the gap after it, and from a burst's end on the
 -- loop finds the rest of the list. Assumes nothing.
-use Rattle.std.proofs.Common.{◌≡◌, ℕ, suc, ◌+◌, ◌-◌, ◌<◌, ◌≤◌, Bool, true, false, cond, T, ltb, List, [], ◌∷◌, length, drop, sym, refl, ap, ◌∙◌, add-one, arith, length-drop, drop-drop, ltb-true, le-leb}
-use mathlib.Core.Option.{some}
-use mathlib.Core.Option as option
+use Rattle.std.proofs.Common.{◌≡◌, ℕ, suc, ◌+◌, ◌-◌, ◌<◌, ◌≤◌, Bool, true, false, cond, T, ltb, List, [], ◌∷◌, length, drop, sym, refl, ap, ◌∙◌, add-one, arith, length-drop, drop-drop, ltb-true, le-leb, Option, None, Some}
 use lib.Ieee.{Float}
-use Rattle.limits.specs.Answer.{accepted}
-use Rattle.bursts.specs.Bursts.{Cluster, cluster, Open, none, since, loud, clusters, long_enough, threshold, gap_samples, burst_of, bursts_in, bursts_of, first_from, said}
+use Rattle.bursts.specs.Bursts.{Cluster, cluster, Open, none, since, loud, clusters, long_enough, threshold, gap_samples, burst_of, bursts_in, bursts_of, first_from}
 use Rattle.bursts.specs.Found.{bursts_from}
 use Rattle.bursts.specs.declared.BurstOptions.{BurstOptions}
 use Rattle.bursts.specs.declared.Burst.{Burst}
-use Rattle.bursts.specs.declared.NextBurst.TheVariants.{Refused, Nothing, Found}
 use Rattle.bursts.proofs.ClusterLaws.{left}
 use Rattle.bursts.proofs.SearchLaws.{from_start}
 
@@ -120,29 +116,24 @@ module _ (dbm : List Float) (rate : ℕ) (o : BurstOptions) (floor : Float) wher
     pub inside : b.end ≤ length dbm
     pub long : long_enough o rate (cluster b.start (b.end - 1)) ≡ true
 
-  pub found_next : (i : ℕ) (b : Burst) → i ≤ length dbm → said (Found b) ≡ accepted (first_from 0 (bursts_from dbm rate o floor i)) → Next i b
-  unfolding said first_from
+  pub found_next : (i : ℕ) (b : Burst) → i ≤ length dbm → Some b ≡ first_from 0 (bursts_from dbm rate o floor i) → Next i b
+  unfolding first_from
   found_next i b h e = go (bursts_from dbm rate o floor i) refl (bursts_from_in_row i h) e
     where
-      go : (bs : List Burst) → bursts_from dbm rate o floor i ≡ bs → InRow i bs → accepted (some b) ≡ accepted (first_from 0 bs) → Next i b
+      go : (bs : List Burst) → bursts_from dbm rate o floor i ≡ bs → InRow i bs → Some b ≡ first_from 0 bs → Next i b
       go [] p w q = let z : ◌≡◌ {A = ℕ} 0 1 = cc in absurd (omega arith)
       go (c ∷ cs) p (next u v r l t w) q =
-          let f : accepted (some b) ≡ accepted (some c) = rw (le-leb 0 c.start (omega arith)) at q in
+          let f : Some b ≡ Some c = rw (le-leb 0 c.start (omega arith)) at q in
           let z : b ≡ c = cc in
           rw z (record { list = p ∙ ap (λ (bs : List Burst). c ∷ bs) t; after = u; order = v; inside = r; long = l })
 
-  pub found_none : (i : ℕ) → said Nothing ≡ accepted (first_from 0 (bursts_from dbm rate o floor i)) → bursts_from dbm rate o floor i ≡ []
-  unfolding said first_from
+  pub found_none : (i : ℕ) → None ≡ first_from 0 (bursts_from dbm rate o floor i) → bursts_from dbm rate o floor i ≡ []
+  unfolding first_from
   found_none i e = go (bursts_from dbm rate o floor i) e
     where
-      go : (bs : List Burst) → accepted option.none ≡ accepted (first_from 0 bs) → bs ≡ []
+      go : (bs : List Burst) → None ≡ first_from 0 bs → bs ≡ []
       go [] q = refl
       go (c ∷ cs) q =
-          let f : accepted option.none ≡ accepted (some c) = rw (le-leb 0 c.start (omega arith)) at q in
+          let f : ◌≡◌ {A = Option Burst} None (Some c) = rw (le-leb 0 c.start (omega arith)) at q in
           let z : ◌≡◌ {A = ℕ} 0 1 = cc in
           absurd (omega arith)
-
-  -- no search is refused
-  pub found_refused : (n from i : ℕ) → said (Refused n) ≡ accepted (first_from from (bursts_from dbm rate o floor i)) → ⊥
-  unfolding said
-  found_refused n from i e = let z : ◌≡◌ {A = ℕ} 0 1 = cc in omega arith

@@ -1,17 +1,11 @@
--- The search for the first burst at or after an index, cluster by cluster, and its refusals. Assumes nothing.
-use Rattle.std.proofs.Common.{◌≡◌, ℕ, ◌+◌, ◌*◌, ◌<◌, ◌≤◌, Bool, true, false, cond, List, ◌∷◌, length, sym, refl, ap, ◌∙◌, add-one, arith, le-ltb, lt-ltb, le-leb}
-use mathlib.Core.Option.{Option}
+-- The search for the first burst at or after an index, cluster by cluster. Assumes nothing.
+use Rattle.std.proofs.Common.{◌≡◌, ℕ, ◌+◌, ◌<◌, ◌≤◌, Bool, true, false, cond, List, ◌∷◌, length, sym, refl, ap, ◌∙◌, add-one, arith, le-leb, Option, None, Some}
 use lib.Ieee.{Float}
 use borrow.Author.Tests.{lt-leb}
-use Rattle.limits.specs.Limits.{bad_rate, long, bad_sample, bad_number, buffer_s}
-use Rattle.limits.specs.Samples.{rate_ok, all_dbm}
-use Rattle.limits.specs.Answer.{accepted, answer}
-use Rattle.bursts.specs.Bursts.{Cluster, cluster, none, long_enough, threshold, gap_samples, burst_of, bursts_in, bursts_of, first_from, options_ok, said, burst_cause, burst_answer}
+use Rattle.bursts.specs.Bursts.{Cluster, cluster, none, long_enough, threshold, gap_samples, burst_of, bursts_in, bursts_of, first_from}
 use Rattle.bursts.specs.Found.{bursts_from, FirstLoud, LastLoud}
 use Rattle.bursts.specs.declared.BurstOptions.{BurstOptions}
 use Rattle.bursts.specs.declared.Burst.{Burst}
-use Rattle.bursts.specs.declared.NextBurst.{NextBurst}
-use Rattle.bursts.specs.declared.NextBurst.TheVariants.{Refused, Nothing, Found}
 use Rattle.bursts.proofs.ClusterLaws.{left, left_end, opened}
 
 module _ (dbm : List Float) (rate : ℕ) (o : BurstOptions) (floor : Float) where
@@ -30,14 +24,14 @@ module _ (dbm : List Float) (rate : ℕ) (o : BurstOptions) (floor : Float) (fro
   search_start t gap at e g = rw (e, g)
 
   module _ (t : Float) (gap i : ℕ) (w : Option Burst) (p : rest t gap i ≡ w) where
-    pub search-end : length dbm ≤ i → said Nothing ≡ accepted w
-    unfolding said bursts_in first_from
-    search-end h = ap accepted (rw (left_end t gap dbm i h) at p)
+    pub search-end : length dbm ≤ i → None ≡ w
+    unfolding bursts_in first_from
+    search-end h = rw (left_end t gap dbm i h) at p
 
     module _ (first : ℕ) (f : FirstLoud t dbm i first) where
-      pub search_none : first ≡ length dbm → said Nothing ≡ accepted w
-      unfolding said bursts_in first_from
-      search_none e = ap accepted (rw (f.passed gap ∙ left_end t gap dbm first (omega arith)) at p)
+      pub search_none : first ≡ length dbm → None ≡ w
+      unfolding bursts_in first_from
+      search_none e = rw (f.passed gap ∙ left_end t gap dbm first (omega arith)) at p
 
       module _ (h : first < length dbm) (last : ℕ) (l : LastLoud t gap dbm first last) where
         next : left t gap dbm none i ≡ cluster first last ∷ left t gap dbm none (last + 1)
@@ -46,9 +40,9 @@ module _ (dbm : List Float) (rate : ℕ) (o : BurstOptions) (floor : Float) (fro
         taken : first_from from (bursts_in dbm rate o floor (cluster first last ∷ left t gap dbm none (last + 1))) ≡ w
         taken = sym (ap (λ (cs : List Cluster). first_from from (bursts_in dbm rate o floor cs)) next) ∙ p
 
-        pub search-found : (b : Burst) → from ≤ first → long_enough o rate (cluster first last) ≡ true → b ≡ burst_of dbm floor (cluster first last) → said (Found b) ≡ accepted w
-        unfolding said bursts_in first_from burst_of
-        search-found b a g e = rw e (ap accepted (rw (g, le-leb from first a) at taken))
+        pub search-found : (b : Burst) → from ≤ first → long_enough o rate (cluster first last) ≡ true → b ≡ burst_of dbm floor (cluster first last) → Some b ≡ w
+        unfolding bursts_in first_from burst_of
+        search-found b a g e = rw e (rw (g, le-leb from first a) at taken)
 
         pub search_short : long_enough o rate (cluster first last) ≡ false → rest t gap (last + 1) ≡ w
         unfolding bursts_in
@@ -62,27 +56,3 @@ module _ (dbm : List Float) (rate : ℕ) (o : BurstOptions) (floor : Float) (fro
                 → rest t gap (last + 1) ≡ w
             go true q = rw (lt-leb from first a) at q
             go false q = q
-
-  -- the refusals, in order
-  pub burst_rate : rate_ok rate ≡ false → said (Refused bad_rate) ≡ burst_answer dbm rate o floor from
-  unfolding said answer burst_cause burst_answer
-  burst_rate e = rw e
-
-  module _ (a : rate_ok rate ≡ true) where
-    pub burst-long : buffer_s * rate < length dbm → said (Refused long) ≡ burst_answer dbm rate o floor from
-    unfolding said answer burst_cause burst_answer
-    burst-long h = rw (a, lt-ltb (buffer_s * rate) (length dbm) h)
-
-    module _ (b : length dbm ≤ buffer_s * rate) where
-      pub burst-invalid : all_dbm dbm ≡ false → said (Refused bad_sample) ≡ burst_answer dbm rate o floor from
-      unfolding said answer burst_cause burst_answer
-      burst-invalid e = rw (a, le-ltb (buffer_s * rate) (length dbm) b, e)
-
-      module _ (v : all_dbm dbm ≡ true) where
-        pub burst-bad : options_ok o floor ≡ false → said (Refused bad_number) ≡ burst_answer dbm rate o floor from
-        unfolding said answer burst_cause burst_answer
-        burst-bad e = rw (a, le-ltb (buffer_s * rate) (length dbm) b, v, e)
-
-        pub burst-done : (r : NextBurst) → options_ok o floor ≡ true → said r ≡ accepted (first_from from (bursts_from dbm rate o floor 0)) → said r ≡ burst_answer dbm rate o floor from
-        unfolding said answer burst_cause burst_answer
-        burst-done r e q = rw (a, le-ltb (buffer_s * rate) (length dbm) b, v, e) (rw (from_start dbm rate o floor) at q)

@@ -1,21 +1,17 @@
 -- `find_bursts` of demod.rs: the whole list of bursts, and the first of it that starts at or after an index. Assumes nothing.
-use Rattle.std.specs.Prelude.{ℕ, suc, ◌+◌, ◌-◌, ◌*◌, Bool, cond, not, ◌&&◌, List, [], ◌∷◌, length, take, drop, nat_le, nat_lt, Float}
-use Rattle.std.proofs.Math.Option.{Option, some}
-use Rattle.std.proofs.Math.Option as option
+use Rattle.std.specs.Prelude.{ℕ, suc, ◌+◌, ◌-◌, ◌*◌, Bool, cond, not, ◌&&◌, List, [], ◌∷◌, length, take, drop, nat_le, nat_lt, Float, Option, None, Some}
 use Rattle.std.specs.Float.{binary64}
 use Rattle.std.specs.Float.Ieee.{add, le, lt}
 use Rattle.floats.specs.Fold.{max_from}
 use Rattle.floats.specs.Number.{num}
 use Rattle.limits.specs.Limits.{bad_rate, long, bad_sample, bad_number, buffer_s}
 use Rattle.limits.specs.Samples.{rate_ok, is_dbm, all_dbm}
-use Rattle.limits.specs.Answer.{Answer, refused, accepted, answer}
+use Rattle.limits.specs.Answer.{Answer, answer}
 use Rattle.rates.specs.Numbers.{gap_ms}
 use Rattle.rates.specs.Rates.{gap_at, long_at}
 use Rattle.bursts.specs.Numbers.{above_db, min_ms, most_db, most_ms, lowest_peak}
 use Rattle.bursts.specs.declared.BurstOptions.{BurstOptions}
 use Rattle.bursts.specs.declared.Burst.{Burst}
-use Rattle.bursts.specs.declared.NextBurst.{NextBurst}
-use Rattle.bursts.specs.declared.NextBurst.TheVariants.{Refused, Nothing, Found}
 
 -- BurstOptions::default, with request 07's min_ms
 abbrev pub default_options : BurstOptions
@@ -87,8 +83,8 @@ bursts_of dbm rate o floor = bursts_in dbm rate o floor (clusters (threshold o f
 
 -- 01: the first burst of the whole list that starts at or after an index, or none
 unfoldable pub first_from : ℕ → List Burst → Option Burst
-first_from from [] = option.none
-first_from from (b ∷ bs) = cond (nat_le from b.start) (some b) (first_from from bs)
+first_from from [] = None
+first_from from (b ∷ bs) = cond (nat_le from b.start) (Some b) (first_from from bs)
 
 -- 01, cause 9 does not apply: above 0 to 100 dB, ms 0 to 10,000, floor -200 to 100, no NaN
 abbrev pub inside : Float → Float → Bool
@@ -96,12 +92,6 @@ inside top x = le (num 0) x && le x top
 
 unfoldable pub options_ok : BurstOptions → Float → Bool
 options_ok o floor = inside most_db o.above_db && (inside most_ms o.min_ms && (inside most_ms o.gap_ms && is_dbm floor))
-
--- 01's number and values of each answer of `find_bursts`; no burst is an ordinary answer
-unfoldable pub said : NextBurst → Answer (Option Burst)
-said (Refused n) = refused n
-said Nothing = accepted option.none
-said (Found b) = accepted (some b)
 
 -- the first cause that applies, 0 where none does
 unfoldable pub burst_cause : List Float → ℕ → BurstOptions → Float → ℕ
@@ -113,6 +103,7 @@ burst_cause dbm rate o floor =
     (cond (not (options_ok o floor)) bad_number
     0)))
 
+-- the answer of `find_bursts`; no burst is an ordinary one
 unfoldable pub burst_answer : List Float → ℕ → BurstOptions → Float → ℕ → Answer (Option Burst)
 unfolding bursts_of first_from burst_cause
 burst_answer dbm rate o floor from = answer (burst_cause dbm rate o floor) (first_from from (bursts_of dbm rate o floor))

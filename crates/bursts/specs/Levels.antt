@@ -4,12 +4,10 @@ use Rattle.std.specs.Float.{binary32}
 use Rattle.order.specs.Order.{kth}
 use Rattle.limits.specs.Limits.{short, long, bad_sample, most_samples}
 use Rattle.limits.specs.Samples.{all_dbm}
-use Rattle.limits.specs.Answer.{Answer, refused, accepted, answer}
+use Rattle.limits.specs.Answer.{Answer, answer}
 use Rattle.rates.specs.Numbers.{floor_quantile}
 use Rattle.rates.specs.Rates.{index_at}
 use Rattle.bursts.specs.Numbers.{silence}
-use Rattle.bursts.specs.declared.Level.{Level}
-use Rattle.bursts.specs.declared.Level.TheVariants.{Refused, Dbm}
 
 -- the value at q of the sorted samples
 unfoldable pub quantile : Float → List Float → Float
@@ -21,11 +19,6 @@ unfolding quantile
 noise_floor [] = silence
 noise_floor (x ∷ l) = quantile floor_quantile (x ∷ l)
 
--- 01's number and values of each answer of `noise_floor`
-unfoldable pub said : Level → Answer Float
-said (Refused n) = refused n
-said (Dbm x) = accepted x
-
 -- the first cause that applies, 0 where none does: a call without a rate, whose scratch need only be as long as its samples
 unfoldable pub floor_cause : List Float → ℕ → ℕ
 floor_cause dbm scratch =
@@ -34,6 +27,7 @@ floor_cause dbm scratch =
     (cond (not (all_dbm dbm)) bad_sample
     0))
 
+-- the answer of `noise_floor`
 unfoldable pub floor_answer : List Float → ℕ → Answer Float
 unfolding noise_floor floor_cause
 floor_answer dbm scratch = answer (floor_cause dbm scratch) (noise_floor dbm)

@@ -6,12 +6,14 @@ ghost use Rattle.std.specs.Float.{nan};
 ghost use Rattle.floats.specs.Fold.{max_from};
 ghost use Rattle.limits.specs.Limits.{most_samples};
 ghost use Rattle.limits.specs.Samples.{all_dbm};
-ghost use Rattle.limits.specs.Answer.{accepted};
+ghost use Rattle.limits.specs.Answer.{said, cause_of};
 ghost use Rattle.bursts.specs.Numbers.{lowest_peak};
-ghost use Rattle.bursts.specs.Levels.{noise_floor, floor_answer};
-ghost use Rattle.bursts.specs.Levels as levels;
-ghost use Rattle.bursts.specs.Bursts.{default_options, loud, cluster, long_enough, gap_samples, burst_of, first_from, inside, options_ok, said, burst_answer};
+ghost use Rattle.bursts.specs.Levels.{noise_floor, floor_cause, floor_answer};
+ghost use Rattle.bursts.specs.Bursts.{default_options, loud, cluster, long_enough, gap_samples, burst_of, first_from, inside, options_ok, burst_cause, burst_answer};
 ghost use Rattle.bursts.specs.Found.{bursts_from, FirstLoud, LastLoud};
+
+use limits::Refusal;
+use limits::rated::Samples;
 
 // The noise floor of no samples.
 pub const SILENCE: f32 = -120.0;
@@ -65,21 +67,6 @@ impl BurstOptions {
     }
 }
 
-// What `find_bursts` answers.
-#[derive(Clone, Copy)]
-pub enum NextBurst {
-    Refused(u8),
-    Nothing,
-    Found(Burst),
-}
-
-// What `noise_floor` answers.
-#[derive(Clone, Copy)]
-pub enum Level {
-    Refused(u8),
-    Dbm(f32),
-}
-
 // The noise floor of valid samples.
 pub fn measured_floor(dbm: &[f32]) -> f32
     requires { (length dbm.now ≤ most_samples) × (all_dbm dbm.now ≡ true) }
@@ -88,23 +75,33 @@ pub fn measured_floor(dbm: &[f32]) -> f32
     if dbm.len() == 0 {
         return SILENCE;
     }
-    order::select32(dbm, dbm.len() / FLOOR_PART)
+    order::select(dbm, dbm.len() / FLOOR_PART)
+}
+
+// The first cause that applies to `noise_floor`.
+#[tactic(auto, unfolding(limits::specs::Answer::cause_of, crate::specs::Levels::floor_cause))]
+fn check_floor(dbm: &[f32], room: usize) -> Result<(), Refusal>
+    ensures { cause_of result ≡ floor_cause dbm.now room }
+{
+    if room < dbm.len() {
+        return Err(Refusal::Short);
+    }
+    if limits::MOST_SAMPLES < dbm.len() {
+        return Err(Refusal::Long);
+    }
+    if !limits::all_dbm(dbm) {
+        return Err(Refusal::BadSample);
+    }
+    Ok(())
 }
 
 // The value at 0.2 of the sorted samples, and SILENCE of none (demod.rs `noise_floor`).
-pub fn noise_floor(dbm: &[f32], scratch: &mut [f32]) -> Level
-    ensures { (levels.said result ≡ floor_answer dbm.now (length scratch.old)) × (scratch.new ≡ scratch.old) }
+#[tactic(auto, using(limits::proofs::AnswerLaws::said_accepted, crate::proofs::LevelLaws::floor_accepted), unfolding(limits::specs::Answer::cause_of, crate::specs::Levels::floor_answer))]
+pub fn noise_floor(dbm: &[f32], scratch: &mut [f32]) -> Result<f32, Refusal>
+    ensures { (said result ≡ floor_answer dbm.now (length scratch.old)) × (scratch.new ≡ scratch.old) }
 {
-    if scratch.len() < dbm.len() {
-        return Level::Refused(limits::SHORT);
-    }
-    if limits::MOST_SAMPLES < dbm.len() {
-        return Level::Refused(limits::LONG);
-    }
-    if !limits::all_dbm(dbm) {
-        return Level::Refused(limits::BAD_SAMPLE);
-    }
-    Level::Dbm(measured_floor(dbm))
+    check_floor(dbm, scratch.len())?;
+    Ok(measured_floor(dbm))
 }
 
 // f64::from(dbm[i]) > threshold
@@ -120,14 +117,12 @@ fn first_loud(dbm: &[f32], threshold: f64, from: usize) -> usize
     requires { from ≤ length dbm.now }
     ensures { FirstLoud threshold dbm.now from result }
 {
-    let mut i = from;
-    while i < dbm.len() {
+    for i in from..dbm.len() {
         if loud_at(dbm, i, threshold) {
             return i;
         }
-        i += 1;
     }
-    i
+    dbm.len()
 }
 
 // The last loud sample of the cluster whose first one is given.
@@ -136,16 +131,12 @@ fn last_loud(dbm: &[f32], threshold: f64, gap: usize, first: usize) -> usize
     ensures { LastLoud threshold gap dbm.now first result }
 {
     let mut last = first;
-    let mut i = first + 1;
-    while i < dbm.len() {
+    for i in first + 1..dbm.len() {
         if loud_at(dbm, i, threshold) {
             last = i;
-        } else {
-            if gap < i - last {
-                return last;
-            }
+        } else if gap < i - last {
+            return last;
         }
-        i += 1;
     }
     last
 }
@@ -154,13 +145,7 @@ fn last_loud(dbm: &[f32], threshold: f64, gap: usize, first: usize) -> usize
 fn peak(dbm: &[f32]) -> f32
     ensures { result ≡ max_from lowest_peak dbm.now }
 {
-    let mut m = LOWEST_PEAK;
-    let mut i: usize = 0;
-    while i < dbm.len() {
-        m = floats::max32(m, dbm[i]);
-        i += 1;
-    }
-    m
+    floats::highest32(LOWEST_PEAK, dbm)
 }
 
 fn within(top: f64, x: f64) -> bool
@@ -219,9 +204,9 @@ pub fn search_bursts(
     floor: f32,
     at: usize,
     from: usize,
-) -> NextBurst
+) -> Option<Burst>
     requires { (length dbm.now ≤ most_samples) × (at ≤ length dbm.now) }
-    ensures { said result ≡ accepted (first_from from (bursts_from dbm.now rate options floor at)) }
+    ensures { result ≡ first_from from (bursts_from dbm.now rate options floor at) }
 {
     let threshold = std::num::f32_to_f64_with_nan(floor) + options.above_db;
     let gap = gap_samples(options, rate);
@@ -229,40 +214,42 @@ pub fn search_bursts(
     while i < dbm.len() {
         let first = first_loud(dbm, threshold, i);
         if first == dbm.len() {
-            return NextBurst::Nothing;
+            return None;
         }
         let last = last_loud(dbm, threshold, gap, first);
         if from <= first {
             if is_long(options, rate, first, last) {
-                return NextBurst::Found(burst_of(dbm, first, last, floor));
+                return Some(burst_of(dbm, first, last, floor));
             }
         }
         i = last + 1;
     }
-    NextBurst::Nothing
+    None
+}
+
+// The first cause that applies to `find_bursts`.
+#[tactic(auto, using(limits::proofs::Causes::sample_refused, limits::proofs::Causes::samples_pass), unfolding(limits::specs::Answer::cause_of, crate::specs::Bursts::burst_cause))]
+fn check_bursts(dbm: &[f32], rate: u32, options: BurstOptions, floor: f32) -> Result<(), Refusal>
+    ensures { cause_of result ≡ burst_cause dbm.now rate options floor }
+{
+    Samples::new(dbm, rate)?;
+    if !options_ok(options, floor) {
+        return Err(Refusal::BadNumber);
+    }
+    Ok(())
 }
 
 // The first burst of the whole list that starts at or after `from`, or none (demod.rs `find_bursts`, one by one).
+#[tactic(auto, using(limits::proofs::AnswerLaws::said_accepted, crate::proofs::SearchLaws::from_start), unfolding(limits::specs::Answer::cause_of, crate::specs::Bursts::burst_answer))]
 pub fn find_bursts(
     dbm: &[f32],
     rate: u32,
     options: BurstOptions,
     floor: f32,
     from: usize,
-) -> NextBurst
+) -> Result<Option<Burst>, Refusal>
     ensures { said result ≡ burst_answer dbm.now rate options floor from }
 {
-    if !limits::rate_ok(rate) {
-        return NextBurst::Refused(limits::BAD_RATE);
-    }
-    if limits::BUFFER_S * (rate as usize) < dbm.len() {
-        return NextBurst::Refused(limits::LONG);
-    }
-    if !limits::all_dbm(dbm) {
-        return NextBurst::Refused(limits::BAD_SAMPLE);
-    }
-    if !options_ok(options, floor) {
-        return NextBurst::Refused(limits::BAD_NUMBER);
-    }
-    search_bursts(dbm, rate, options, floor, 0, from)
+    check_bursts(dbm, rate, options, floor)?;
+    Ok(search_bursts(dbm, rate, options, floor, 0, from))
 }

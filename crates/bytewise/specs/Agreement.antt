@@ -1,13 +1,13 @@
 -- REQUEST 06'S THEOREM: "Bytewise and bitwise decoding agree for all lists of whole bytes and every starting state, shown over the rank; a remainder under
 -- eight bits goes bit by bit." Bitwise is coding's `deconvolved`, bytewise a walk by the tables' entries. Assumes nothing.
-use Rattle.std.specs.Prelude.{ℕ, ◌*◌, ◌/◌, ◌≤◌, ◌<◌, ◌≡◌, Bool, List, [], ◌∷◌, ◌++◌, map, length, take, drop, get_or}
-use Rattle.limits.specs.Answer.{accepted}
+use Rattle.std.specs.Prelude.{ℕ, ◌*◌, ◌/◌, ◌≤◌, ◌<◌, ◌≡◌, Bool, List, [], ◌∷◌, ◌++◌, map, length, take, drop, get_or, Result}
+use Rattle.limits.specs.Answer.{accepted, said_by}
+use Rattle.limits.specs.declared.Refusal.{Refusal}
 use Rattle.coding.specs.Bits.{odd, bytes_bits, to_bytes}
 use Rattle.coding.specs.Convolution.{State, numbered, state_after, deconvolved}
 use Rattle.conv_tables.specs.Tables.{place, decoded_table, next_table}
 use Rattle.bytewise.specs.declared.ConvState.{ConvState}
-use Rattle.bytewise.specs.declared.Undone.{Undone}
-use Rattle.bytewise.specs.Answers.{state_is, said, bytes_answer, bytes_out, rest_out}
+use Rattle.bytewise.specs.Answers.{state_is, bytes_answer, bytes_out, rest_out}
 
 -- the bytes that the tables give, one after the other, from the state of a number; and the number of the state after them
 unfoldable pub by_tables : ℕ → ℕ → List ℕ → List ℕ
@@ -45,15 +45,15 @@ AnyLength =
 -- ---- the call
 
 -- what the contract of `deconvolve_bytes` ensures of a call; proofs/Contracts.antt takes it from the contract itself
-pub record Call (bytes rest : List ℕ) (rank : ℕ) (start : ConvState) (out out_rest after after_rest : List ℕ) (r : Undone) : Type 0 where
-  pub answered : said r ≡ bytes_answer bytes rest rank start out out_rest
+pub record Call (bytes rest : List ℕ) (rank : ℕ) (start : ConvState) (out out_rest after after_rest : List ℕ) (r : Result ConvState Refusal) : Type 0 where
+  pub answered : said_by state_is r ≡ bytes_answer bytes rest rank start out out_rest
   pub left : after ≡ bytes_out bytes rest rank start out out_rest
   pub left_rest : after_rest ≡ rest_out bytes rest rank start out out_rest
 
 -- an accepted call, at every rank: the bits of its bytes and its remainder are those that go bit by bit, and so is its end state
 abbrev pub CallAgrees : Type 0
 CallAgrees =
-    (bytes rest : List ℕ) (rank : ℕ) (start : ConvState) (out out_rest after after_rest : List ℕ) (r : Undone) (s : State)
-    → Call bytes rest rank start out out_rest after after_rest r → said r ≡ accepted s
+    (bytes rest : List ℕ) (rank : ℕ) (start : ConvState) (out out_rest after after_rest : List ℕ) (r : Result ConvState Refusal) (s : State)
+    → Call bytes rest rank start out out_rest after after_rest r → said_by state_is r ≡ accepted s
     → (bytes_bits (take (length bytes) after) ++ map odd (take (length rest) after_rest) ≡ deconvolved rank (state_is start) (bytes_bits bytes ++ map odd rest))
     × (s ≡ state_after (state_is start) (deconvolved rank (state_is start) (bytes_bits bytes ++ map odd rest)))

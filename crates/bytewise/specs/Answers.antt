@@ -2,22 +2,15 @@
 use Rattle.std.specs.Prelude.{ℕ, ◌+◌, ◌*◌, Bool, cond, List, ◌++◌, map, ltb}
 use Rattle.std.proofs.Math.ListN.{length, drop}
 use Rattle.limits.specs.Limits.{short, long, bad_number, most_bits}
-use Rattle.limits.specs.Answer.{Answer, refused, accepted, answer, leaves}
+use Rattle.limits.specs.Answer.{Answer, answer, leaves}
 use Rattle.coding.specs.Bits.{odd, bit_of, bytes_bits, to_bytes, are_bits}
 use Rattle.coding.specs.Convolution.{State, state_after, deconvolved}
 use Rattle.coding.specs.Answers.{highest_rank}
 use Rattle.bytewise.specs.declared.ConvState.{ConvState}
-use Rattle.bytewise.specs.declared.Undone.{Undone}
-use Rattle.bytewise.specs.declared.Undone.TheVariants.{Refused, Done}
 
 -- the state of a code that a struct says: any of the four, so that none is refused
 abbrev pub state_is : ConvState → State
 state_is s = record { last = s.last; second = s.second }
-
--- 01's number and values of each answer: the state after all bits
-unfoldable pub said : Undone → Answer State
-said (Refused n) = refused n
-said (Done s) = accepted (state_is s)
 
 -- how many bits are handed in: "a remainder counts its bits"
 abbrev pub bit_count : List ℕ → List ℕ → ℕ

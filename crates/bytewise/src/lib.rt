@@ -3,28 +3,21 @@
 #![tactic(auto)]
 
 ghost use Rattle.std.specs.Prelude.{◌≡◌, true, ◌++◌, ◌≤◌, ◌<◌, length, drop};
+ghost use Rattle.limits.specs.Answer.{said_by, cause_of};
 ghost use Rattle.coding.specs.Convolution.{numbered};
 ghost use Rattle.conv_tables.specs.Tables.{decoded_byte, next_state, decoded_table, next_table};
 ghost use Rattle.bytewise.specs.Steps.{by_bytes, state_bytes};
-ghost use Rattle.bytewise.specs.Answers.{state_is, said, bytes_cause, bytes_answer, bytes_out, rest_out};
+ghost use Rattle.bytewise.specs.Answers.{state_is, bytes_cause, bytes_answer, bytes_out, rest_out};
 
 use coding::HIGHEST_RANK;
 use conv_tables::{RANK_PLACES, STATE_PLACES};
+use limits::{MOST_BITS, Refusal};
 
 // The code's state: the last decoded bit and the one before it. Both are false where a repetition starts.
 #[derive(Clone, Copy)]
 pub struct ConvState {
     pub last: bool,
     pub second: bool,
-}
-
-// What `deconvolve_bytes` answers.
-#[derive(Clone, Copy)]
-pub enum Undone {
-    // A refusal's number.
-    Refused(u8),
-    // The state after all bits.
-    Done(ConvState),
 }
 
 // A decoded byte, and the state after it as frame.rs's number: the last bit counts 2, the one before it 1.
@@ -37,7 +30,7 @@ struct Step {
 fn number_of(s: ConvState) -> u8
     ensures { (numbered result ≡ state_is s) × (result < 4) }
 {
-    2 * whole::one_if8(s.last) + whole::one_if8(s.second)
+    2 * u8::from(s.last) + u8::from(s.second)
 }
 
 fn state_of(n: u8) -> ConvState
@@ -77,40 +70,28 @@ fn undo_into(bytes: &[u8], rank: u8, state: u8, out: &mut [u8]) -> u8
     let decoded = conv_tables::decoded();
     let next = conv_tables::next();
     let mut s = state;
-    let mut i: usize = 0;
-    while i < bytes.len() {
-        let step = undone_byte(&decoded, &next, rank, s, bytes[i]);
+    for (i, b) in bytes.iter().enumerate() {
+        let step = undone_byte(&decoded, &next, rank, s, *b);
         out[i] = step.byte;
         s = step.state;
-        i += 1;
     }
     s
 }
 
-// The first cause that applies, 0 where none does.
-fn bytes_cause(bytes: &[u8], rest: &[u8], rank: u8, room: usize, rest_room: usize) -> u8
-    ensures { result ≡ bytes_cause bytes.now rest.now rank room rest_room }
+// The first cause that applies.
+fn check(bytes: &[u8], rest: &[u8], rank: u8, room: usize, rest_room: usize) -> Result<(), Refusal>
+    ensures { cause_of result ≡ bytes_cause bytes.now rest.now rank room rest_room }
 {
-    if room < bytes.len() {
-        return limits::SHORT;
+    if room < bytes.len() || rest_room < rest.len() {
+        return Err(Refusal::Short);
     }
-    if rest_room < rest.len() {
-        return limits::SHORT;
+    if MOST_BITS / 8 < bytes.len() || MOST_BITS - 8 * bytes.len() < rest.len() {
+        return Err(Refusal::Long);
     }
-    if limits::MOST_BITS / 8 < bytes.len() {
-        return limits::LONG;
+    if HIGHEST_RANK < rank || !coding::are_bits(rest) {
+        return Err(Refusal::BadNumber);
     }
-    if limits::MOST_BITS - 8 * bytes.len() < rest.len() {
-        return limits::LONG;
-    }
-    if HIGHEST_RANK < rank {
-        return limits::BAD_NUMBER;
-    }
-    if coding::are_bits(rest) {
-        0
-    } else {
-        limits::BAD_NUMBER
-    }
+    Ok(())
 }
 
 // The bits that a repetition sent, from any state: whole bytes by the tables into `out`, then a remainder bit by bit into `out_rest`.
@@ -121,16 +102,13 @@ pub fn deconvolve_bytes(
     start: ConvState,
     out: &mut [u8],
     out_rest: &mut [u8],
-) -> Undone
-    ensures { (said result ≡ bytes_answer bytes.now rest.now rank start out.old out_rest.old)
+) -> Result<ConvState, Refusal>
+    ensures { (said_by state_is result ≡ bytes_answer bytes.now rest.now rank start out.old out_rest.old)
         × (out.new ≡ bytes_out bytes.now rest.now rank start out.old out_rest.old)
         × (out_rest.new ≡ rest_out bytes.now rest.now rank start out.old out_rest.old) }
 {
-    let cause = bytes_cause(bytes, rest, rank, out.len(), out_rest.len());
-    if cause != 0 {
-        return Undone::Refused(cause);
-    }
+    check(bytes, rest, rank, out.len(), out_rest.len())?;
     let s = undo_into(bytes, rank, number_of(start), out);
     let end = coding::code_from(rest, rank, true, s, out_rest);
-    Undone::Done(state_of(end))
+    Ok(state_of(end))
 }

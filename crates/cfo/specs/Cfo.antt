@@ -5,9 +5,7 @@ use Rattle.std.specs.Float.Ieee.{add, mul, div, lt, of_int, to_unsigned}
 use Rattle.floats.specs.Floor.{floor, round_half_up}
 use Rattle.floats.specs.Number.{num, near}
 use Rattle.limits.specs.Limits.{bad_number}
-use Rattle.limits.specs.Answer.{Answer, refused, accepted, answer}
-use Rattle.cfo.specs.declared.StepHz.{StepHz}
-use Rattle.cfo.specs.declared.StepHz.TheVariants.{Refused, Hz}
+use Rattle.limits.specs.Answer.{Answer, answer}
 
 -- XTAL_HZ
 abbrev pub xtal_hz : ℕ
@@ -46,12 +44,7 @@ unfoldable pub step_of : ℕ → ℕ → Float
 unfolding cf_fs
 step_of bw rate = div binary64 (mul binary64 (cf_fs bw) (interpolation (floor (div binary64 (cf_fs bw) (num rate))))) (num register)
 
--- 01's number and values of each answer of `cfo_step_hz`
-unfoldable pub said : StepHz → Answer Float
-said (Refused n) = refused n
-said (Hz x) = accepted x
-
--- the cause that applies, 0 where none does: 9 bit rate 0
+-- the cause that applies to `cfo_step_hz`, 0 where none does: 9 bit rate 0
 unfoldable pub step_cause : ℕ → ℕ
 step_cause rate = cond (eqb rate 0) bad_number 0
 

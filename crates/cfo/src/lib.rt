@@ -3,7 +3,10 @@
 #![tactic(auto)]
 
 ghost use Rattle.std.specs.Prelude.{◌≡◌};
-ghost use Rattle.cfo.specs.Cfo.{signed, interpolation, mantissa, said, step_hz, reading_hz, round_hz};
+ghost use Rattle.limits.specs.Answer.{said};
+ghost use Rattle.cfo.specs.Cfo.{signed, interpolation, mantissa, step_hz, reading_hz, round_hz};
+
+use limits::Refusal;
 
 // The receiver's crystal.
 const XTAL_HZ: f64 = 32_000_000.0;
@@ -19,13 +22,6 @@ const STEPS: f64 = 4096.0;
 // another 50 171 Hz higher, so the register gives 0.925 of the offset; frames 2 and 3 came out 11.1-11.4 kHz apart instead
 // of 12 kHz (0.926-0.946).
 pub const CFO_SCALE: f64 = 0.93;
-
-// `cfo_step_hz`'s answer.
-#[derive(Clone, Copy)]
-pub enum StepHz {
-    Refused(u8),
-    Hz(f64),
-}
 
 // A raw 12-bit register value as a signed offset (cfo_signed).
 pub fn cfo_signed(v: u16) -> i32
@@ -54,21 +50,21 @@ fn mant(code: u8) -> u32
 fn interp(osr: f64) -> f64
     ensures { result ≡ interpolation osr }
 {
-    floats::pick64(osr < 4.0, 4.0, floats::pick64(osr < 8.0, 2.0, 1.0))
+    whole::pick(osr < 4.0, 4.0, whole::pick(osr < 8.0, 2.0, 1.0))
 }
 
 // Hz per CFO step, as in SUBGRF_GetCFO (STM32CubeWL): the RX_BW code has the BWSELR layout (cfo_step_hz). Refusal 9 for
 // the bit rate 0.
-pub fn cfo_step_hz(bw_code: u8, bit_rate: u32) -> StepHz
+pub fn cfo_step_hz(bw_code: u8, bit_rate: u32) -> Result<f64, Refusal>
     ensures { said result ≡ step_hz bw_code bit_rate }
 {
     if bit_rate == 0 {
-        return StepHz::Refused(limits::BAD_NUMBER);
+        return Err(Refusal::BadNumber);
     }
     let m = mant(bw_code / 8 % 4);
     let cf_fs = XTAL_HZ / ((m as f64) * ((1u32 << (bw_code % 8 + 1)) as f64));
     let osr = floats::floor64(cf_fs / (bit_rate as f64));
-    StepHz::Hz(cf_fs * interp(osr) / STEPS)
+    Ok(cf_fs * interp(osr) / STEPS)
 }
 
 // The frequency that the register value v stands for at the receiver frequency lo (the hz of a Reading).

@@ -19,13 +19,6 @@ module _ (text : List ℕ) where
   none_left : (i : ℕ) → i ≡ length text → drop i text ≡ drop (length text) text
   none_left i e = ap (λ (k : ℕ). drop k text) e
 
-  pub digits_first : (from : ℕ) → (ltb from (length text) && are_digits (drop from text)) ≡ is_decimal (drop from text)
-  digits_first from = ap (λ (t : Bool). t && are_digits (drop from text)) (go (ltb from (length text)) (ltb-true from (length text)) (ltb-false from (length text)) ∙ ap (ltb 0) (sym (length-drop from text)))
-    where
-      go : (t : Bool) → (t ≡ true → from < length text) → (t ≡ false → length text ≤ from) → t ≡ ltb 0 (length text - from)
-      go true f g = sym (lt-ltb 0 (length text - from) (omega (arith, f refl)))
-      go false f g = sym (le-ltb 0 (length text - from) (omega (arith, g refl)))
-
   pub digits-turn : (i : ℕ) (ok here w : Bool) → i < length text → here ≡ is_digit (get_or text i 0) → (ok && are_digits (drop i text)) ≡ w → ((ok && here) && are_digits (drop (i + 1) text)) ≡ w
   unfolding are_digits
   digits-turn i ok here w h e p =

@@ -4,11 +4,12 @@
 mod words; // a number in an argument
 
 ghost use Rattle.std.specs.Prelude.{◌≡◌, ◌≤◌, length};
-ghost use Rattle.charges.specs.Words.{most_number};
+ghost use Rattle.event_list.specs.Events.{most_records};
+ghost use Rattle.subscription.specs.Counting.{Few};
 
-use reading::Fetched;
+use limits::Refusal;
 use std::rt::Env;
-use subscription::{Charge, MOST_STEPS, Plan};
+use subscription::{MOST_STEPS, Plan, Tally};
 
 // Arguments before those of the steps: the program's name, fee, allowance and month's start.
 const FIRST_STEP: usize = 4;
@@ -16,100 +17,80 @@ const FIRST_STEP: usize = 4;
 // A step's arguments: its upper count and its price.
 const STEP: usize = 2;
 
-const MINUS: u8 = 45;
-
 // A 32-bit number in an argument.
-#[derive(Clone, Copy)]
-enum Count {
-    Is(u32),
-    Wrong,
+fn count_of(text: &[u8]) -> Option<u32> {
+    if !words::is_decimal(text) {
+        return None;
+    }
+    u32::try_from(words::number(text)).ok()
 }
 
 // A month's start in an argument.
-#[derive(Clone, Copy)]
-enum Start {
-    Is(i64),
-    Wrong,
+fn start_of(text: &[u8]) -> Option<i64> {
+    let (digits, is_negative) = match text.strip_prefix(b"-") {
+        Some(rest) => (rest, true),
+        None => (text, false),
+    };
+    if !words::is_decimal(digits) {
+        return None;
+    }
+    let n = words::number(digits) as i64;
+    Some(if is_negative { -n } else { n })
 }
 
-fn count_of(text: &[u8]) -> Count {
-    if !words::is_decimal(text, 0) {
-        return Count::Wrong;
-    }
-    let n = words::number(text, 0);
-    if 0xffff_ffff < n {
-        return Count::Wrong;
-    }
-    Count::Is(n as u32)
-}
-
-// -n; `!z` is -(z + 1).
-fn minus(n: u64) -> i64
-    requires { n ≤ most_number }
-{
-    if n == 0 {
-        return 0;
-    }
-    !((n - 1) as i64)
-}
-
-fn start_of(text: &[u8]) -> Start {
-    if text.len() == 0 {
-        return Start::Wrong;
-    }
-    if text[0] == MINUS {
-        if words::is_decimal(text, 1) {
-            return Start::Is(minus(words::number(text, 1)));
-        }
-        return Start::Wrong;
-    }
-    if words::is_decimal(text, 0) {
-        return Start::Is(words::number(text, 0) as i64);
-    }
-    Start::Wrong
-}
-
-fn count_at(rt: &impl Env, i: usize) -> Count {
+fn count_at(rt: &impl Env, i: usize) -> Option<u32> {
     let mut text = [0u8; 32];
     let n = command_line::arg(rt, i, &mut text);
     count_of(&text[..n])
 }
 
-fn start_at(rt: &impl Env, i: usize) -> Start {
+fn start_at(rt: &impl Env, i: usize) -> Option<i64> {
     let mut text = [0u8; 32];
     let n = command_line::arg(rt, i, &mut text);
     start_of(&text[..n])
 }
 
 // The upper count of a step; that of the last one is not read.
-fn upper_at(rt: &impl Env, i: usize, is_last: bool) -> Count {
+fn upper_at(rt: &impl Env, i: usize, is_last: bool) -> Option<u32> {
     if is_last {
-        return Count::Is(0);
+        return Some(0);
     }
     count_at(rt, i)
 }
 
-// The steps of the arguments, eight of them at most. Which argument is wrong, 0 where none is.
-fn read_steps(rt: &impl Env, steps: usize, uppers: &mut [u32], prices: &mut [u32]) -> usize
+// The steps of the arguments, eight of them at most, or which argument is wrong.
+fn read_steps(
+    rt: &impl Env,
+    steps: usize,
+    uppers: &mut [u32],
+    prices: &mut [u32],
+) -> Result<(), usize>
     requires { (length uppers.old ≡ 8) × (length prices.old ≡ 8) }
 {
-    let mut j: usize = 0;
-    while j < MOST_STEPS {
-        if j == steps {
-            return 0;
-        }
+    for j in 0..steps.min(MOST_STEPS) {
         let at = FIRST_STEP + STEP * j;
-        let Count::Is(upper) = upper_at(rt, at, j + 1 == steps) else {
-            return at;
-        };
-        let Count::Is(price) = count_at(rt, at + 1) else {
-            return at + 1;
-        };
-        uppers[j] = upper;
-        prices[j] = price;
-        j += 1;
+        uppers[j] = upper_at(rt, at, j + 1 == steps).ok_or(at)?;
+        prices[j] = count_at(rt, at + 1).ok_or(at + 1)?;
     }
-    0
+    Ok(())
+}
+
+// The plan and the month's start of the arguments, or which argument is wrong.
+fn read_arguments(rt: &impl Env, steps: usize) -> Result<(Plan, i64), usize> {
+    let fee = count_at(rt, 1).ok_or(1usize)?;
+    let allowance = count_at(rt, 2).ok_or(2usize)?;
+    let month_start = start_at(rt, 3).ok_or(3usize)?;
+    let mut uppers = [0u32; 8];
+    let mut prices = [0u32; 8];
+    read_steps(rt, steps, &mut uppers, &mut prices)?;
+    let plan = Plan {
+        fee,
+        allowance,
+        steps,
+        uppers,
+        prices,
+    };
+    Ok((plan, month_start))
 }
 
 fn complain(rt: &impl Eprint, text: &str) {
@@ -129,16 +110,28 @@ fn print_wrong(rt: &impl Eprint, i: usize) {
     print_usage(rt);
 }
 
-fn print_charge(rt: &impl Print, charge: Charge) {
+fn print_charge(rt: &impl Print, charge: Result<u64, Refusal>) {
     match charge {
-        Charge::Refused(n) => {
-            replay::print_refusal(rt, n);
-        }
-        Charge::Cents(n) => {
-            replay::print_number(rt, n);
+        Ok(cents) => {
+            replay::print_number(rt, cents);
             replay::print_end(rt);
         }
+        Err(refusal) => {
+            replay::print_refusal(rt, refusal);
+        }
     }
+}
+
+// What the plan takes for what was read.
+fn total(
+    tally: Result<Tally, Refusal>,
+    counts: &[u32; 31],
+    plan: Plan,
+    month_start: i64,
+) -> Result<u64, Refusal>
+    requires { Few counts.now most_records }
+{
+    subscription::total(tally?, counts, plan, month_start)
 }
 
 // The list is read in parts of 512 records, so that it need not stand in memory.
@@ -146,63 +139,37 @@ fn charge_input(rt: &(impl Input + Print + Eprint), plan: Plan, month_start: i64
     let start = subscription::second_of(month_start);
     let mut part = [0u8; 61440];
     let mut counts = [0u32; 31];
-    let mut t = subscription::no_records();
+    let mut tally = Ok(subscription::no_records());
     let mut bytes: usize = 0;
     while bytes <= limits::MOST_RECORD_BYTES {
-        let fetched = reading::fill(rt, &mut part);
-        let Fetched::Bytes(n) = fetched else {
+        let fetched = reading::fill(&mut rt.reader(), &mut part);
+        let Ok(n) = fetched else {
             complain(rt, "charges: standard input can't be read\n");
             return;
         };
         if n == 0 {
-            print_charge(rt, subscription::total(t, &counts, plan, month_start));
+            print_charge(rt, total(tally, &counts, plan, month_start));
             return;
         }
         bytes += n;
         if limits::MOST_RECORD_BYTES < bytes {
-            replay::print_refusal(rt, limits::LONG);
+            replay::print_refusal(rt, Refusal::Long);
             return;
         }
-        t = subscription::read_records(t, &part[..n], start, &mut counts);
+        if let Ok(t) = tally {
+            tally = subscription::read_records(t, &part[..n], start, &mut counts);
+        }
     }
 }
 
 fn main(rt: HostRuntime) {
     let count = command_line::arg_count(&rt);
-    if count < FIRST_STEP {
+    if count < FIRST_STEP || count % STEP != 0 {
         print_usage(&rt);
         return;
     }
-    if count % STEP != 0 {
-        print_usage(&rt);
-        return;
+    match read_arguments(&rt, (count - FIRST_STEP) / STEP) {
+        Ok((plan, month_start)) => charge_input(&rt, plan, month_start),
+        Err(i) => print_wrong(&rt, i),
     }
-    let Count::Is(fee) = count_at(&rt, 1) else {
-        print_wrong(&rt, 1);
-        return;
-    };
-    let Count::Is(allowance) = count_at(&rt, 2) else {
-        print_wrong(&rt, 2);
-        return;
-    };
-    let Start::Is(month_start) = start_at(&rt, 3) else {
-        print_wrong(&rt, 3);
-        return;
-    };
-    let steps = (count - FIRST_STEP) / STEP;
-    let mut uppers = [0u32; 8];
-    let mut prices = [0u32; 8];
-    let wrong = read_steps(&rt, steps, &mut uppers, &mut prices);
-    if wrong != 0 {
-        print_wrong(&rt, wrong);
-        return;
-    }
-    let plan = Plan {
-        fee: fee,
-        allowance: allowance,
-        steps: steps,
-        uppers: uppers,
-        prices: prices,
-    };
-    charge_input(&rt, plan, month_start);
 }

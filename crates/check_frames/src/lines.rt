@@ -1,7 +1,7 @@
 // A decoded frame's line.
 ghost use Rattle.std.specs.Prelude.{◌+◌, ◌≤◌};
 
-use frame::{DecodedUplink, Outcome, Repair, SingleBit};
+use frame::{Repair, UplinkFrame};
 
 // More bits than a vector has, and the digits that hold them.
 const MOST_BITS: usize = 256;
@@ -29,30 +29,23 @@ fn put_digit(bits: &mut [u8; 256], at: usize, v: u8)
 // The bits of hexadecimal digits, with zeros behind them.
 fn bits_of(digits: &[u8]) -> [u8; 256] {
     let mut bits = [0u8; 256];
-    let mut i: usize = 0;
-    while i < MOST_DIGITS {
-        if i == digits.len() {
-            return bits;
-        }
-        put_digit(&mut bits, 4 * i, value_of(digits[i]));
-        i += 1;
+    let n = digits.len().min(MOST_DIGITS);
+    for (i, digit) in digits[..n].iter().enumerate() {
+        put_digit(&mut bits, 4 * i, value_of(*digit));
     }
     bits
 }
 
-// What the decoder makes of the first `n` bits.
-fn decoded_front(bits: [u8; 256], n: usize) -> DecodedUplink
-    requires { n ≤ 256 }
-{
-    frame::decode_uplink_bits(&bits[..n])
-}
-
-fn decoded_of(digits: &[u8], n: usize) -> DecodedUplink {
+// What the decoder makes of the first `n` bits of hexadecimal digits.
+fn decoded_of(digits: &[u8], n: usize) -> Option<UplinkFrame> {
     if MOST_BITS < n {
-        return frame::without_frame(Outcome::Nothing);
+        return None;
     }
     let bits = bits_of(digits);
-    decoded_front(bits, n)
+    match frame::decode_uplink_bits(&bits[..n]) {
+        Ok(decoded) => decoded,
+        Err(_) => None,
+    }
 }
 
 fn print_flag(rt: &impl Print, b: bool) {
@@ -66,8 +59,8 @@ fn print_part(rt: &impl Print, bytes: &[u8], n: u8) {
     replay::print_bytes(rt, bytes, n as usize);
 }
 
-fn print_bit(rt: &impl Print, bit: SingleBit) {
-    let SingleBit::Is(b) = bit else {
+fn print_bit(rt: &impl Print, bit: Option<bool>) {
+    let Some(b) = bit else {
         replay::print(rt, b" -");
         return;
     };
@@ -83,23 +76,20 @@ fn print_place(rt: &impl Print, repair: u64, at: usize) {
 }
 
 // A repair as a record has it: its number and its place.
-fn print_repair(rt: &impl Print, how: Repair) {
+fn print_repair(rt: &impl Print, how: Option<Repair>) {
     match how {
-        Repair::Unchanged => print_place(rt, 0, 0),
-        Repair::Inserted(b, at) => print_place(rt, if b { 2 } else { 1 }, at),
-        Repair::Deleted(at) => print_place(rt, 3, at),
-        Repair::Flipped(at) => print_place(rt, 4, at),
+        None => print_place(rt, 0, 0),
+        Some(Repair::Inserted(b, at)) => print_place(rt, if b { 2 } else { 1 }, at),
+        Some(Repair::Deleted(at)) => print_place(rt, 3, at),
+        Some(Repair::Flipped(at)) => print_place(rt, 4, at),
     }
 }
 
 // The line of the frame in the first `n` bits of hexadecimal digits: `frame rank device counter payload auth bit flags repair place`. None where there is no frame.
 pub fn frame_line(rt: &impl Print, digits: &[u8], n: usize) {
-    let decoded = decoded_of(digits, n);
-    let outcome = decoded.outcome;
-    let Outcome::Frame = outcome else {
+    let Some(f) = decoded_of(digits, n) else {
         return;
     };
-    let f = decoded.frame;
     replay::print(rt, b"frame ");
     replay::print_number(rt, f.rank as u64);
     replay::print(rt, b" ");

@@ -4,9 +4,7 @@
 mod lines; // a decoded frame's line
 mod vectors; // the literal frames
 
-use coding::Coded;
-use frame::SingleBit;
-use frame::header::{UplinkFields, UplinkHeader};
+use frame::header::UplinkFields;
 
 const DEVICE: u32 = 0x00c0_ffee;
 
@@ -23,8 +21,7 @@ fn crc_line(rt: &impl Print, name: &[u8], data: &[u8]) {
 fn deconvolve_line(rt: &impl Print, rank: u8) {
     let bits = [1u8, 0, 0];
     let mut out = [0u8; 3];
-    let coded = coding::deconvolve(&bits, rank, &mut out);
-    let Coded::Done(n) = coded else {
+    let Ok(n) = coding::deconvolve(&bits, rank, &mut out) else {
         return;
     };
     replay::print(rt, b"deconvolve ");
@@ -35,7 +32,7 @@ fn deconvolve_line(rt: &impl Print, rank: u8) {
 }
 
 // P9, and docs/DIFFERENCES.md's rows on headers: a header's bytes, its class and the authentication's size.
-fn header_line(rt: &impl Print, counter: u16, bit: SingleBit, payload: &[u8]) {
+fn header_line(rt: &impl Print, counter: u16, bit: Option<bool>, payload: &[u8]) {
     let fields = UplinkFields {
         device_id: DEVICE,
         counter: counter,
@@ -43,21 +40,15 @@ fn header_line(rt: &impl Print, counter: u16, bit: SingleBit, payload: &[u8]) {
         downlink: false,
     };
     let mut out = [0u8; 18];
-    let header = frame::header::uplink_header(fields, payload, &mut out);
-    let UplinkHeader::Made {
-        size,
-        class,
-        auth_size,
-    } = header
-    else {
+    let Ok(header) = frame::header::uplink_header(fields, payload, &mut out) else {
         return;
     };
     replay::print(rt, b"header ");
-    replay::print_bytes(rt, &out, size);
+    replay::print_bytes(rt, &out, header.size);
     replay::print(rt, b" ");
-    replay::print_number(rt, class as u64);
+    replay::print_number(rt, u64::from(header.class));
     replay::print(rt, b" ");
-    replay::print_number(rt, auth_size as u64);
+    replay::print_number(rt, u64::from(header.auth_size));
     replay::print(rt, b"\n");
 }
 
@@ -67,9 +58,9 @@ fn main(rt: HostRuntime) {
     crc_line(&rt, b"01 ", b"\x01");
     deconvolve_line(&rt, 1);
     deconvolve_line(&rt, 2);
-    header_line(&rt, COUNTER, SingleBit::Absent, b"\x10\x21");
-    header_line(&rt, 0xf123, SingleBit::Absent, b"");
-    header_line(&rt, COUNTER, SingleBit::Is(true), b"\xaa");
+    header_line(&rt, COUNTER, None, b"\x10\x21");
+    header_line(&rt, 0xf123, None, b"");
+    header_line(&rt, COUNTER, Some(true), b"\xaa");
     vectors::rank_0(&rt);
     vectors::rank_1(&rt);
     vectors::rank_2(&rt);

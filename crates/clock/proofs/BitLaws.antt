@@ -1,13 +1,10 @@
 -- The outcomes of `burst_bits`, case by case. Assumes nothing.
-use Rattle.std.proofs.Common.{◌≡◌, ℕ, ◌+◌, ◌-◌, ◌/◌, ◌<◌, ◌≤◌, min, max, true, false, List, [], ◌∷◌, ◌++◌, map, length, get_or, take, drop, ℤ, sym, refl, ap, ◌∙◌, arith, length-append, length-take, get_or-take, take-take, take_at, w32, SFits, le-ltb, lt-ltb}
-use mathlib.Core.Option.{none, some}
+use Rattle.std.proofs.Common.{Option, ◌≡◌, ℕ, ◌+◌, ◌-◌, ◌/◌, ◌<◌, ◌≤◌, min, max, true, false, List, [], ◌∷◌, ◌++◌, map, length, get_or, take, drop, ℤ, sym, refl, ap, ◌∙◌, arith, length-append, length-take, get_or-take, take-take, take_at, w32, SFits, le-ltb, lt-ltb, None, Some}
 use lib.ListN.{length-map}
 use lib.Ieee.{Float, nan, binary64, to_unsigned}
 use Rattle.floats.proofs.Saturating.{signed-fits}
 use Rattle.clock.specs.declared.Clock.{Clock}
-use Rattle.clock.specs.declared.Fit.TheVariants.{Astray, Fitted}
 use Rattle.clock.specs.declared.BurstBits.{BurstBits}
-use Rattle.clock.specs.declared.BurstBits.TheVariants.{Nothing, Bits}
 use Rattle.limits.specs.Limits.{most_bits}
 use Rattle.rates.specs.Numbers.{level_quantile}
 use Rattle.rates.specs.Rates.{nominal_of}
@@ -20,8 +17,7 @@ use Rattle.dips.specs.Dips.{Dip, found_in, positions_of, depths_of, Written, Sto
 use Rattle.dips.proofs.Depths.{AllNumbers, depths-numbers}
 use Rattle.clock.specs.Clock.{anchor, lost}
 use Rattle.clock.specs.Running.{place, start_clock, fit_from, points_from, depths_from, ended, clocked}
-use Rattle.limits.specs.Answer.{accepted}
-use Rattle.clock.specs.Bits.{end_index, ppm_of, Recovered, Outcome, from_dips, outcome, handed, values_of, said}
+use Rattle.clock.specs.Bits.{end_index, ppm_of, Recovered, Outcome, from_dips, outcome, handed, values_of}
 use Rattle.clock.specs.Walk.{placed_bits, walked, places, Rising, Ready}
 use Rattle.clock.specs.Tracked.{Tracked}
 use Rattle.clock.proofs.RunningLaws.{running_is}
@@ -29,21 +25,21 @@ use Rattle.clock.proofs.WalkLaws.{walk_is, rising_first, length-bits, take-bits}
 use Rattle.clock.proofs.PointLaws.{Good, facts, points-few, kept_numbers, each_number, places_back}
 
 -- an answer and the bits, of an outcome
-abbrev pub Tells : Outcome → List ℕ → BurstBits → List ℕ → Type 0
-Tells o old r now = (said r ≡ accepted (values_of o)) × (now ≡ handed o old)
+abbrev pub Tells : Outcome → List ℕ → Option BurstBits → List ℕ → Type 0
+Tells o old r now = (r ≡ values_of o) × (now ≡ handed o old)
 
-pub tells_none : (o : Outcome) (old : List ℕ) → o ≡ none → Tells o old Nothing old
-unfolding said values_of handed
+pub tells_none : (o : Outcome) (old : List ℕ) → o ≡ None → Tells o old None old
+unfolding values_of handed
 tells_none o old e = (rw e, rw e)
 
 -- ---- from the clock
 
 module _ (rate : ℕ) (seg : List Float) (level : Float) (points : List ℕ) (depths : List Float) (c : Clock) where
-  pub clock-few : c.count < enough_points → clocked seg rate level points depths (Fitted c) ≡ none
+  pub clock-few : c.count < enough_points → clocked seg rate level points depths (Some c) ≡ None
   unfolding clocked
   clock-few h = rw (lt-ltb c.count enough_points h)
 
-  pub clock-lost : enough_points ≤ c.count → lost (end_index level seg c.period c.phase) ≡ true → clocked seg rate level points depths (Fitted c) ≡ none
+  pub clock-lost : enough_points ≤ c.count → lost (end_index level seg c.period c.phase) ≡ true → clocked seg rate level points depths (Some c) ≡ None
   unfolding clocked ended
   clock-lost h e = rw (le-ltb c.count enough_points h, e)
 
@@ -51,7 +47,7 @@ module _ (rate : ℕ) (seg : List Float) (level : Float) (points : List ℕ) (de
   read bits = record { bits = bits; period = c.period; ppm = ppm_of c.period (nominal_of rate); level = level; dips = c.count; depth = kth binary64 depths (c.count / 2) }
 
   clock-ended : enough_points ≤ c.count → lost (end_index level seg c.period c.phase) ≡ false
-      → clocked seg rate level points depths (Fitted c) ≡ some (read (placed_bits points c.first (max c.last (place (end_index level seg c.period c.phase)))))
+      → clocked seg rate level points depths (Some c) ≡ Some (read (placed_bits points c.first (max c.last (place (end_index level seg c.period c.phase)))))
   unfolding clocked ended read
   clock-ended h e = rw (le-ltb c.count enough_points h, e)
 
@@ -70,21 +66,21 @@ module _ (rate : ℕ) (seg : List Float) (level : Float) (points : List ℕ) (de
   pub clock-bits : (k : Float) (end n len : ℕ) (p : ℤ) (deep : Float) (old now : List ℕ) → enough_points ≤ c.count → k ≡ end_index level seg c.period c.phase → lost k ≡ false → end ≡ max c.last (place k)
       → n ≡ end - c.first + 2 → len ≡ min n most_bits → p ≡ ppm_of c.period (nominal_of rate) → deep ≡ kth binary64 depths (c.count / 2) → Ready c points
       → now ≡ (1 ∷ walked points c.first (len - 1)) ++ drop len old
-      → Tells (clocked seg rate level points depths (Fitted c)) old (Bits n c.period p level c.count deep) now
-  unfolding said values_of handed read
+      → Tells (clocked seg rate level points depths (Some c)) old (Some (record { count = n; period = c.period; clock_error_ppm = p; level = level; points = c.count; depth = deep })) now
+  unfolding values_of handed read
   clock-bits k end n len p deep old now h ke kl e q m pe de r w =
       let o = r.order (omega arith) in
       let a : c.first ≤ end = omega arith in
       let full = length-all end a in
-      let s : clocked seg rate level points depths (Fitted c) ≡ some (read (placed_bits points c.first end)) =
-      clock-ended h (ap lost (sym ke) ∙ kl) ∙ ap (λ (x : ℕ). some (read (placed_bits points c.first x))) (ap (λ (x : Float). max c.last (place x)) (sym ke) ∙ sym e) in
+      let s : clocked seg rate level points depths (Some c) ≡ Some (read (placed_bits points c.first end)) =
+      clock-ended h (ap lost (sym ke) ∙ kl) ∙ ap (λ (x : ℕ). Some (read (placed_bits points c.first x))) (ap (λ (x : Float). max c.last (place x)) (sym ke) ∙ sym e) in
       let d : min most_bits (length (placed_bits points c.first end)) ≡ len = omega arith in
       let t : 1 ∷ walked points c.first (len - 1) ≡ take most_bits (placed_bits points c.first end) = take-all-bits end a len (m ∙ ap (λ (x : ℕ). min x most_bits) q) r.rising in
       (rw (s, full, q, pe, de), rw (s, d) (w ∙ ap (λ (l : List ℕ). l ++ drop len old) t))
 
 -- ---- from the samples
 
-pub no_samples : (seg : List Float) (rate : ℕ) → length seg ≡ 0 → outcome seg rate ≡ none
+pub no_samples : (seg : List Float) (rate : ℕ) → length seg ≡ 0 → outcome seg rate ≡ None
 unfolding outcome
 no_samples [] rate e = refl
 no_samples (x ∷ l) rate e = absurd (omega arith)
@@ -95,7 +91,7 @@ some_samples [] rate level h e = absurd (omega arith)
 some_samples (x ∷ l) rate level h e = rw e
 
 module _ (seg : List Float) (rate : ℕ) (level : Float) (ds : List Dip) where
-  pub few-dips : length ds < enough_dips → from_dips seg rate level ds ≡ none
+  pub few-dips : length ds < enough_dips → from_dips seg rate level ds ≡ None
   unfolding from_dips
   few-dips h = rw (lt-ltb (length ds) enough_dips h)
 
@@ -105,13 +101,13 @@ module _ (seg : List Float) (rate : ℕ) (level : Float) (ds : List Dip) where
   dips-clock start h e = rw (le-ltb (length ds) enough_dips h, e) (running_is seg rate level (nominal_of rate) (anchor (nominal_of rate) (get_or (positions_of ds) 0 nan) (positions_of ds)) ds)
 
 module _ (seg : List Float) (rate : ℕ) (level : Float) (ds hs : List Float) where
-  pub lost-clock : (start : Clock) (now : List Float) → Tracked start ds hs Astray now → clocked seg rate level (points_from start ds) (depths_from start ds hs) (fit_from start ds) ≡ none
+  pub lost-clock : (start : Clock) (now : List Float) → Tracked start ds hs None now → clocked seg rate level (points_from start ds) (depths_from start ds hs) (fit_from start ds) ≡ None
   unfolding clocked
   lost-clock start now t = rw (sym t.fit)
 
   -- a fitted clock, with what stands in the slice
-  module _ (start c : Clock) (now : List Float) (z : start.count ≡ 0) (t : Tracked start ds hs (Fitted c) now) where
-    fitted : fit_from start ds ≡ Fitted c
+  module _ (start c : Clock) (now : List Float) (z : start.count ≡ 0) (t : Tracked start ds hs (Some c) now) where
+    fitted : fit_from start ds ≡ Some c
     fitted = sym t.fit
 
     empty : Good start
@@ -131,7 +127,7 @@ module _ (seg : List Float) (rate : ℕ) (level : Float) (ds hs : List Float) wh
     pub kept-deep : AllNumbers hs → Numbers (take c.count (drop depths_at now))
     kept-deep n = rw (t.deep c refl) (each_number (depths_from start ds hs) (kept_numbers start ds hs n))
 
-    pub kept-clock : clocked seg rate level (points_from start ds) (depths_from start ds hs) (fit_from start ds) ≡ clocked seg rate level (places now c.count) (take c.count (drop depths_at now)) (Fitted c)
+    pub kept-clock : clocked seg rate level (points_from start ds) (depths_from start ds hs) (fit_from start ds) ≡ clocked seg rate level (places now c.count) (take c.count (drop depths_at now)) (Some c)
     kept-clock = rw (kept-places, t.deep c refl, fitted)
 
 -- a list in the front of a slice
@@ -173,7 +169,7 @@ module _ (seg : List Float) (rate : ℕ) (level wide : Float) (old now : List Fl
   unfolding found
   from = some_samples seg rate level h le
 
-  pub samples-few : n < enough_dips → outcome seg rate ≡ none
+  pub samples-few : n < enough_dips → outcome seg rate ≡ None
   samples-few a = from ∙ few-dips seg rate level found (omega (arith, many))
 
   pub samples-clock : (nominal phase : Float) (start : Clock) → enough_dips ≤ n → nominal ≡ nominal_of rate → phase ≡ anchor nominal (get_or now 0 nan) (take n now)

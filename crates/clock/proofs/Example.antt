@@ -1,6 +1,5 @@
 -- A clock computed over four dips, of which one is skipped: the median is of the depths of the others. Assumes nothing.
-use Rattle.std.proofs.Common.{◌≡◌, List, [], ◌∷◌, ℤ, pos, refl}
-use mathlib.Core.Option.{some}
+use Rattle.std.proofs.Common.{◌≡◌, List, [], ◌∷◌, ℤ, pos, refl, Some}
 use lib.Ieee.{Float, round, add, sub, mul, div, lt, le, eq, neg, is_nan, of_int, of_bits, to_bits, to_signed, to_unsigned}
 use Rattle.floats.specs.Floor.{floor, round_half_up}
 use Rattle.floats.specs.Number.{num}
@@ -24,7 +23,7 @@ point k d = record { index = k; dip = d }
 points : List Point
 points = point (pos 0) (dip (num 0) (num 9)) ∷ point (pos 1) (dip (num 10) (num 7)) ∷ point (pos 2) (dip (num 20) (num 8)) ∷ []
 
-tracked : track (start_clock (num 10) (num 0)) dips ≡ some (record { period = num 10; phase = num 0; points = points })
+tracked : track (start_clock (num 10) (num 0)) dips ≡ Some (record { period = num 10; phase = num 0; points = points })
 unfolding dip dips point points track start_clock joined skips pushed refit index_at lost size_of at_most last_index round_half_up floor magnitude round add sub mul div lt le eq neg is_nan of_int of_bits to_signed to_unsigned
 tracked = refl
 

@@ -1,5 +1,5 @@
 -- Laws of the clock over all dips: what a point changes, and the loop that keeps the points' places. Assumes nothing.
-use Rattle.std.proofs.Common.{◌≡◌, ℕ, suc, ◌+◌, ◌-◌, ◌*◌, ◌<◌, ◌≤◌, Bool, true, false, cond, ◌&&◌, ◌||◌, ltb, leb, List, [], ◌∷◌, ◌++◌, map, length, get_or, take, drop, set, sym, refl, ap, ◌∙◌, subst, append_assoc, append-nil, add-one, arith, length-drop, length-set, get_or-drop, take-suc-set, drop-set-lt, lt-ltb, eq-eqb, ne_eqb, leb-false}
+use Rattle.std.proofs.Common.{None, Some, ◌≡◌, ℕ, suc, ◌+◌, ◌-◌, ◌*◌, ◌<◌, ◌≤◌, Bool, true, false, cond, ◌&&◌, ◌||◌, ltb, leb, List, [], ◌∷◌, ◌++◌, map, length, get_or, take, drop, set, sym, refl, ap, ◌∙◌, subst, append_assoc, append-nil, add-one, arith, length-drop, length-set, get_or-drop, take-suc-set, drop-set-lt, lt-ltb, eq-eqb, ne_eqb, leb-false}
 use lib.Seq.{slice, slice-cons, slice_empty, take-set-le, take-set-lt, drop-set-add}
 use lib.Ieee.{Float, nan, binary64, add, sub, mul, lt}
 use Rattle.floats.specs.Number.{num}
@@ -9,7 +9,6 @@ use Rattle.dips.specs.Numbers.{depths_at}
 use Rattle.clock.specs.declared.Clock.{Clock}
 use Rattle.clock.specs.declared.Step.{Step}
 use Rattle.clock.specs.declared.Step.TheVariants.{Lost, Skipped, Joined}
-use Rattle.clock.specs.declared.Fit.TheVariants.{Astray, Fitted}
 use Rattle.clock.specs.Clock.{lost, size_of}
 use Rattle.clock.specs.Running.{place, index_at, skips, summed, det, refitted, refit, step, astray, after, added, kept, fit_from, points_from, depths_from}
 use Rattle.clock.specs.Numbers.{off_grid, refits, farthest_bit}
@@ -91,7 +90,7 @@ behind : (i n a : ℕ) (l : List Float) (v : Float) → a ≤ i → i < n → sl
 behind i n a l v h k = rw (add-one i, take-set-lt n l a v (omega arith), drop-set-lt (suc i) (take n l) a v (omega arith))
 
 module _ (start : Clock) (n : ℕ) (old now : List Float) (c : Clock) (i : ℕ) (f : FitAt start n old now c i) where
-  pub fit_end : i ≡ n → Tracked start (take n old) (take n (drop depths_at old)) (Fitted c) now
+  pub fit_end : i ≡ n → Tracked start (take n old) (take n (drop depths_at old)) (Some c) now
   unfolding fit_from points_from depths_from
   fit_end e =
       record {
@@ -108,7 +107,7 @@ module _ (start : Clock) (n : ℕ) (old now : List Float) (c : Clock) (i : ℕ) 
     cut-depths =
         slice-cons i n (drop depths_at now) nan h (omega (arith, length-drop depths_at now)) ∙ ap (λ (x : Float). x ∷ slice (suc i) n (drop depths_at now)) (get_or-drop depths_at now i nan)
 
-    pub fit-lost : r ≡ Lost → Tracked start (take n old) (take n (drop depths_at old)) Astray now
+    pub fit-lost : r ≡ Lost → Tracked start (take n old) (take n (drop depths_at old)) None now
     unfolding fit_from astray
     fit-lost e =
         record {

@@ -8,5 +8,4 @@ pub mod IndexLaws
 pub mod BackLaws
 pub mod RunningLaws
 pub mod BitLaws
-pub mod BitAnswers
 pub mod Example

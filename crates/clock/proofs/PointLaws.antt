@@ -1,12 +1,11 @@
 -- The points of a fitted clock: how many they are, their first, that they rise, and that their places are small. Assumes nothing.
-use Rattle.std.proofs.Common.{◌≡◌, ℕ, zero, suc, ◌+◌, ◌*◌, ◌^◌, ◌<◌, ◌≤◌, cond, List, [], ◌∷◌, map, length, get_or, sym, refl, ap, ◌∙◌, subst, ⊎_elim, arith, le→leb}
+use Rattle.std.proofs.Common.{None, Some, ◌≡◌, ℕ, zero, suc, ◌+◌, ◌*◌, ◌^◌, ◌<◌, ◌≤◌, cond, List, [], ◌∷◌, map, length, get_or, sym, refl, ap, ◌∙◌, subst, ⊎_elim, arith, le→leb}
 use lib.Ieee.{Float, binary64, to_unsigned, in_float}
 use lib.Ieee.Back.{unsigned_back}
 use Rattle.floats.specs.Number.{num}
 use Rattle.clock.specs.declared.Clock.{Clock}
 use Rattle.clock.specs.declared.Step.{Step}
 use Rattle.clock.specs.declared.Step.TheVariants.{Lost, Skipped, Joined}
-use Rattle.clock.specs.declared.Fit.TheVariants.{Astray, Fitted}
 use Rattle.clock.specs.Numbers.{farthest_bit}
 use Rattle.clock.specs.Running.{step, astray, after, added, kept, fit_from, points_from, depths_from}
 use Rattle.order.specs.Order.{Numbers}
@@ -58,7 +57,7 @@ one_more c x e l p f =
       good = f.good;
     }
 
-pub facts : (c e : Clock) (ds : List Float) → fit_from c ds ≡ Fitted e → Good c → Facts c e (points_from c ds)
+pub facts : (c e : Clock) (ds : List Float) → fit_from c ds ≡ Some e → Good c → Facts c e (points_from c ds)
 unfolding fit_from points_from astray after added
 facts c e [] q g =
     let s : c ≡ e = cc in
@@ -66,8 +65,8 @@ facts c e [] q g =
     (record { many = omega arith; keeps = λ h. refl; opens = λ z h. absurd (omega arith); rises = λ h. flat; starts = λ z. flat; small = no_more; good = g })
 facts c e (d ∷ ds) q g = go (step c d) (λ x s. joined-point c x d s) (λ x s. facts x e ds s) q
   where
-    go : (s : Step) → ((x : Clock) → s ≡ Joined x → Point c x) → ((x : Clock) → fit_from x ds ≡ Fitted e → Good x → Facts x e (points_from x ds))
-        → cond (astray s) Astray (fit_from (after c s) ds) ≡ Fitted e → Facts c e (added s (points_from (after c s) ds))
+    go : (s : Step) → ((x : Clock) → s ≡ Joined x → Point c x) → ((x : Clock) → fit_from x ds ≡ Some e → Good x → Facts x e (points_from x ds))
+        → cond (astray s) None (fit_from (after c s) ds) ≡ Some e → Facts c e (added s (points_from (after c s) ds))
     go Lost p i q = absurd (let z : ◌≡◌ {A = ℕ} 0 1 = cc in omega arith)
     go Skipped p i q = i c q g
     go (Joined x) p i q = let t = p x refl in one_more c x e (points_from x ds) t (i x q (good-point c x t g))

@@ -1,14 +1,11 @@
 -- The clock that is kept, with its sums, is the clock that is fitted anew to all points: a sum from the left over one point more is one step more. Assumes nothing.
-use Rattle.std.proofs.Common.{◌≡◌, ℕ, zero, suc, ◌+◌, ◌-◌, ◌<◌, ◌≤◌, max, Bool, true, false, cond, ◌&&◌, T, eqb, ltb, leb, List, [], ◌∷◌, ◌++◌, map, length, ℤ, sym, refl, ap, ◌∙◌, subst, append_assoc, append-nil, arith, length-append, ltb-false, ne_eqb}
-use mathlib.Core.Option.{Option, none, some}
+use Rattle.std.proofs.Common.{◌≡◌, ℕ, zero, suc, ◌+◌, ◌-◌, ◌<◌, ◌≤◌, max, Bool, true, false, cond, ◌&&◌, T, eqb, ltb, leb, List, [], ◌∷◌, ◌++◌, map, length, ℤ, sym, refl, ap, ◌∙◌, subst, append_assoc, append-nil, arith, length-append, ltb-false, ne_eqb, Option, None, Some}
 use lib.IntN.{suc_ℤ}
 use lib.Ieee.{Float, binary64, add, sub, mul, div, lt}
 use lib.Ieee.Fits.{div-fits}
 use Rattle.floats.specs.Number.{num}
 use Rattle.dips.specs.Dips.{Dip, positions_of, depths_of}
 use Rattle.clock.specs.declared.Clock.{Clock}
-use Rattle.clock.specs.declared.Fit.{Fit}
-use Rattle.clock.specs.declared.Fit.TheVariants.{Astray, Fitted}
 use Rattle.clock.specs.Numbers.{refits, enough_points}
 use Rattle.clock.specs.Clock.{lost, as_index, as_float, at_most, Point, BitClock, first_index, last_index, sum_from, sum_k, sum_d, sum_kk, sum_kd, det, slope, offset, refit, index_at, skips, pushed, joined, track, start_clock}
 use Rattle.clock.specs.Bits.{end_index, larger, upward, indexes, on_grid, bit_at, all_bits, median_depth, ended, clocked}
@@ -136,14 +133,14 @@ refit-points c = go (leb refits (length c.points) && lt (num 0) (det c.points))
 
 -- ---- all dips
 
-fit_of : Option BitClock → Fit
-fit_of none = Astray
-fit_of (some c) = Fitted (summary c)
+fit_of : Option BitClock → Option Clock
+fit_of None = None
+fit_of (Some c) = Some (summary c)
 
 record Same (c : BitClock) (ds : List Dip) : Type 0 where
   fit : run.fit_from (summary c) (positions_of ds) ≡ fit_of (track c ds)
-  points : (e : BitClock) → track c ds ≡ some e → (places_of c.points ++ run.points_from (summary c) (positions_of ds) ≡ places_of e.points) × Lows e.points
-  depths : (e : BitClock) → track c ds ≡ some e → deep_of c.points ++ run.depths_from (summary c) (positions_of ds) (depths_of ds) ≡ deep_of e.points
+  points : (e : BitClock) → track c ds ≡ Some e → (places_of c.points ++ run.points_from (summary c) (positions_of ds) ≡ places_of e.points) × Lows e.points
+  depths : (e : BitClock) → track c ds ≡ Some e → deep_of c.points ++ run.depths_from (summary c) (positions_of ds) (depths_of ds) ≡ deep_of e.points
 
 no_dips : (c : BitClock) → Lows c.points → Same c []
 unfolding run.fit_from run.points_from run.depths_from track fit_of
@@ -160,8 +157,8 @@ module _ (c : BitClock) (d : Dip) (ds : List Dip) (l : Lows c.points) where
   dip-lost h =
       record {
         fit = rw (← step-lost (summary c) d.at h, h);
-        points = λ e q. absurd (let t : none ≡ some e = sym (rw h) ∙ q in let z : ◌≡◌ {A = ℕ} 0 1 = cc in omega arith);
-        depths = λ e q. absurd (let t : none ≡ some e = sym (rw h) ∙ q in let z : ◌≡◌ {A = ℕ} 0 1 = cc in omega arith);
+        points = λ e q. absurd (let t : None ≡ Some e = sym (rw h) ∙ q in let z : ◌≡◌ {A = ℕ} 0 1 = cc in omega arith);
+        depths = λ e q. absurd (let t : None ≡ Some e = sym (rw h) ∙ q in let z : ◌≡◌ {A = ℕ} 0 1 = cc in omega arith);
       }
 
   module _ (h : lost (index_at c d.at) ≡ false) where
@@ -276,12 +273,12 @@ ended_is seg rate level c h l = go (lost (end_index level seg c.period c.phase))
     go false e = rw (e, bits_are c.points (end_index level seg c.period c.phase) h l e)
 
 clocked_is : (seg : List Float) (rate : ℕ) (level : Float) (c : BitClock) → Lows c.points
-    → clocked seg rate level (some c) ≡ run.clocked seg rate level (places_of c.points) (deep_of c.points) (Fitted (summary c))
+    → clocked seg rate level (Some c) ≡ run.clocked seg rate level (places_of c.points) (deep_of c.points) (Some (summary c))
 unfolding clocked run.clocked summary
 clocked_is seg rate level c l = go (ltb (length c.points) enough_points) (ltb-false (length c.points) enough_points)
   where
     go : (t : Bool) → (t ≡ false → enough_points ≤ length c.points)
-        → cond t none (ended seg rate level c) ≡ cond t none (run.ended seg rate level (places_of c.points) (deep_of c.points) (summary c))
+        → cond t None (ended seg rate level c) ≡ cond t None (run.ended seg rate level (places_of c.points) (deep_of c.points) (summary c))
     go true f = refl
     go false f = ended_is seg rate level c (let h = f refl in omega arith) l
 
@@ -294,9 +291,9 @@ running_is seg rate level nominal phase ds =
     go (track (start_clock nominal phase) ds) all.fit all.points all.depths
   where
     go : (o : Option BitClock) → run.fit_from (run.start_clock nominal phase) (positions_of ds) ≡ fit_of o
-        → ((e : BitClock) → o ≡ some e → (run.points_from (run.start_clock nominal phase) (positions_of ds) ≡ places_of e.points) × Lows e.points)
-        → ((e : BitClock) → o ≡ some e → run.depths_from (run.start_clock nominal phase) (positions_of ds) (depths_of ds) ≡ deep_of e.points)
+        → ((e : BitClock) → o ≡ Some e → (run.points_from (run.start_clock nominal phase) (positions_of ds) ≡ places_of e.points) × Lows e.points)
+        → ((e : BitClock) → o ≡ Some e → run.depths_from (run.start_clock nominal phase) (positions_of ds) (depths_of ds) ≡ deep_of e.points)
         → clocked seg rate level o
         ≡ run.clocked seg rate level (run.points_from (run.start_clock nominal phase) (positions_of ds)) (run.depths_from (run.start_clock nominal phase) (positions_of ds) (depths_of ds)) (run.fit_from (run.start_clock nominal phase) (positions_of ds))
-    go none f p q = rw f
-    go (some e) f p q = rw (f, (p e refl).0, q e refl) (clocked_is seg rate level e (p e refl).1)
+    go None f p q = rw f
+    go (Some e) f p q = rw (f, (p e refl).0, q e refl) (clocked_is seg rate level e (p e refl).1)

@@ -1,7 +1,6 @@
 -- `burst_bits` of demod.rs: the bits between the points of the clock, and what it hands over. Assumes nothing.
-use Rattle.std.specs.Prelude.{ℕ, zero, suc, ◌-◌, ◌*◌, ◌/◌, min, Bool, false, cond, not, ◌||◌, List, [], ◌∷◌, ◌++◌, map, length, take, drop, ℤ, pos, negsuc, ◌-ℤ◌, ◌==◌, nat_lt, slice_index_or, Float}
+use Rattle.std.specs.Prelude.{ℕ, zero, suc, ◌-◌, ◌*◌, ◌/◌, min, Bool, false, cond, not, ◌||◌, List, [], ◌∷◌, ◌++◌, map, length, take, drop, ℤ, pos, negsuc, ◌-ℤ◌, ◌==◌, nat_lt, slice_index_or, Float, Option, None, Some}
 use Rattle.std.proofs.Math.IntN.{suc_ℤ}
-use Rattle.std.proofs.Math.Option.{Option, none, some}
 use Rattle.std.specs.Float.{nan, binary64}
 use Rattle.std.specs.Float.Ieee.{sub, mul, div, lt, to_signed}
 use Rattle.floats.specs.Floor.{floor, round_half_up}
@@ -15,9 +14,8 @@ use Rattle.bursts.specs.Levels.{quantile}
 use Rattle.dips.specs.Dips.{Dip, found_in, positions_of}
 use Rattle.clock.specs.Numbers.{enough_dips, enough_points, end_db, million}
 use Rattle.clock.specs.Clock.{anchor, lost, as_index, at_most, Point, BitClock, first_index, last_index, start_clock, track}
-use Rattle.limits.specs.Answer.{Answer, refused, accepted, answer}
+use Rattle.limits.specs.Answer.{Answer, answer}
 use Rattle.clock.specs.declared.BurstBits.{BurstBits}
-use Rattle.clock.specs.declared.BurstBits.TheVariants.{Refused, Nothing, Bits}
 
 -- the last of the samples 0 to i that is not under the limit, 0 where there is none
 unfoldable pub last_high : Float → List Float → ℕ → ℕ
@@ -97,8 +95,8 @@ Outcome = Option Recovered
 unfoldable pub ended : List Float → ℕ → Float → BitClock → Outcome
 unfolding lost end_index all_bits ppm_of median_depth
 ended seg rate level c =
-    cond (lost (end_index level seg c.period c.phase)) none
-    (some (record {
+    cond (lost (end_index level seg c.period c.phase)) None
+    (Some (record {
       bits = all_bits c.points (as_index (end_index level seg c.period c.phase));
       period = c.period;
       ppm = ppm_of c.period (nominal_of rate);
@@ -110,45 +108,31 @@ ended seg rate level c =
 -- none under 8 points
 unfoldable pub clocked : List Float → ℕ → Float → Option BitClock → Outcome
 unfolding ended
-clocked seg rate level none = none
-clocked seg rate level (some c) = cond (nat_lt (length c.points) enough_points) none (ended seg rate level c)
+clocked seg rate level None = None
+clocked seg rate level (Some c) = cond (nat_lt (length c.points) enough_points) None (ended seg rate level c)
 
 -- from the dips: none under 8
 unfoldable pub from_dips : List Float → ℕ → Float → List Dip → Outcome
 unfolding clocked anchor start_clock track
 from_dips seg rate level ds =
-    cond (nat_lt (length ds) enough_dips) none
+    cond (nat_lt (length ds) enough_dips) None
     (clocked seg rate level (track (start_clock (nominal_of rate) (anchor (nominal_of rate) (slice_index_or (positions_of ds) 0 nan) (positions_of ds))) ds))
 
 -- the burst's level is the value at 0.9 of its sorted samples; no samples have none
 unfoldable pub outcome : List Float → ℕ → Outcome
 unfolding from_dips quantile
-outcome [] rate = none
+outcome [] rate = None
 outcome (x ∷ l) rate = from_dips (x ∷ l) rate (quantile level_quantile (x ∷ l)) (found_in (x ∷ l) rate (quantile level_quantile (x ∷ l)))
 
 -- what it leaves in the bits: the first 1,024, the rest kept
 unfoldable pub handed : Outcome → List ℕ → List ℕ
-handed none old = old
-handed (some b) old = take most_bits b.bits ++ drop (min most_bits (length b.bits)) old
+handed None old = old
+handed (Some b) old = take most_bits b.bits ++ drop (min most_bits (length b.bits)) old
 
 -- what is answered beside the bits
-pub record Values : Type 0 where
-  pub count : ℕ
-  pub period : Float
-  pub ppm : ℤ
-  pub level : Float
-  pub points : ℕ
-  pub depth : Float
-
-unfoldable pub values_of : Outcome → Option Values
-values_of none = none
-values_of (some b) = some (record { count = length b.bits; period = b.period; ppm = b.ppm; level = b.level; points = b.dips; depth = b.depth })
-
--- 01's number and values of each answer; no bits is an ordinary answer
-unfoldable pub said : BurstBits → Answer (Option Values)
-said (Refused n) = refused n
-said Nothing = accepted none
-said (Bits count period ppm level points depth) = accepted (some (record { count = count; period = period; ppm = ppm; level = level; points = points; depth = depth }))
+unfoldable pub values_of : Outcome → Option BurstBits
+values_of None = None
+values_of (Some b) = Some (record { count = length b.bits; period = b.period; clock_error_ppm = b.ppm; level = b.level; points = b.dips; depth = b.depth })
 
 -- the first cause that applies to `burst_bits`, 0 where none does: room for 1,024 bits, 12 × rate f32 and 6,000 f64 is lent
 unfoldable pub bits_cause : List Float → ℕ → ℕ → ℕ → ℕ → ℕ
@@ -159,5 +143,6 @@ bits_cause seg rate bits s32 s64 =
     (cond (not (all_dbm seg)) bad_sample
     0)))
 
-abbrev pub bits_answer : List Float → ℕ → ℕ → ℕ → ℕ → Answer (Option Values)
+-- the answer of `burst_bits`; no bits is an ordinary one
+abbrev pub bits_answer : List Float → ℕ → ℕ → ℕ → ℕ → Answer (Option BurstBits)
 bits_answer seg rate bits s32 s64 = answer (bits_cause seg rate bits s32 s64) (values_of (outcome seg rate))

@@ -1,7 +1,6 @@
 -- The bit clock of `burst_bits` (demod.rs): each dip is assigned to a bit index with the current estimate, then period and phase are fitted anew by least squares
 -- to all points. Assumes nothing.
-use Rattle.std.specs.Prelude.{ℕ, Bool, true, false, cond, ◌&&◌, ◌||◌, List, [], ◌∷◌, ◌++◌, length, take, ℤ, pos, negsuc, is_nan, nat_le, nat_lt, Float}
-use Rattle.std.proofs.Math.Option.{Option, none, some}
+use Rattle.std.specs.Prelude.{ℕ, Bool, true, false, cond, ◌&&◌, ◌||◌, List, [], ◌∷◌, ◌++◌, length, take, ℤ, pos, negsuc, is_nan, nat_le, nat_lt, Float, Option, None, Some}
 use Rattle.std.specs.Float.{binary64}
 use Rattle.std.specs.Float.Ieee.{add, sub, mul, div, lt, of_int, to_signed, to_unsigned}
 use Rattle.floats.specs.Floor.{round_half_up}
@@ -149,8 +148,8 @@ joined c d k = cond (skips c d.at k) c (refit (pushed c d k))
 -- in order; 01: none where an index is lost, of a dip later skipped too
 unfoldable pub track : BitClock → List Dip → Option BitClock
 unfolding lost index_at joined
-track c [] = some c
-track c (d ∷ ds) = cond (lost (index_at c d.at)) none (track (joined c d (as_index (index_at c d.at))) ds)
+track c [] = Some c
+track c (d ∷ ds) = cond (lost (index_at c d.at)) None (track (joined c d (as_index (index_at c d.at))) ds)
 
 -- before the first dip
 unfoldable pub start_clock : Float → Float → BitClock

@@ -1,7 +1,6 @@
 -- Scaffolding. The bit clock as the code keeps it, with its four sums and its bit indexes moved up by 2^31, and the outcome from there.
 -- Law `running-is` of the proofs says that it is `Clock`'s and `Bits`'. Assumes nothing.
-use Rattle.std.specs.Prelude.{ℕ, ◌+◌, ◌-◌, ◌/◌, max, Bool, true, false, cond, ◌&&◌, ◌||◌, List, [], ◌∷◌, ◌==◌, nat_le, nat_lt, Float}
-use Rattle.std.proofs.Math.Option.{none, some}
+use Rattle.std.specs.Prelude.{ℕ, ◌+◌, ◌-◌, ◌/◌, max, Bool, true, false, cond, ◌&&◌, ◌||◌, List, [], ◌∷◌, ◌==◌, nat_le, nat_lt, Float, Option, None, Some}
 use Rattle.std.specs.Float.{binary64}
 use Rattle.std.specs.Float.Ieee.{add, sub, mul, div, lt}
 use Rattle.floats.specs.Floor.{round_half_up}
@@ -16,8 +15,6 @@ use Rattle.clock.specs.Walk.{placed_bits}
 use Rattle.clock.specs.declared.Clock.{Clock}
 use Rattle.clock.specs.declared.Step.{Step}
 use Rattle.clock.specs.declared.Step.TheVariants.{Lost, Skipped, Joined}
-use Rattle.clock.specs.declared.Fit.{Fit}
-use Rattle.clock.specs.declared.Fit.TheVariants.{Astray, Fitted}
 
 -- k + 2^31, a natural number
 unfoldable pub place : Float → ℕ
@@ -104,11 +101,11 @@ added Lost l = l
 added Skipped l = l
 added (Joined c) l = c.last ∷ l
 
--- the clock after all dips
-unfoldable pub fit_from : Clock → List Float → Fit
+-- the clock after all dips, none where one is lost
+unfoldable pub fit_from : Clock → List Float → Option Clock
 unfolding step astray after
-fit_from c [] = Fitted c
-fit_from c (d ∷ ds) = cond (astray (step c d)) Astray (fit_from (after c (step c d)) ds)
+fit_from c [] = Some c
+fit_from c (d ∷ ds) = cond (astray (step c d)) None (fit_from (after c (step c d)) ds)
 
 -- the places of the accepted points
 unfoldable pub points_from : Clock → List Float → List ℕ
@@ -137,8 +134,8 @@ start_clock nominal phase =
 
 unfoldable pub ended : List Float → ℕ → Float → List ℕ → List Float → Clock → Outcome
 ended seg rate level points depths c =
-    cond (lost (end_index level seg c.period c.phase)) none
-    (some (record {
+    cond (lost (end_index level seg c.period c.phase)) None
+    (Some (record {
       bits = placed_bits points c.first (max c.last (place (end_index level seg c.period c.phase)));
       period = c.period;
       ppm = ppm_of c.period (nominal_of rate);
@@ -147,7 +144,7 @@ ended seg rate level points depths c =
       depth = kth binary64 depths (c.count / 2);
     }))
 
-unfoldable pub clocked : List Float → ℕ → Float → List ℕ → List Float → Fit → Outcome
+unfoldable pub clocked : List Float → ℕ → Float → List ℕ → List Float → Option Clock → Outcome
 unfolding ended
-clocked seg rate level points depths Astray = none
-clocked seg rate level points depths (Fitted c) = cond (nat_lt c.count enough_points) none (ended seg rate level points depths c)
+clocked seg rate level points depths None = None
+clocked seg rate level points depths (Some c) = cond (nat_lt c.count enough_points) None (ended seg rate level points depths c)

@@ -1,7 +1,7 @@
 // The bit clock, recovered from the dips of a burst, and the bits between them (demod.rs `burst_bits`).
 #![tactic(auto)]
 
-ghost use Rattle.std.specs.Prelude.{◌≡◌, ◌-◌, ◌*◌, ◌/◌, ◌<◌, ◌≤◌, true, false, ◌∷◌, ◌++◌, length, take, drop, slice_index_or};
+ghost use Rattle.std.specs.Prelude.{◌≡◌, ◌-◌, ◌*◌, ◌/◌, ◌<◌, ◌≤◌, true, false, ◌∷◌, ◌++◌, length, take, drop, slice_index_or, IfOk};
 ghost use Rattle.std.specs.Float.{nan, binary64};
 ghost use Rattle.std.specs.Float.Ieee.{lt, to_unsigned};
 ghost use Rattle.order.specs.Order.{kth, Numbers};
@@ -16,8 +16,12 @@ ghost use Rattle.clock.specs.Clock.{angle, anchor, size_of, lost};
 ghost use Rattle.clock.specs.Running.{place, index_at, skips, det, refit, summed, step, start_clock, clocked};
 ghost use Rattle.clock.specs.Tracked.{Tracked};
 ghost use Rattle.clock.specs.Walk.{heads, walked, places, Ready};
-ghost use Rattle.clock.specs.Bits.{last_high, end_index, ppm_of, outcome, handed, values_of, said, bits_answer};
-ghost use Rattle.limits.specs.Answer.{accepted, number, leaves, Free};
+ghost use Rattle.clock.specs.Bits.{last_high, end_index, ppm_of, outcome, handed, values_of, bits_cause, bits_answer};
+ghost use Rattle.limits.specs.Answer.{said, cause_of, number, leaves, Free};
+
+use limits::Refusal;
+use limits::rated::Samples;
+use std::f64::consts::PI;
 
 // The level of a burst is the value at nine tenths of its sorted samples: floor(len * 0.9) is the whole part of 9 * len / 10.
 const LEVEL_TENTHS: usize = 9;
@@ -67,13 +71,6 @@ pub enum Step {
     Joined(Clock),
 }
 
-// What all dips do.
-#[derive(Clone, Copy)]
-pub enum Fit {
-    Astray,
-    Fitted(Clock),
-}
-
 // Samples for each bit.
 pub fn nominal_of(rate: u32) -> f64
     ensures { result ≡ nominal_of rate }
@@ -84,7 +81,7 @@ pub fn nominal_of(rate: u32) -> f64
 fn angle_of(nominal: f64, d0: f64, d: f64) -> f64
     ensures { result ≡ angle nominal d0 d }
 {
-    2.0 * floats::PI * (d - d0) / nominal
+    2.0 * PI * (d - d0) / nominal
 }
 
 // The grid, anchored on the mean phase of the first dips (circular mean modulo one bit).
@@ -93,17 +90,15 @@ pub fn anchor_of(dips: &[f64], n: usize, nominal: f64) -> f64
     ensures { result ≡ anchor nominal (slice_index_or dips.now 0 nan) (take n dips.now) }
 {
     let d0 = dips[0];
-    let end = whole::least(n, ANCHORS);
+    let end = n.min(ANCHORS);
     let mut s = 0.0;
     let mut c = 0.0;
-    let mut i: usize = 0;
-    while i < end {
+    for i in 0..end {
         let a = angle_of(nominal, d0, dips[i]);
-        s = s + floats::sin64(a);
-        c = c + floats::cos64(a);
-        i += 1;
+        s += floats::sin64(a);
+        c += floats::cos64(a);
     }
-    d0 + floats::atan2_64(s, c) / (2.0 * floats::PI) * nominal
+    d0 + floats::atan2_64(s, c) / (2.0 * PI) * nominal
 }
 
 fn size_of(k: f64) -> usize
@@ -174,13 +169,7 @@ fn refit_clock(c: Clock) -> Clock
         return Clock {
             period,
             phase: (c.sd - period * c.sk) / n,
-            sk: c.sk,
-            sd: c.sd,
-            skk: c.skk,
-            skd: c.skd,
-            count: c.count,
-            first: c.first,
-            last: c.last,
+            ..c
         };
     }
     c
@@ -193,8 +182,6 @@ fn sum_point(c: Clock, d: f64, k: f64) -> Clock
 {
     let p = place_of(k);
     Clock {
-        period: c.period,
-        phase: c.phase,
         sk: c.sk + k,
         sd: c.sd + d,
         skk: c.skk + k * k,
@@ -202,6 +189,7 @@ fn sum_point(c: Clock, d: f64, k: f64) -> Clock
         count: c.count + 1,
         first: whole::pick(c.count == 0, p, c.first),
         last: p,
+        ..c
     }
 }
 
@@ -220,13 +208,18 @@ pub fn track(c: Clock, d: f64) -> Step
     Step::Joined(refit_clock(sum_point(c, d, k)))
 }
 
-// What `burst_bits` answers: the number of all bits, of which the first 1,024 are handed over, the period in samples, the clock's error, the
-// level, the number of points and the median of their dips' depths.
+// What is answered beside the bits.
 #[derive(Clone, Copy)]
-pub enum BurstBits {
-    Refused(u8),
-    Nothing,
-    Bits(usize, f64, i32, f32, usize, f64),
+pub struct BurstBits {
+    // Of all bits; the first 1,024 are handed over.
+    pub count: usize,
+    // In samples.
+    pub period: f64,
+    pub clock_error_ppm: i32,
+    pub level: f32,
+    pub points: usize,
+    // The median of the points' dips.
+    pub depth: f64,
 }
 
 // A place as a float and back: exact.
@@ -236,20 +229,19 @@ fn place_back(x: f64) -> usize
     floats::to_usize_saturating(x)
 }
 
-// The clock after all of the first n dips; the places of the points overwrite the dips from the front, and their depths those of all dips.
-fn fit_clock(dips: &mut [f64], n: usize, start: Clock) -> Fit
+// The clock after all of the first n dips, none where a bit index is lost; the places of the points overwrite the dips from the front, and their depths those of all dips.
+fn fit_clock(dips: &mut [f64], n: usize, start: Clock) -> Option<Clock>
     requires { (scratch64 ≤ length dips.old) × (n ≤ depths_at) × (start.count ≡ 0) }
     ensures { Tracked start (take n dips.old) (take n (drop depths_at dips.old)) result dips.new }
 {
     let mut clock = start;
-    let mut i: usize = 0;
-    while i < n {
+    for i in 0..n {
         match track(clock, dips[i]) {
             Step::Lost => {
-                return Fit::Astray;
+                return None;
             }
             Step::Skipped => {
-                i += 1;
+                continue;
             }
             Step::Joined(next) => {
                 let at = clock.count;
@@ -257,11 +249,10 @@ fn fit_clock(dips: &mut [f64], n: usize, start: Clock) -> Fit
                 dips[at] = floats::count_as_f64(next.last);
                 dips[dips::DEPTHS + at] = depth;
                 clock = next;
-                i += 1;
             }
         }
     }
-    Fit::Fitted(clock)
+    Some(clock)
 }
 
 // Whether place k has a point, the one at p.
@@ -282,15 +273,12 @@ fn write_bits(points: &[f64], n: usize, first: usize, len: usize, bits: &mut [u8
 {
     bits[0] = 1;
     let mut p: usize = 0;
-    let mut j: usize = 1;
-    while j < len {
+    for j in 1..len {
         if on_point(points, n, p, first + (j - 1)) {
             bits[j] = 0;
             p += 1;
-            j += 1;
         } else {
             bits[j] = 1;
-            j += 1;
         }
     }
 }
@@ -300,14 +288,12 @@ fn last_high(seg: &[f32], limit: f64) -> usize
     requires { 0 < length seg.now }
     ensures { (result ≡ last_high limit seg.now (length seg.now - 1)) × (result < length seg.now) }
 {
-    let mut i = seg.len() - 1;
-    while i > 0 {
+    for i in (1..seg.len()).rev() {
         if !under(seg[i], limit) {
             return i;
         }
-        i -= 1;
     }
-    i
+    0
 }
 
 fn under(x: f32, limit: f64) -> bool
@@ -336,7 +322,7 @@ pub fn level_of(seg: &[f32]) -> f32
     requires { (0 < length seg.now) × (length seg.now ≤ most_samples) × (all_dbm seg.now ≡ true) }
     ensures { result ≡ quantile level_quantile seg.now }
 {
-    order::select32(seg, LEVEL_TENTHS * seg.len() / 10)
+    order::select(seg, LEVEL_TENTHS * seg.len() / 10)
 }
 
 // The median of the depths of n points' dips: index n / 2 of their order (02, request 05).
@@ -345,7 +331,7 @@ fn median_depth(points: &[f64], n: usize) -> f64
     ensures { result ≡ kth binary64 (take n (drop depths_at points.now)) (n / 2) }
 {
     let depths = &points[dips::DEPTHS..dips::DEPTHS + n];
-    order::select64(depths, n / 2)
+    order::select(depths, n / 2)
 }
 
 // The bits up to where the signal ends: those after the last dip are 1s (no reversal).
@@ -356,32 +342,32 @@ fn clocked_bits(
     c: Clock,
     points: &[f64],
     bits: &mut [u8],
-) -> BurstBits
+) -> Option<BurstBits>
     requires { (0 < length seg.now) × (length seg.now ≤ most_samples) × (c.count ≤ depths_at) × (most_bits ≤ length bits.old) × Ready c (places points.now c.count) × (scratch64 ≤ length points.now) × Numbers (take c.count (drop depths_at points.now)) }
-    ensures { (said result ≡ accepted (values_of (clocked seg.now rate level (places points.now c.count) (take c.count (drop depths_at points.now)) (Fit.Fitted c))))
-        × (bits.new ≡ handed (clocked seg.now rate level (places points.now c.count) (take c.count (drop depths_at points.now)) (Fit.Fitted c)) bits.old) }
+    ensures { (result ≡ values_of (clocked seg.now rate level (places points.now c.count) (take c.count (drop depths_at points.now)) (Some c)))
+        × (bits.new ≡ handed (clocked seg.now rate level (places points.now c.count) (take c.count (drop depths_at points.now)) (Some c)) bits.old) }
 {
     let n = c.count;
     if n < ENOUGH_POINTS {
-        return BurstBits::Nothing;
+        return None;
     }
     let k = end_index(seg, level, c);
     if is_lost(k) {
-        return BurstBits::Nothing;
+        return None;
     }
     let first = c.first;
-    let end = whole::greatest(c.last, place_of(k));
+    let end = c.last.max(place_of(k));
     let count = end - first + 2;
-    let len = whole::least(count, limits::MOST_BITS);
+    let len = count.min(limits::MOST_BITS);
     write_bits(points, n, first, len, bits);
-    BurstBits::Bits(
+    Some(BurstBits {
         count,
-        c.period,
-        ppm_of(c.period, nominal_of(rate)),
+        period: c.period,
+        clock_error_ppm: ppm_of(c.period, nominal_of(rate)),
         level,
-        n,
-        median_depth(points, n),
-    )
+        points: n,
+        depth: median_depth(points, n),
+    })
 }
 
 pub fn start_clock(nominal: f64, phase: f64) -> Clock
@@ -400,25 +386,47 @@ pub fn start_clock(nominal: f64, phase: f64) -> Clock
     }
 }
 
-// The bits of a burst whose samples are valid.
-pub fn bits_of(seg: &[f32], rate: u32, bits: &mut [u8], scratch: &mut [f64]) -> BurstBits
-    requires { (lowest_rate ≤ rate) × (rate ≤ highest_rate) × (length seg.now ≤ buffer_s * rate) × (all_dbm seg.now ≡ true) × (most_bits ≤ length bits.old) × (scratch64 ≤ length scratch.old) }
-    ensures { (said result ≡ accepted (values_of (outcome seg.now rate))) × (bits.new ≡ handed (outcome seg.now rate) bits.old) }
+// The bits of a burst.
+pub fn bits_of(samples: Samples, bits: &mut [u8], scratch: &mut [f64]) -> Option<BurstBits>
+    requires { (most_bits ≤ length bits.old) × (scratch64 ≤ length scratch.old) }
+    ensures { (result ≡ values_of (outcome samples.entry.dbm.now samples.entry.rate))
+        × (bits.new ≡ handed (outcome samples.entry.dbm.now samples.entry.rate) bits.old) }
 {
+    let seg = samples.dbm;
     if seg.len() == 0 {
-        return BurstBits::Nothing;
+        return None;
     }
     let level = level_of(seg);
-    let n = dips::dips_into(seg, rate, std::num::f32_to_f64_with_nan(level), scratch);
+    let n = dips::dips_into(samples, std::num::f32_to_f64_with_nan(level), scratch);
     if n < ENOUGH_DIPS {
-        return BurstBits::Nothing;
+        return None;
     }
-    let nominal = nominal_of(rate);
+    let nominal = nominal_of(samples.rate);
     let start = start_clock(nominal, anchor_of(scratch, n, nominal));
-    match fit_clock(scratch, n, start) {
-        Fit::Astray => BurstBits::Nothing,
-        Fit::Fitted(c) => clocked_bits(seg, rate, level, c, scratch, bits),
+    let c = fit_clock(scratch, n, start)?;
+    clocked_bits(seg, samples.rate, level, c, scratch, bits)
+}
+
+// The samples, or the first cause that applies to `burst_bits`, with room for so many bits, f32 and f64.
+#[tactic(auto, using(limits::proofs::Causes::sample_refused, limits::proofs::Causes::samples_pass), unfolding(limits::specs::Answer::cause_of, crate::specs::Bits::bits_cause))]
+fn check<'a>(
+    seg: &'a [f32],
+    rate: u32,
+    bits: usize,
+    s32: usize,
+    s64: usize,
+) -> Result<Samples<'a>, Refusal>
+    ensures cause { cause_of result ≡ bits_cause seg.now rate bits s32 s64 }
+    ensures ok { IfOk result (λ s. (s.dbm.now ≡ seg.now) × (s.rate ≡ rate) × (most_bits ≤ bits) × (scratch64 ≤ s64)) }
+{
+    if !limits::rate_ok(rate) {
+        return Err(Refusal::BadRate);
     }
+    let narrow = s32 < limits::BUFFER_S * (rate as usize);
+    if bits < limits::MOST_BITS || narrow || s64 < limits::SCRATCH64 {
+        return Err(Refusal::Short);
+    }
+    Samples::new(seg, rate)
 }
 
 // Finds the dips of one burst, recovers the bit clock from their positions and hands over the data bits (demod.rs `burst_bits`).
@@ -428,25 +436,11 @@ pub fn burst_bits(
     bits: &mut [u8],
     scratch32: &mut [f32],
     scratch64: &mut [f64],
-) -> BurstBits
+) -> Result<Option<BurstBits>, Refusal>
     ensures { (said result ≡ bits_answer seg.now rate (length bits.old) (length scratch32.old) (length scratch64.old))
         × (bits.new ≡ leaves (number (said result)) (handed (outcome seg.now rate) bits.old) bits.old)
         × Free (number (said result)) scratch32.old scratch32.new × Free (number (said result)) scratch64.old scratch64.new }
 {
-    if !limits::rate_ok(rate) {
-        return BurstBits::Refused(limits::BAD_RATE);
-    }
-    let few = bits.len() < limits::MOST_BITS;
-    let narrow = scratch32.len() < limits::BUFFER_S * (rate as usize);
-    let short = scratch64.len() < limits::SCRATCH64;
-    if few | (narrow | short) {
-        return BurstBits::Refused(limits::SHORT);
-    }
-    if limits::BUFFER_S * (rate as usize) < seg.len() {
-        return BurstBits::Refused(limits::LONG);
-    }
-    if !limits::all_dbm(seg) {
-        return BurstBits::Refused(limits::BAD_SAMPLE);
-    }
-    bits_of(seg, rate, bits, scratch64)
+    let samples = check(seg, rate, bits.len(), scratch32.len(), scratch64.len())?;
+    Ok(bits_of(samples, bits, scratch64))
 }

@@ -1,20 +1,13 @@
 -- What `convolve` and `deconvolve` answer and leave in `out` (01, 'Causes and returns'). Assumes nothing.
 use Rattle.std.specs.Prelude.{ℕ, cond, List, ◌++◌, map, ltb, length, drop}
 use Rattle.limits.specs.Limits.{short, long, bad_number, most_bits}
-use Rattle.limits.specs.Answer.{Answer, refused, accepted, answer, leaves}
+use Rattle.limits.specs.Answer.{Answer, answer, leaves}
 use Rattle.coding.specs.Bits.{odd, bit_of, are_bits}
 use Rattle.coding.specs.Convolution.{fresh, convolved, deconvolved}
-use Rattle.coding.specs.declared.Coded.{Coded}
-use Rattle.coding.specs.declared.Coded.TheVariants.{Refused, Done}
 
 -- the highest rank: a message is sent at most three times
 abbrev pub highest_rank : ℕ
 highest_rank = 2
-
--- 01's number and values of each answer: how many bits were written
-unfoldable pub said : Coded → Answer ℕ
-said (Refused n) = refused n
-said (Done n) = accepted n
 
 -- the first cause that applies, 0 where none does: 2 `out` under the input's length, 3 over 1,024 bits, 9 rank over 2 or a bit byte over 1
 unfoldable pub coding_cause : List ℕ → ℕ → ℕ → ℕ
@@ -22,6 +15,7 @@ unfolding are_bits
 coding_cause bits rank room =
     cond (ltb room (length bits)) short (cond (ltb most_bits (length bits)) long (cond (ltb highest_rank rank) bad_number (cond (are_bits bits) 0 bad_number)))
 
+-- the answer of `convolve` and `deconvolve`: how many bits were written
 unfoldable pub coding_answer : List ℕ → ℕ → List ℕ → Answer ℕ
 unfolding coding_cause
 coding_answer bits rank out = answer (coding_cause bits rank (length out)) (length bits)

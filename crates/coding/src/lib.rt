@@ -1,12 +1,15 @@
 // The frame's CRC-16 and convolutional codes (frame.rs crc16, convolve, deconvolve). Bits are bytes 0 or 1.
 #![tactic(auto)]
 
-ghost use Rattle.std.specs.Prelude.{◌≡◌, true, cond, ◌++◌, map, ◌<◌, ◌≤◌, length, drop};
+ghost use Rattle.std.specs.Prelude.{◌≡◌, true, ◌++◌, map, ◌<◌, ◌≤◌, length, drop};
 ghost use Rattle.coding.specs.Bits.{odd, bit_of, plus, digits, are_bits};
 ghost use Rattle.coding.specs.Crc.{crc_of};
 ghost use Rattle.coding.specs.Register.{run};
 ghost use Rattle.coding.specs.Convolution.{tap, fresh, state_of, numbered, state_after, convolved, deconvolved, through, taken};
-ghost use Rattle.coding.specs.Answers.{said, coding_cause, coding_answer, convolve_out, deconvolve_out};
+ghost use Rattle.limits.specs.Answer.{said, cause_of};
+ghost use Rattle.coding.specs.Answers.{coding_cause, coding_answer, convolve_out, deconvolve_out};
+
+use limits::Refusal;
 
 // The CRC's divisor after x^16: x^12, x^5 and 1.
 const X12: u16 = 4096;
@@ -38,10 +41,8 @@ pub fn crc16(data: &[u8]) -> u16
     ensures { result ≡ crc_of «data».now }
 {
     let mut c: u16 = 0;
-    let mut i: usize = 0;
-    while i < data.len() {
-        c = crc_byte(c, data[i]);
-        i += 1;
+    for b in data {
+        c = crc_byte(c, *b);
     }
     65535 - c
 }
@@ -51,11 +52,8 @@ pub fn are_bits(bits: &[u8]) -> bool
     ensures { result ≡ are_bits bits.now }
 {
     let mut ok = true;
-    let mut i: usize = 0;
-    while i < bits.len() {
-        let low = bits[i] <= 1;
-        ok = ok & low;
-        i += 1;
+    for b in bits {
+        ok &= *b <= 1;
     }
     ok
 }
@@ -74,39 +72,20 @@ pub fn coded_bit(b: u8, rank: u8, p: u8, q: u8) -> u8
     b
 }
 
-// What `convolve` and `deconvolve` answer.
-#[derive(Clone, Copy)]
-pub enum Coded {
-    // A refusal's number.
-    Refused(u8),
-    // How many bits were written.
-    Done(usize),
-}
-
-// The first cause that applies, 0 where none does.
-fn coding_cause(bits: &[u8], rank: u8, room: usize) -> u8
-    ensures { result ≡ coding_cause bits.now rank room }
+// The first cause that applies.
+fn check(bits: &[u8], rank: u8, room: usize) -> Result<(), Refusal>
+    ensures { cause_of result ≡ coding_cause bits.now rank room }
 {
     if room < bits.len() {
-        return limits::SHORT;
+        return Err(Refusal::Short);
     }
     if limits::MOST_BITS < bits.len() {
-        return limits::LONG;
+        return Err(Refusal::Long);
     }
-    if HIGHEST_RANK < rank {
-        return limits::BAD_NUMBER;
+    if HIGHEST_RANK < rank || !are_bits(bits) {
+        return Err(Refusal::BadNumber);
     }
-    if are_bits(bits) {
-        0
-    } else {
-        limits::BAD_NUMBER
-    }
-}
-
-fn either(first: bool, a: u8, b: u8) -> u8
-    ensures { result ≡ cond first a b }
-{
-    if first { a } else { b }
+    Ok(())
 }
 
 // The bits' product, or with `undo` the inputs of which they are the product, from a state on, into the first places of `out`; the state after them.
@@ -120,14 +99,11 @@ pub fn code_from(bits: &[u8], rank: u8, undo: bool, state: u8, out: &mut [u8]) -
 {
     let mut p = state / 2;
     let mut q = state % 2;
-    let mut i: usize = 0;
-    while i < bits.len() {
-        let b = bits[i];
-        let a = coded_bit(b, rank, p, q);
+    for (i, b) in bits.iter().enumerate() {
+        let a = coded_bit(*b, rank, p, q);
         out[i] = a;
         q = p;
-        p = either(undo, a, b);
-        i += 1;
+        p = whole::pick(undo, a, *b);
     }
     2 * p + q
 }
@@ -142,27 +118,21 @@ pub fn code_into(bits: &[u8], rank: u8, undo: bool, out: &mut [u8])
 }
 
 // The bits as a repetition sends them (frame.rs convolve).
-pub fn convolve(bits: &[u8], rank: u8, out: &mut [u8]) -> Coded
+pub fn convolve(bits: &[u8], rank: u8, out: &mut [u8]) -> Result<usize, Refusal>
     ensures { (said result ≡ coding_answer bits.now rank out.old)
         × (out.new ≡ convolve_out bits.now rank out.old) }
 {
-    let cause = coding_cause(bits, rank, out.len());
-    if cause != 0 {
-        return Coded::Refused(cause);
-    }
+    check(bits, rank, out.len())?;
     code_into(bits, rank, false, out);
-    Coded::Done(bits.len())
+    Ok(bits.len())
 }
 
 // The bits that a repetition sent (frame.rs deconvolve).
-pub fn deconvolve(bits: &[u8], rank: u8, out: &mut [u8]) -> Coded
+pub fn deconvolve(bits: &[u8], rank: u8, out: &mut [u8]) -> Result<usize, Refusal>
     ensures { (said result ≡ coding_answer bits.now rank out.old)
         × (out.new ≡ deconvolve_out bits.now rank out.old) }
 {
-    let cause = coding_cause(bits, rank, out.len());
-    if cause != 0 {
-        return Coded::Refused(cause);
-    }
+    check(bits, rank, out.len())?;
     code_into(bits, rank, true, out);
-    Coded::Done(bits.len())
+    Ok(bits.len())
 }

@@ -1,14 +1,13 @@
 -- The loop over the bursts of a capture, which writes a record for each frame. Assumes nothing.
+use Rattle.std.proofs.Common.{Option, None, Some}
 use mathlib.Core.Path.{◌≡◌, refl, sym, ap, ◌∙◌}
 use mathlib.Core.List.{List, [], ◌∷◌, ◌++◌, append_assoc, append-nil}
-use mathlib.Core.Option.{Option, none, some}
 use Prim.Native.Nat.{ℕ, ◌+◌, ◌*◌, ◌≤◌, ◌<◌}
 use native.Mathlib.Omega.{arith}
 use lib.ListN.{length, take, drop, length-append, length-take, take-append-drop}
 use lib.Seq.{sets, sets-eq, length-sets, take_at, drop_at, drop-drop}
 use lib.Ieee.{Float}
 use Rattle.limits.specs.Limits.{lowest_rate, highest_rate, buffer_s, record_size}
-use Rattle.frame.specs.declared.Outcome.TheVariants.{Refused, Nothing, Frame}
 use Rattle.record.specs.Record.{frame_record}
 use Rattle.record.proofs.RecordLaws.{length-frame}
 use Rattle.bursts.specs.Numbers.{min_ms, most_bursts}
@@ -19,12 +18,10 @@ use Rattle.bursts.proofs.ClusterLaws.{left_end}
 use Rattle.bursts.proofs.SearchLaws.{from_start}
 use Rattle.bursts.proofs.Rows.{Next}
 use Rattle.bursts.proofs.Count.{bursts-few}
-use Rattle.limits.specs.Answer.{accepted}
-use Rattle.demod.specs.Decode.{heard_as, decode_burst, shown}
+use Rattle.demod.specs.Decode.{decode_burst}
 use Rattle.demod.specs.Capture.{reception_of, record_if, record_of, records_of, captured, joined}
 use Rattle.demod.specs.declared.DecodedFrame.{DecodedFrame}
-use Rattle.demod.proofs.DecodedFacts.{Lawful, burst_lawful, shown_as}
-use Rattle.demod.specs.declared.BurstFrame.{BurstFrame}
+use Rattle.demod.proofs.DecodedFacts.{Lawful, burst_lawful}
 
 pub joined-append : (a b : List (List ℕ)) → joined (a ++ b) ≡ joined a ++ joined b
 unfolding joined
@@ -32,10 +29,10 @@ joined-append [] b = refl
 joined-append (r ∷ a) b = ap (λ (l : List ℕ). r ++ l) (joined-append a b) ∙ sym (append_assoc r (joined a) (joined b))
 
 -- a record is 120 bytes
-sized_if : (o : Option DecodedFrame) (start : ℕ) → ((d : DecodedFrame) → o ≡ some d → Lawful d.frame) → length (joined (record_if o start)) ≡ record_size * length (record_if o start)
+sized_if : (o : Option DecodedFrame) (start : ℕ) → ((d : DecodedFrame) → o ≡ Some d → Lawful d.frame) → length (joined (record_if o start)) ≡ record_size * length (record_if o start)
 unfolding joined record_if
-sized_if none start f = refl
-sized_if (some d) start f =
+sized_if None start f = refl
+sized_if (Some d) start f =
     rw (append-nil (frame_record d.frame (reception_of d start))) (length-frame d.frame (reception_of d start) (f d refl).payload-places (f d refl).auth-places)
 
 module _ (dbm : List Float) (rate : ℕ) (t0 : Float) where
@@ -46,29 +43,25 @@ module _ (dbm : List Float) (rate : ℕ) (t0 : Float) where
   -- one at most
   one_if_lem : (o : Option DecodedFrame) (start : ℕ) → length (record_if o start) ≤ 1
   unfolding record_if
-  one_if_lem none start = omega arith
-  one_if_lem (some d) start = omega arith
+  one_if_lem None start = omega arith
+  one_if_lem (Some d) start = omega arith
 
   one : (b : Burst) → length (record_of dbm rate t0 b) ≤ 1
   unfolding record_of
   one b = one_if_lem (decode_burst dbm rate b t0) b.start
 
   -- what a burst adds, by what was decoded
-  module _ (b : Burst) (x : BurstFrame) (e : x ≡ shown (accepted (decode_burst dbm rate b t0))) (n : ℕ) (now : List ℕ) where
+  module _ (b : Burst) (n : ℕ) (now : List ℕ) where
     abbrev pub Adds : ℕ → List ℕ → Type 0
     Adds m next = (m ≡ n + length (record_of dbm rate t0 b)) × (next ≡ sets now (record_size * n) (joined (record_of dbm rate t0 b)))
 
-    pub adds_none : (k : ℕ) → x.outcome ≡ Refused k → Adds n now
-    unfolding record_of record_if joined heard_as
-    adds_none k q = rw (shown_as x (decode_burst dbm rate b t0) e, q) (omega arith, refl)
+    pub adds_none : None ≡ decode_burst dbm rate b t0 → Adds n now
+    unfolding record_of record_if joined
+    adds_none e = rw (← e) (omega arith, refl)
 
-    pub adds-nothing : x.outcome ≡ Nothing → Adds n now
-    unfolding record_of record_if joined heard_as
-    adds-nothing q = rw (shown_as x (decode_burst dbm rate b t0) e, q) (omega arith, refl)
-
-    pub adds_one : (next : List ℕ) → x.outcome ≡ Frame → next ≡ sets now (record_size * n) (frame_record x.decoded.frame (reception_of x.decoded b.start)) → Adds (n + 1) next
-    unfolding record_of record_if joined heard_as
-    adds_one next q w = rw (shown_as x (decode_burst dbm rate b t0) e, q, append-nil (frame_record x.decoded.frame (reception_of x.decoded b.start))) (omega arith, w)
+    pub adds_one : (d : DecodedFrame) (next : List ℕ) → Some d ≡ decode_burst dbm rate b t0 → next ≡ sets now (record_size * n) (frame_record d.frame (reception_of d b.start)) → Adds (n + 1) next
+    unfolding record_of record_if joined
+    adds_one d next e w = rw (← e, append-nil (frame_record d.frame (reception_of d b.start))) (omega arith, w)
 
   module _ (floor : Float) where
     -- the records of the bursts that are left at an index

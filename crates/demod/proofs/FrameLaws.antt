@@ -1,8 +1,8 @@
 -- From the bits of a burst to its frame: they are bits, and the first 1,024 decode as all do. Assumes nothing.
+use Rattle.std.proofs.Common.{Option, None, Some}
 use mathlib.Core.Path.{◌≡◌, refl, sym, ap, ap₂, ◌∙◌, subst}
 use mathlib.Core.Bool.{Bool, true, false, cond, ◌&&◌}
 use mathlib.Core.List.{List, [], ◌∷◌, map}
-use mathlib.Core.Option.{Option, none, some}
 use Prim.Native.Nat.{ℕ, zero, suc, ◌+◌, ◌-◌, ◌≤◌, min, max}
 use lib.IntN.{ℤ}
 use native.Mathlib.Omega.{arith}
@@ -19,29 +19,26 @@ use Rattle.rates.specs.Numbers.{level_quantile}
 use Rattle.rates.specs.Rates.{nominal_of, pad_of}
 use Rattle.coding.specs.Bits.{odd, are_bits}
 use Rattle.frame.specs.Decode.{decode_uplink}
-use Rattle.frame.specs.declared.Outcome.TheVariants as frame
-use Rattle.frame.specs.declared.DecodedUplink.{DecodedUplink}
+use Rattle.frame.specs.declared.UplinkFrame.{UplinkFrame}
 use Rattle.frame.proofs.PrefixLaws.{decode_prefix}
 use Rattle.bursts.specs.Levels.{quantile}
 use Rattle.bursts.specs.declared.Burst.{Burst}
 use Rattle.dips.specs.Dips.{Dip, positions_of, found_in}
 use Rattle.clock.specs.Numbers.{enough_dips, enough_points}
 use Rattle.clock.specs.Clock.{anchor, lost, as_index, Point, BitClock, first_index, last_index, start_clock, track}
-use Rattle.limits.specs.Answer.{accepted}
-use Rattle.clock.specs.Bits.{end_index, larger, indexes, on_grid, bit_at, all_bits, Recovered, Outcome, ended, clocked, from_dips, outcome, handed, Values, values_of, said}
-use Rattle.clock.specs.declared.BurstBits.TheVariants as bits
+use Rattle.clock.specs.Bits.{end_index, larger, indexes, on_grid, bit_at, all_bits, Recovered, Outcome, ended, clocked, from_dips, outcome, handed, values_of}
+use Rattle.clock.specs.declared.BurstBits.{BurstBits}
 use Rattle.clock.proofs.BitLaws.{ppm-fits}
 use Rattle.demod.specs.declared.DecodedFrame.{DecodedFrame}
-use Rattle.demod.specs.Decode.{without, from_of, to_of, segment_of, time_at, depth_byte, with_burst, heard_in, decode_burst, shown}
-use Rattle.demod.specs.declared.BurstFrame.{BurstFrame}
+use Rattle.demod.specs.Decode.{from_of, to_of, segment_of, time_at, depth_byte, with_burst, heard_in, decode_burst}
 
 -- ---- every outcome's bits are bits, and its ppm is an i32
 
 Clean : Outcome → Type 0
-Clean none = T true
-Clean (some b) = (are_bits b.bits ≡ true) × SFits w32 b.ppm
+Clean None = T true
+Clean (Some b) = (are_bits b.bits ≡ true) × SFits w32 b.ppm
 
-clean_if : (t : Bool) (o : Outcome) → Clean o → Clean (cond t none o)
+clean_if : (t : Bool) (o : Outcome) → Clean o → Clean (cond t None o)
 unfolding Clean
 clean_if true o c = tt
 clean_if false o c = c
@@ -66,8 +63,8 @@ clean-ended seg rate level c =
 
 clean-clocked : (seg : List Float) (rate : ℕ) (level : Float) (o : Option BitClock) → Clean (clocked seg rate level o)
 unfolding Clean clocked
-clean-clocked seg rate level none = tt
-clean-clocked seg rate level (some c) = clean_if (ltb (length c.points) enough_points) (ended seg rate level c) (clean-ended seg rate level c)
+clean-clocked seg rate level None = tt
+clean-clocked seg rate level (Some c) = clean_if (ltb (length c.points) enough_points) (ended seg rate level c) (clean-ended seg rate level c)
 
 clean-dips : (seg : List Float) (rate : ℕ) (level : Float) (ds : List Dip) → Clean (from_dips seg rate level ds)
 unfolding from_dips
@@ -91,36 +88,31 @@ map-take zero l = refl
 map-take (suc n) [] = refl
 map-take (suc n) (x ∷ l) = ap (λ (m : List Bool). odd x ∷ m) (map-take n l)
 
--- ---- what an answer says of its outcome
+-- ---- what the values of a burst's bits say of its outcome
 
-pub never-refused : (o : Outcome) (n : ℕ) (t e r : Float) → said (bits.Refused n) ≡ accepted (values_of o) → without frame.Nothing ≡ shown (accepted (heard_in t e r o))
-unfolding said
-never-refused o n t e r q = absurd (let z : ◌≡◌ {A = ℕ} 0 1 = cc in omega arith)
+pub told_nothing : (o : Outcome) (t e r : Float) → None ≡ values_of o → None ≡ heard_in t e r o
+unfolding values_of heard_in
+told_nothing None t e r q = refl
+told_nothing (Some b) t e r q = absurd (let z : ◌≡◌ {A = ℕ} 0 1 = cc in omega arith)
 
-pub told_nothing : (o : Outcome) (t e r : Float) → said bits.Nothing ≡ accepted (values_of o) → without frame.Nothing ≡ shown (accepted (heard_in t e r o))
-unfolding said values_of heard_in shown
-told_nothing none t e r q = refl
-told_nothing (some b) t e r q = absurd (let z : ◌≡◌ {A = ℕ} 0 1 = cc in omega arith)
-
-record Says (o : Outcome) (n : ℕ) (m : ℤ) (h : Float) : Type 0 where
+record Says (o : Outcome) (v : BurstBits) : Type 0 where
   read : Recovered
-  is : o ≡ some read
-  count : n ≡ length read.bits
-  ppm : m ≡ read.ppm
-  depth : h ≡ read.depth
+  is : o ≡ Some read
+  count : v.count ≡ length read.bits
+  ppm : v.clock_error_ppm ≡ read.ppm
+  depth : v.depth ≡ read.depth
 
-says : (o : Outcome) (n k : ℕ) (p l h : Float) (m : ℤ) → said (bits.Bits n p m l k h) ≡ accepted (values_of o) → Says o n m h
-unfolding said values_of
-says none n k p l h m q = absurd (let z : ◌≡◌ {A = ℕ} 0 1 = cc in omega arith)
-says (some b) n k p l h m q =
-    let v : ◌≡◌ {A = Values} (record { count = n; period = p; ppm = m; level = l; points = k; depth = h })
-    (record { count = length b.bits; period = b.period; ppm = b.ppm; level = b.level; points = b.dips; depth = b.depth }) = cc in
-    record { read = b; is = refl; count = ap (λ (x : Values). x.count) v; ppm = ap (λ (x : Values). x.ppm) v; depth = ap (λ (x : Values). x.depth) v }
+says : (o : Outcome) (v : BurstBits) → Some v ≡ values_of o → Says o v
+unfolding values_of
+says None v q = absurd (let z : ◌≡◌ {A = ℕ} 0 1 = cc in omega arith)
+says (Some b) v q =
+    let e : v ≡ record { count = length b.bits; period = b.period; clock_error_ppm = b.ppm; level = b.level; points = b.dips; depth = b.depth } = cc in
+    record { read = b; is = refl; count = ap (λ (x : BurstBits). x.count) e; ppm = ap (λ (x : BurstBits). x.clock_error_ppm) e; depth = ap (λ (x : BurstBits). x.depth) e }
 
-module _ (seg : List Float) (rate n k : ℕ) (p l h : Float) (m : ℤ) (q : said (bits.Bits n p m l k h) ≡ accepted (values_of (outcome seg rate)))
-    (old now : List ℕ) (w : now ≡ handed (outcome seg rate) old) (len : ℕ) (e : len ≡ min n most_bits) where
-  s : Says (outcome seg rate) n m h
-  s = says (outcome seg rate) n k p l h m q
+module _ (seg : List Float) (rate : ℕ) (v : BurstBits) (q : Some v ≡ values_of (outcome seg rate))
+    (old now : List ℕ) (w : now ≡ handed (outcome seg rate) old) (len : ℕ) (e : len ≡ min v.count most_bits) where
+  s : Says (outcome seg rate) v
+  s = says (outcome seg rate) v q
 
   clean : (are_bits s.read.bits ≡ true) × SFits w32 s.read.ppm
   unfolding Clean
@@ -145,21 +137,19 @@ module _ (seg : List Float) (rate n k : ℕ) (p l h : Float) (m : ℤ) (q : said
   same = ap (λ (b : List ℕ). decode_uplink (map odd b)) sent ∙ ap decode_uplink (map-take most_bits s.read.bits) ∙ decode_prefix most_bits (map odd s.read.bits) (lit≤ tt)
 
   -- the frame that was decoded is the burst's
-  pub heard-frame : (t end r : Float) (y : ℕ) (d : DecodedUplink) (x : BurstFrame) → y ≡ depth_byte h → d ≡ decode_uplink (map odd (take len now))
-      → x ≡ shown (accepted (with_burst t end r (to_z w32 (of_z w32 m)) y d))
-      → x ≡ shown (accepted (heard_in t end r (outcome seg rate)))
+  pub heard-frame : (t end r : Float) (y : ℕ) (d : Option UplinkFrame) (x : Option DecodedFrame) → y ≡ depth_byte v.depth → d ≡ decode_uplink (map odd (take len now))
+      → x ≡ with_burst t end r (to_z w32 (of_z w32 v.clock_error_ppm)) y d → x ≡ heard_in t end r (outcome seg rate)
   unfolding heard_in
   heard-frame t end r y d x deep f shows =
+      let m = v.clock_error_ppm in
       let g : to_z w32 (of_z w32 m) ≡ m = to_z-of_z w32 m (subst (λ (z : ℤ). SFits w32 z) (sym s.ppm) clean.1) in
       let i : heard_in t end r (outcome seg rate) ≡ with_burst t end r s.read.ppm (depth_byte s.read.depth) (decode_uplink (map odd s.read.bits)) = rw s.is in
-      let j : with_burst t end r (to_z w32 (of_z w32 m)) y d ≡ heard_in t end r (outcome seg rate) =
-      ap₂ (λ (z : ℤ) (c : ℕ). with_burst t end r z c d) (g ∙ s.ppm) (deep ∙ ap depth_byte s.depth) ∙ ap (with_burst t end r s.read.ppm (depth_byte s.read.depth)) (f ∙ same) ∙ sym i in
-      shows ∙ ap (λ (o : Option DecodedFrame). shown (accepted o)) j
+      shows ∙ ap₂ (λ (z : ℤ) (c : ℕ). with_burst t end r z c d) (g ∙ s.ppm) (deep ∙ ap depth_byte s.depth) ∙ ap (with_burst t end r s.read.ppm (depth_byte s.read.depth)) (f ∙ same) ∙ sym i
 
 -- ---- the segment
 
-pub decode_is : (dbm : List Float) (rate : ℕ) (b : Burst) (t0 : Float) (pad back from end to : ℕ) (t e : Float) (r : BurstFrame) → pad ≡ pad_of rate → back ≡ b.start - pad → from ≡ min back (length dbm)
+pub decode_is : (dbm : List Float) (rate : ℕ) (b : Burst) (t0 : Float) (pad back from end to : ℕ) (t e : Float) (r : Option DecodedFrame) → pad ≡ pad_of rate → back ≡ b.start - pad → from ≡ min back (length dbm)
     → end ≡ min (b.end + pad) (length dbm) → to ≡ max from end → t ≡ time_at t0 rate b.start → e ≡ time_at t0 rate b.end
-    → r ≡ shown (accepted (heard_in t e b.peak_dbm (outcome (take (to - from) (drop from dbm)) rate))) → r ≡ shown (accepted (decode_burst dbm rate b t0))
+    → r ≡ heard_in t e b.peak_dbm (outcome (take (to - from) (drop from dbm)) rate) → r ≡ decode_burst dbm rate b t0
 unfolding decode_burst segment_of to_of from_of
 decode_is dbm rate b t0 pad back from end to t e r pe be fe ee te tm et q = q ∙ rw (te, ee, fe, be, pe, tm, et)

@@ -5,4 +5,3 @@ pub mod BurstAnswers
 pub mod DecodedFacts
 pub mod NumberFacts
 pub mod CaptureLaws
-pub mod CaptureAnswers

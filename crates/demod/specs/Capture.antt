@@ -1,9 +1,8 @@
 -- `decode_capture` of demod.rs: the frames of all bursts, as event records (01's table). Assumes nothing.
-use Rattle.std.specs.Prelude.{ℕ, ◌*◌, Bool, true, cond, not, ◌&&◌, ◌||◌, List, [], ◌∷◌, ◌++◌, ltb, length, drop, Float}
-use Rattle.std.proofs.Math.Option.{Option, none, some}
+use Rattle.std.specs.Prelude.{ℕ, ◌*◌, Bool, true, cond, not, ◌&&◌, ◌||◌, List, [], ◌∷◌, ◌++◌, ltb, length, drop, Float, Option, None, Some}
 use Rattle.limits.specs.Limits.{bad_rate, short, long, bad_sample, bad_number, buffer_s, scratch64, events_size, record_size}
 use Rattle.limits.specs.Samples.{rate_ok, is_dbm, all_dbm, time_ok}
-use Rattle.limits.specs.Answer.{Answer, refused, accepted, answer}
+use Rattle.limits.specs.Answer.{Answer, answer}
 use Rattle.record.specs.Record.{frame_record}
 use Rattle.record.specs.declared.Reception.{Reception}
 use Rattle.bursts.specs.Levels.{noise_floor}
@@ -11,15 +10,11 @@ use Rattle.bursts.specs.Bursts.{default_options, bursts_of}
 use Rattle.bursts.specs.declared.Burst.{Burst}
 use Rattle.demod.specs.Decode.{decode_burst}
 use Rattle.demod.specs.declared.DecodedFrame.{DecodedFrame}
-use Rattle.demod.specs.declared.Floor.{Floor}
-use Rattle.demod.specs.declared.Floor.TheVariants.{Measured, Given}
-use Rattle.demod.specs.declared.Captured.{Captured}
-use Rattle.demod.specs.declared.Captured.TheVariants.{Refused, Count}
 
 -- floor.unwrap_or_else(|| noise_floor(dbm))
-abbrev pub floor_of : Floor → List Float → Float
-floor_of Measured dbm = noise_floor dbm
-floor_of (Given x) dbm = x
+abbrev pub floor_of : Option Float → List Float → Float
+floor_of None dbm = noise_floor dbm
+floor_of (Some x) dbm = x
 
 -- what the record has besides the frame; its start is the burst's index
 abbrev pub reception_of : DecodedFrame → ℕ → Reception
@@ -27,8 +22,8 @@ reception_of d start = record { clock_error_ppm = d.clock_error_ppm; rssi = d.rs
 
 -- the record of a burst that has a frame
 unfoldable pub record_if : Option DecodedFrame → ℕ → List (List ℕ)
-record_if none start = []
-record_if (some d) start = frame_record d.frame (reception_of d start) ∷ []
+record_if None start = []
+record_if (Some d) start = frame_record d.frame (reception_of d start) ∷ []
 
 unfoldable pub record_of : List Float → ℕ → Float → Burst → List (List ℕ)
 unfolding record_if
@@ -49,17 +44,12 @@ joined [] = []
 joined (r ∷ rs) = r ++ joined rs
 
 -- 01, cause 9 does not apply
-abbrev pub floor_ok : Floor → Bool
-floor_ok Measured = true
-floor_ok (Given x) = is_dbm x
-
--- 01's number and values of each answer of `decode_capture`: how many records
-unfoldable pub said : Captured → Answer ℕ
-said (Refused n) = refused n
-said (Count n) = accepted n
+abbrev pub floor_ok : Option Float → Bool
+floor_ok None = true
+floor_ok (Some x) = is_dbm x
 
 -- the first cause that applies, 0 where none does
-unfoldable pub capture_cause : List Float → ℕ → Float → Floor → ℕ → ℕ → ℕ → ℕ
+unfoldable pub capture_cause : List Float → ℕ → Float → Option Float → ℕ → ℕ → ℕ → ℕ
 capture_cause dbm rate t0 floor events s32 s64 =
     cond (not (rate_ok rate)) bad_rate
     (cond (ltb events events_size || (ltb s32 (buffer_s * rate) || ltb s64 scratch64)) short
@@ -68,7 +58,8 @@ capture_cause dbm rate t0 floor events s32 s64 =
     (cond (not (time_ok t0 && floor_ok floor)) bad_number
     0))))
 
-abbrev pub capture_answer : List Float → ℕ → Float → Floor → ℕ → ℕ → ℕ → Answer ℕ
+-- the answer of `decode_capture`: how many records
+abbrev pub capture_answer : List Float → ℕ → Float → Option Float → ℕ → ℕ → ℕ → Answer ℕ
 capture_answer dbm rate t0 floor events s32 s64 =
     answer (capture_cause dbm rate t0 floor events s32 s64) (length (captured dbm rate t0 (floor_of floor dbm)))
 

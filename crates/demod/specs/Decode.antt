@@ -1,34 +1,23 @@
 -- `decode_burst` of demod.rs: the burst with its margins, clamped to the samples, its bits, and the frame in them. Assumes nothing.
-use Rattle.std.specs.Prelude.{ℕ, ◌+◌, ◌-◌, ◌*◌, min, max, Bool, cond, not, ◌&&◌, ◌||◌, List, map, ℤ, pos, leb, ltb, length, take, drop, Float}
-use Rattle.std.proofs.Math.Option.{Option, none, some}
+use Rattle.std.specs.Prelude.{ℕ, ◌+◌, ◌-◌, ◌*◌, min, max, Bool, cond, not, ◌&&◌, ◌||◌, List, map, ℤ, leb, ltb, length, take, drop, Float, Option, None, Some}
 use Rattle.std.specs.Float.{binary64}
 use Rattle.std.specs.Float.Ieee.{add, mul, div, is_nan, to_unsigned}
 use Rattle.floats.specs.Floor.{floor}
 use Rattle.floats.specs.Number.{num}
 use Rattle.limits.specs.Limits.{bad_rate, short, long, bad_sample, bad_number, buffer_s, scratch64, longest_stream}
 use Rattle.limits.specs.Samples.{rate_ok, is_dbm, time_ok, all_dbm}
-use Rattle.limits.specs.Answer.{Answer, refused, accepted, answer}
+use Rattle.limits.specs.Answer.{Answer, answer}
 use Rattle.rates.specs.Rates.{pad_of}
 use Rattle.coding.specs.Bits.{odd}
-use Rattle.frame.specs.Decode.{blank_frame, decode_uplink}
-use Rattle.frame.specs.declared.Outcome.{Outcome}
-use Rattle.frame.specs.declared.Outcome.TheVariants.{Refused, Nothing, Frame}
-use Rattle.frame.specs.declared.DecodedUplink.{DecodedUplink}
+use Rattle.frame.specs.Decode.{decode_uplink}
+use Rattle.frame.specs.declared.UplinkFrame.{UplinkFrame}
 use Rattle.bursts.specs.declared.Burst.{Burst}
 use Rattle.clock.specs.Bits as bits
 use Rattle.demod.specs.declared.DecodedFrame.{DecodedFrame}
-use Rattle.demod.specs.declared.BurstFrame.{BurstFrame}
 
 -- 0.02 s in samples, at the highest rate
 abbrev pub widest_pad : ℕ
 widest_pad = 80
-
--- the fields of an answer that has no frame, and such answers
-abbrev pub blank_decoded : DecodedFrame
-blank_decoded = record { frame = blank_frame; time = num 0; end = num 0; rssi = num 0; clock_error_ppm = pos 0; depth = 0 }
-
-abbrev pub without : Outcome → BurstFrame
-without o = record { outcome = o; decoded = blank_decoded }
 
 -- clamped like a TypeScript subarray: a burst outside the samples gives an empty segment, which has no bits
 unfoldable pub from_of : List Float → ℕ → Burst → ℕ
@@ -54,22 +43,15 @@ most_depth = 255
 unfoldable pub depth_byte : Float → ℕ
 depth_byte depth = min most_depth (to_unsigned 64 (floor (mul binary64 depth (num 2))))
 
--- what was decoded, where a frame was: the Rust's Option<DecodedFrame>
-unfoldable pub heard_as : Outcome → DecodedFrame → Option DecodedFrame
-heard_as (Refused n) d = none
-heard_as Nothing d = none
-heard_as Frame d = some d
-
 -- a frame with the burst's times, its level, the clock's error and the dips' depth in half decibels
-unfoldable pub with_burst : Float → Float → Float → ℤ → ℕ → DecodedUplink → Option DecodedFrame
-unfolding heard_as
-with_burst time end rssi ppm depth d =
-    heard_as d.outcome (record { frame = d.frame; time = time; end = end; rssi = rssi; clock_error_ppm = ppm; depth = depth })
+unfoldable pub with_burst : Float → Float → Float → ℤ → ℕ → Option UplinkFrame → Option DecodedFrame
+with_burst time end rssi ppm depth None = None
+with_burst time end rssi ppm depth (Some f) = Some (record { frame = f; time = time; end = end; rssi = rssi; clock_error_ppm = ppm; depth = depth })
 
 unfoldable pub heard_in : Float → Float → Float → bits.Outcome → Option DecodedFrame
 unfolding depth_byte with_burst
-heard_in time end rssi none = none
-heard_in time end rssi (some b) = with_burst time end rssi b.ppm (depth_byte b.depth) (decode_uplink (map odd b.bits))
+heard_in time end rssi None = None
+heard_in time end rssi (Some b) = with_burst time end rssi b.ppm (depth_byte b.depth) (decode_uplink (map odd b.bits))
 
 unfoldable pub decode_burst : List Float → ℕ → Burst → Float → Option DecodedFrame
 unfolding segment_of heard_in
@@ -79,13 +61,6 @@ decode_burst dbm rate b t0 =
 -- 01, cause 9 does not apply to a burst and a time that are handed in: indexes to 2^40, floor -200 to 100, no NaN
 unfoldable pub burst_ok : Burst → Float → Bool
 burst_ok b t0 = leb b.start longest_stream && (leb b.end longest_stream && (time_ok t0 && (is_dbm b.floor_dbm && not (is_nan b.peak_dbm))))
-
--- 01's number and values of each answer of `decode_burst`; no frame is an ordinary answer. The answer is a struct, all 0 besides the outcome where there is no
--- frame, so the definition goes from number and values to the struct: no two of them have the same
-unfoldable pub shown : Answer (Option DecodedFrame) → BurstFrame
-shown (refused n) = without (Refused n)
-shown (accepted none) = without Nothing
-shown (accepted (some d)) = record { outcome = Frame; decoded = d }
 
 -- the first cause that applies to `decode_burst`, 0 where none does
 unfoldable pub decode_cause : List Float → ℕ → Burst → Float → ℕ → ℕ → ℕ
@@ -98,5 +73,6 @@ decode_cause dbm rate b t0 s32 s64 =
     (cond (not (burst_ok b t0)) bad_number
     0))))
 
+-- the answer of `decode_burst`; no frame is an ordinary one
 abbrev pub decode_answer : List Float → ℕ → Burst → Float → ℕ → ℕ → Answer (Option DecodedFrame)
 decode_answer dbm rate b t0 s32 s64 = answer (decode_cause dbm rate b t0 s32 s64) (decode_burst dbm rate b t0)

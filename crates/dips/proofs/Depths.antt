@@ -1,5 +1,5 @@
 -- A dip's depth is a number, and a segment's depths computed. Assumes nothing.
-use Rattle.std.proofs.Common.{◌≡◌, ℕ, zero, suc, ◌+◌, ◌-◌, ◌*◌, ◌^◌, ◌<◌, ◌≤◌, min, Bool, true, false, cond, not, ◌&&◌, T, ltb, List, [], ◌∷◌, map, length, get_or, take, sym, refl, ap, ◌∙◌, subst, true≢false, arith}
+use Rattle.std.proofs.Common.{◌≡◌, ℕ, zero, suc, ◌+◌, ◌-◌, ◌*◌, ◌^◌, ◌<◌, ◌≤◌, min, Bool, true, false, cond, not, ◌&&◌, T, ltb, List, [], ◌∷◌, map, length, get_or, take, sym, refl, subst, true≢false, arith}
 use mathlib.Core.Bool.{beq}
 use mathlib.Core.List.{map-map}
 use lib.Seq.{slice}

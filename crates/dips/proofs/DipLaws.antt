@@ -1,9 +1,8 @@
 -- Laws of the dips, on plain lists: the loops over the windows, the room that a dip takes, and the loop that writes them. Assumes nothing.
-use Rattle.std.proofs.Common.{◌≡◌, ℕ, zero, suc, ◌+◌, ◌-◌, ◌*◌, ◌/◌, ◌<◌, ◌≤◌, min, Bool, true, false, cond, not, ◌&&◌, ◌||◌, ltb, ◌⊎◌, List, [], ◌∷◌, ◌++◌, map, length, get_or, take, drop, set, sym, refl, ap, ◌∙◌, inl, inr, ⊎_elim, true≢false, append_assoc, append-nil, suc-mul, add-mul, lt_of_mul-lt-mul_right, add-one, arith, length-drop, length-set, take-append-drop, length-take, length-take-le, get_or-drop, get_or-take, drop-drop, take-suc-set, drop-set-lt, ltb-false, ltb-true, lt-ltb}
+use Rattle.std.proofs.Common.{Option, None, Some, ◌≡◌, ℕ, zero, suc, ◌+◌, ◌-◌, ◌*◌, ◌/◌, ◌<◌, ◌≤◌, min, Bool, true, false, cond, not, ◌&&◌, ◌||◌, ltb, ◌⊎◌, List, [], ◌∷◌, ◌++◌, map, length, get_or, take, drop, set, sym, refl, ap, ◌∙◌, inl, inr, ⊎_elim, true≢false, append_assoc, append-nil, suc-mul, add-mul, lt_of_mul-lt-mul_right, add-one, arith, length-drop, length-set, take-append-drop, length-take, length-take-le, get_or-drop, get_or-take, drop-drop, take-suc-set, drop-set-lt, ltb-false, ltb-true, lt-ltb}
 use mathlib.Core.List.{map-map}
 use lib.Seq.{slice, slice-cons, slice_empty, length-slice, take-set-lt, take-set-le, drop-set-add}
 use lib.Ieee.{Float, nan, lt, le, eq}
-use Rattle.floats.specs.Fold.{max_of, max_from}
 use Rattle.limits.specs.Limits.{lowest_rate, highest_rate, buffer_s}
 use Rattle.limits.specs.Samples.{all_dbm}
 use Rattle.rates.specs.Rates.{win_of, half_of}
@@ -11,8 +10,6 @@ use Rattle.rates.proofs.Rates.{half_is}
 use Rattle.dips.specs.Numbers.{most_dips, depths_at}
 use Rattle.dips.specs.Dips.{sides, against, lowest_of, neighbours, is_dip, centre, depth_of, indices_from, dip_indices, Dip, dip_at, found_in, positions_of, depths_of, dips_of, Written, Stored}
 use Rattle.dips.specs.Tested.{tested}
-use Rattle.dips.specs.declared.Tested.{Tested}
-use Rattle.dips.specs.declared.Tested.TheVariants.{Other, Deep}
 use Rattle.limits.proofs.Samples.{and_left, numbers}
 use Rattle.dips.proofs.Compares.{compared}
 
@@ -23,16 +20,7 @@ lt_or_ge a b = go (ltb a b) (ltb-true a b) (ltb-false a b)
     go true f g = inl (f refl)
     go false f g = inr (g refl)
 
--- ---- one turn of each window loop
-
-pub side-turn : (m r : Float) (l : List Float) (i to : ℕ) (w : Float) → i < to → to ≤ length l → r ≡ max_of m (get_or l i nan)
-    → max_from m (slice i to l) ≡ w → max_from r (slice (i + 1) to l) ≡ w
-unfolding max_from
-side-turn m r l i to w h k e p = rw (e, add-one i) (rw (slice-cons i to l nan h k) at p)
-
-pub side_end : (m : Float) (l : List Float) (i to : ℕ) (w : Float) → i ≡ to → max_from m (slice i to l) ≡ w → m ≡ w
-unfolding max_from
-side_end m l i to w e p = rw (e, slice_empty to l) at p
+-- ---- one turn of the window loop
 
 module _ (v : Float) (i : ℕ) (l : List Float) (k to : ℕ) (w : Bool) (p : lowest_of v i k (slice k to l) ≡ w) where
   pub lowest-stop : k < to → to ≤ length l → against v i k (get_or l k nan) ≡ true → false ≡ w
@@ -115,29 +103,29 @@ module _ (half : ℕ) (seg : List Float) (i : ℕ) (h : 0 < half) (a : 0 < i) (b
 
 -- the two tests, one after the other
 module _ (level : Float) (win half : ℕ) (seg : List Float) (i : ℕ) where
-  pub by_sides : (r : Tested) (d : Float) → neighbours half seg i ≡ true → r ≡ tested (sides level win seg i) d → r ≡ tested (is_dip level win half seg i) d
+  pub by_sides : (r : Option Float) (d : Float) → neighbours half seg i ≡ true → r ≡ tested (sides level win seg i) d → r ≡ tested (is_dip level win half seg i) d
   unfolding is_dip
   by_sides r d n e = rw n e
 
-  pub by_neighbours : (d : Float) → neighbours half seg i ≡ false → Other ≡ tested (is_dip level win half seg i) d
+  pub by_neighbours : (d : Float) → neighbours half seg i ≡ false → None ≡ tested (is_dip level win half seg i) d
   unfolding is_dip tested
   by_neighbours d n = rw n
 
-pub as_other : (t s : Bool) (d : Float) → t ≡ true → not t ≡ s → Other ≡ tested s d
+pub as_other : (t s : Bool) (d : Float) → t ≡ true → not t ≡ s → None ≡ tested s d
 unfolding tested
 as_other t s d e f = rw (← f, e)
 
-pub as_deep : (t s : Bool) (d x : Float) → t ≡ false → not t ≡ s → x ≡ d → Deep x ≡ tested s d
+pub as_deep : (t s : Bool) (d x : Float) → t ≡ false → not t ≡ s → x ≡ d → Some x ≡ tested s d
 unfolding tested
 as_deep t s d x e f q = rw (← f, e, q)
 
 -- what an answer says of the test
-pub tested-deep : (t : Bool) (d x : Float) → Deep x ≡ tested t d → (t ≡ true) × (x ≡ d)
+pub tested-deep : (t : Bool) (d x : Float) → Some x ≡ tested t d → (t ≡ true) × (x ≡ d)
 unfolding tested
 tested-deep true d x e = (refl, cc)
 tested-deep false d x e = absurd (let z : ◌≡◌ {A = ℕ} 0 1 = cc in omega arith)
 
-pub tested_other : (t : Bool) (d : Float) → Other ≡ tested t d → t ≡ false
+pub tested_other : (t : Bool) (d : Float) → None ≡ tested t d → t ≡ false
 unfolding tested
 tested_other true d e = absurd (let z : ◌≡◌ {A = ℕ} 0 1 = cc in omega arith)
 tested_other false d e = refl

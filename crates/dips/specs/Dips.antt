@@ -7,11 +7,9 @@ use Rattle.floats.specs.Fold.{max_of, max_from}
 use Rattle.floats.specs.Number.{num, near}
 use Rattle.limits.specs.Limits.{bad_rate, short, long, bad_sample, bad_number, buffer_s, scratch64}
 use Rattle.limits.specs.Samples.{rate_ok, all_dbm}
-use Rattle.limits.specs.Answer.{Answer, refused, accepted, answer, leaves}
+use Rattle.limits.specs.Answer.{Answer, answer, leaves}
 use Rattle.rates.specs.Rates.{win_of, half_of}
 use Rattle.dips.specs.Numbers.{dip_db, dim_db, lowest_side, depths_at}
-use Rattle.dips.specs.declared.DipCount.{DipCount}
-use Rattle.dips.specs.declared.DipCount.TheVariants.{Refused, Count}
 
 -- a.min(b), of numbers
 abbrev pub min_of : Float → Float → Float
@@ -109,11 +107,6 @@ pub record Stored (found : List Dip) (old : List Float) (n : ℕ) (now : List Fl
   pub positions : Written (positions_of found) (take depths_at old) n (take depths_at now)
   pub depths : Written (depths_of found) (drop depths_at old) n (drop depths_at now)
 
--- 01's number and values of each answer: how many dips
-unfoldable pub said : DipCount → Answer ℕ
-said (Refused n) = refused n
-said (Count n) = accepted n
-
 -- the first cause that applies to `find_dips`, 0 where none does
 unfoldable pub dip_cause : List Float → ℕ → Float → ℕ → ℕ
 dip_cause seg rate level room =
@@ -124,6 +117,7 @@ dip_cause seg rate level room =
     (cond (is_nan level) bad_number
     0))))
 
+-- the answer of `find_dips`: how many dips
 unfoldable pub dip_answer : List Float → ℕ → Float → ℕ → Answer ℕ
 unfolding found_in dip_cause
 dip_answer seg rate level room = answer (dip_cause seg rate level room) (length (found_in seg rate level))

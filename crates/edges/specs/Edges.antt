@@ -1,5 +1,5 @@
 -- 01's edges, P1 to P10, in one table over the definitions of frame.rs, demod.rs, frequency.rs and the numbers. Assumes nothing.
-use Rattle.std.specs.Prelude.{◌≡◌, true, false, List, [], ◌∷◌, ◌++◌, ℕ, zero, suc, ◌+◌, take, replicate, pos, negsuc, Float}
+use Rattle.std.specs.Prelude.{◌≡◌, true, false, List, [], ◌∷◌, ◌++◌, ℕ, zero, suc, ◌+◌, take, replicate, pos, negsuc, Float, None, Some}
 use Rattle.std.specs.Float.Ieee.{neg}
 use Rattle.floats.specs.Number.{num, near}
 use Rattle.floats.specs.Floor.{round_half_up}
@@ -7,7 +7,6 @@ use Rattle.coding.specs.Crc.{crc_of}
 use Rattle.coding.specs.Convolution.{fresh, deconvolved}
 use Rattle.frame.specs.Sizes.{auth_size}
 use Rattle.frame.specs.Header.{class_of, li_of, header_bytes}
-use Rattle.frame.specs.declared.SingleBit.TheVariants.{Absent}
 use Rattle.frame.specs.declared.header.UplinkFields.{UplinkFields}
 use Rattle.bursts.specs.Levels.{noise_floor}
 use Rattle.rates.specs.Numbers.{gap_ms}
@@ -20,7 +19,6 @@ use Rattle.cfo.specs.Cfo.{signed, step_hz}
 use Rattle.frequency_lists.specs.Lists.{Reading}
 use Rattle.frequency_measure.specs.Measured.{frame1}
 use Rattle.record.specs.declared.FrameSpan.{FrameSpan}
-use Rattle.frequency_measure.specs.declared.Frequency.TheVariants as frequency
 
 -- ---- P5 and P6: what is heard over a floor of -100 dBm
 
@@ -49,7 +47,7 @@ low n = replicate n (neg (num 100))
 -- ---- P9
 
 abbrev pub two_bytes : ℕ → UplinkFields
-two_bytes device = record { device_id = device; counter = 0x123; bit = Absent; downlink = false }
+two_bytes device = record { device_id = device; counter = 0x123; bit = None; downlink = false }
 
 -- ---- P10: frames 1, 2 and 3 on air at 1 s, 5 s and 9 s for 1 s each, with five readings in each of them
 
@@ -86,8 +84,8 @@ pub record Edges : Type 0 where
   -- 2.5 rounds to 3, −2.5 to −2
   pub p8 : (round_half_up (near 5 2) ≡ num 3) × (round_half_up (neg (near 5 2)) ≡ neg (num 2))
   -- two bytes, no downlink, counter 123 hex: header starts 81 23 (hex), auth 4
-  pub p9 : (device a b : ℕ) → (take 2 (header_bytes (two_bytes device) (a ∷ b ∷ [])) ≡ 0x81 ∷ 0x23 ∷ []) × (auth_size (class_of Absent 2) (li_of Absent 2) ≡ 4)
+  pub p9 : (device a b : ℕ) → (take 2 (header_bytes (two_bytes device) (a ∷ b ∷ [])) ≡ 0x81 ∷ 0x23 ∷ []) × (auth_size (class_of None 2) (li_of None 2) ≡ 4)
   -- downlink, frames 2 and 3 at ±6,000 Hz give their middle; spacing 9,000 Hz falls back to frame 1; so does a message without downlink
-  pub p10 : (frame1 1000 (measured 868130100 868136000 868124000) on_air true ≡ frequency.Hz 868130000)
-      × (frame1 1000 (measured 868130100 868134500 868125500) on_air true ≡ frequency.Hz 868130100)
-      × (frame1 1000 (measured 868130100 868136000 868124000) on_air false ≡ frequency.Hz 868130100)
+  pub p10 : (frame1 1000 (measured 868130100 868136000 868124000) on_air true ≡ Some 868130000)
+      × (frame1 1000 (measured 868130100 868134500 868125500) on_air true ≡ Some 868130100)
+      × (frame1 1000 (measured 868130100 868136000 868124000) on_air false ≡ Some 868130100)

@@ -1,13 +1,15 @@
 -- Laws of a list of event records: the record at each place, the tests of a list that goes on, and of one in another order. Assumes nothing.
 use mathlib.Core.Path.{◌≡◌, refl, sym, ap, ◌∙◌}
-use mathlib.Core.Bool.{Bool, true, false, ◌&&◌}
+use mathlib.Core.Bool.{Bool, true, false, cond, ◌&&◌}
 use mathlib.Core.List.{List, [], ◌∷◌, ◌++◌, Permᴰ}
 use Prim.Native.Nat.{ℕ, zero, suc, ◌+◌, ◌-◌, ◌*◌, ◌%◌, ◌^◌, ◌≤◌, ◌<◌}
 use native.Mathlib.Omega.{arith}
 use native.Mathlib.Numerals.{add-one}
 use lib.ListN.{length, get_or, take, drop, length-append, length-drop}
-use lib.Seq.{drop-cons, drop-drop, drop-length, take-append-le, drop-append-le}
+use lib.Seq.{drop-cons, drop-drop, drop-length, take-append-le, drop-append-le, take-append_seam, drop-append_seam}
 use Rattle.limits.specs.Limits.{record_size, most_record_bytes}
+use Rattle.std.specs.Prelude.{Result, Ok, Err}
+use Rattle.limits.specs.declared.Refusal.{Refusal}
 use Rattle.limits.proofs.Samples.{and_assoc, and_true}
 use Rattle.event_list.specs.Events.{records_of, wholes, events_of, record_ok, all_ok, list_ok, Reordered}
 
@@ -109,3 +111,62 @@ ok_perm (Permᴰ.trans p q) = ok_perm p ∙ ok_perm q
 
 pub ok_reordered : {l k : List ℕ} → Reordered l k → list_ok l ≡ list_ok k
 ok_reordered r = cc (r.size, ok_perm r.records)
+
+-- ---- a list that is read record by record: l is left of it, then k
+
+-- a record comes
+module _ (l r k : List ℕ) (s : l ≡ r ++ k) (n : length r ≡ record_size) where
+  pub event_next : events_of l ≡ r ∷ events_of k
+  unfolding records_of
+  event_next =
+      ap (λ (i : ℕ). records_of i l) more
+      ∙ cc (
+        ap (take record_size) s ∙ ap (λ (i : ℕ). take i (r ++ k)) (sym n) ∙ take-append_seam r k,
+        ap (λ (x : List ℕ). records_of (wholes k) x) (ap (drop record_size) s ∙ ap (λ (i : ℕ). drop i (r ++ k)) (sym n) ∙ drop-append_seam r k),
+      )
+    where
+      more : wholes l ≡ suc (wholes k)
+      more = omega (arith, n, ap length s, length-append r k)
+
+  -- by its number
+  pub event_at : (es : List (List ℕ)) (i : ℕ) → events_of l ≡ drop i es → (i < length es) × (r ≡ get_or es i []) × (events_of k ≡ drop (i + 1) es)
+  event_at es i e =
+      let f : r ∷ events_of k ≡ drop i es = sym event_next ∙ e in
+      let h : i < length es = omega (arith, ap length f, length-drop i es) in
+      let g : r ∷ events_of k ≡ get_or es i [] ∷ drop (suc i) es = f ∙ drop-cons es i [] h in
+      (h, cc, rw (add-one i) cc)
+
+  -- its test
+  pub ok_next : (ok right w : Bool) → right ≡ record_ok r → ok && all_ok (events_of l) ≡ w → (ok && right) && all_ok (events_of k) ≡ w
+  unfolding all_ok
+  ok_next ok right w e p =
+      ap (λ (t : Bool). (ok && t) && all_ok (events_of k)) e
+      ∙ and_assoc ok (record_ok r) (all_ok (events_of k))
+      ∙ ap (λ (es : List (List ℕ)). ok && all_ok es) (sym event_next)
+      ∙ p
+
+-- none is left
+pub event_end : (l : List ℕ) → length l < record_size → events_of l ≡ []
+unfolding records_of
+event_end l h = ap (λ (i : ℕ). records_of i l) (none l h)
+  where
+    none : (l : List ℕ) → length l < record_size → wholes l ≡ 0
+    none l h = omega arith
+
+pub none_left : (l : List ℕ) → length l < record_size → (es : List (List ℕ)) (i : ℕ) → i ≤ length es → events_of l ≡ drop i es → i ≡ length es
+none_left l h es i n e = omega (arith, ap length (sym (event_end l h) ∙ e), length-drop i es)
+
+pub ok_last : (l : List ℕ) → length l < record_size → (ok w : Bool) → ok && all_ok (events_of l) ≡ w → ok ≡ w
+unfolding all_ok
+ok_last l h ok w p = sym (and_true ok) ∙ ap (λ (es : List (List ℕ)). ok && all_ok es) (sym (event_end l h)) ∙ p
+
+-- ---- what is read of a list that may be refused: v, or the refusal
+
+module _ {A : Type 0} (v : A) (refusal : Refusal) where
+  pub when_ok : (ok : Bool) (t : A) → Ok t ≡ cond ok (Ok v) (Err refusal) → (ok ≡ true) × (t ≡ v)
+  when_ok true t e = (refl, cc)
+  when_ok false t e = absurd cc
+
+  pub when_bad : (ok : Bool) (x : Refusal) → Err x ≡ cond ok (Ok v) (Err refusal) → (ok ≡ false) × (x ≡ refusal)
+  when_bad true x e = absurd cc
+  when_bad false x e = (refl, cc)

@@ -2,7 +2,7 @@
 ghost use Rattle.std.specs.Prelude.{◌≤◌, length};
 ghost use Rattle.replay.specs.Front.{Front};
 
-use shifts::{Shifts, StreamStart, Window};
+use shifts::{Shifts, Window};
 use std::rt::Env;
 
 // The most arguments, the program's name among them.
@@ -147,11 +147,11 @@ pub fn are_shifts(rt: &impl Env) -> bool {
     is_number(word_at(rt, 1))
 }
 
-fn start_of(w: Word) -> StreamStart {
+fn start_of(w: Word) -> Option<u32> {
     let Word::Number(n) = w else {
-        return StreamStart::Unknown;
+        return None;
     };
-    StreamStart::Given(n)
+    Some(n)
 }
 
 // One window more, where the word is one; past the last place it is counted alone, and the call refuses.

@@ -6,7 +6,7 @@ ghost use Rattle.std.specs.Prelude.{◌<◌, ◌≤◌, length};
 
 mod arguments; // shifts
 
-use reading::Fetched;
+use limits::Refusal;
 use receiver::SigfoxReceiver;
 use shifts::Shifts;
 
@@ -48,7 +48,8 @@ fn fresh() -> Stream
 }
 
 // A line on standard error: the number of a refused call.
-fn print_refusal(rt: &impl Eprint, n: u8) {
+fn print_refusal(rt: &impl Eprint, refusal: Refusal) {
+    let n = u8::from(refusal);
     let _ = eprintln!(rt; "events: refused with {n}");
 }
 
@@ -61,11 +62,14 @@ fn print_usage(rt: &impl Eprint) {
 }
 
 // A call's records; false after a refusal, and where standard output takes no more.
-fn write_events(rt: &(impl Print + Eprint), refused: u8, count: usize, events: &[u8]) -> bool {
-    if refused != 0 {
-        print_refusal(rt, refused);
-        return false;
-    }
+fn write_events(rt: &(impl Print + Eprint), answer: Result<usize, Refusal>, events: &[u8]) -> bool {
+    let count = match answer {
+        Ok(count) => count,
+        Err(refusal) => {
+            print_refusal(rt, refusal);
+            return false;
+        }
+    };
     if MOST_EVENTS < count {
         return false;
     }
@@ -109,9 +113,7 @@ fn hear(
             scratch32,
             scratch64,
         );
-        let next = r.receiver;
-        receiver = next;
-        going = write_events(rt, r.refused, r.count, events);
+        going = write_events(rt, r, events);
     }
     let mut m = s;
     m.receiver = receiver;
@@ -147,8 +149,8 @@ fn turn(
     ensures { result.filled < 4096 }
 {
     let from = s.filled;
-    let fetched = reading::fetch(rt, input, from);
-    let Fetched::Bytes(n) = fetched else {
+    let fetched = reading::fetch(&mut rt.reader(), input, from);
+    let Ok(n) = fetched else {
         return fail(rt, s);
     };
     let end = from + n;
@@ -180,9 +182,9 @@ fn finish(
     scratch64: &mut [f64; limits::SCRATCH64],
 ) {
     if s.going {
-        let receiver = s.receiver;
+        let mut receiver = s.receiver;
         let r = receiver.flush(shifts, closed, samples, events, scratch32, scratch64);
-        write_events(rt, r.refused, r.count, events);
+        write_events(rt, r, events);
         print_leftover(rt, s.filled % RECORD);
     }
 }

@@ -15,19 +15,7 @@ pub enum Form {
 const MOST_DIGITS: usize = 6;
 
 fn is_text(text: &[u8], word: &[u8]) -> bool {
-    if text.len() != word.len() {
-        return false;
-    }
-    let mut i: usize = 0;
-    while i < text.len() {
-        if i < word.len() {
-            if text[i] != word[i] {
-                return false;
-            }
-        }
-        i += 1;
-    }
-    true
+    text == word
 }
 
 // A decimal digit's value, 10 for another character.
@@ -49,14 +37,12 @@ fn number_of(text: &[u8]) -> u32 {
         return 0;
     }
     let mut n: u32 = 0;
-    let mut i: usize = 0;
-    while i < text.len() {
-        let d = digit_of(text[i]);
+    for c in text {
+        let d = digit_of(*c);
         if 9 < d {
             return 0;
         }
         n = (n % 1_000_000) * 10 + d;
-        i += 1;
     }
     n
 }

@@ -8,8 +8,10 @@ use crate::tally::{Ending, Near, Tally};
 use crate::words::{print_db, print_dbm, print_parts};
 use bursts::Burst;
 use clock::BurstBits;
-use demod::BurstFrame;
-use explaining::{Segment, TypeFound};
+use demod::DecodedFrame;
+use explaining::TypeFound;
+use frame::UplinkFrame;
+use limits::Refusal;
 use receiver_waiting::Waiting;
 
 // What is known of a scan: rate, absolute sample of the first one held, how long ago a burst must have ended, the messages that waited before it and the time then.
@@ -109,77 +111,55 @@ pub fn explain_left(rt: &impl Print, t: Tally, scan: Scan, b: Burst, how: Ending
     u
 }
 
-fn is_type(found: TypeFound) -> bool {
-    match found {
-        TypeFound::Nowhere => false,
-        TypeFound::At(_, _) => true,
-    }
-}
-
-fn is_frame(o: frame::Outcome) -> bool {
-    match o {
-        frame::Outcome::Refused(_) => false,
-        frame::Outcome::Nothing => false,
-        frame::Outcome::Frame => true,
-    }
-}
-
-fn are_bits_found(bits: BurstBits) -> bool {
-    match bits {
-        BurstBits::Refused(_) => false,
-        BurstBits::Nothing => false,
-        BurstBits::Bits(_, _, _, _, _, _) => true,
-    }
-}
-
 // How many bits there are; the first 1,024 are handed over.
-fn bits_handed(bits: BurstBits) -> usize {
+fn bits_handed(bits: Option<BurstBits>) -> usize {
     match bits {
-        BurstBits::Refused(_) => 0,
-        BurstBits::Nothing => 0,
-        BurstBits::Bits(count, _, _, _, _, _) => count,
+        None => 0,
+        Some(b) => b.count,
     }
 }
 
-fn type_of(bits: &[u8]) -> TypeFound {
+fn type_of(bits: &[u8]) -> Option<TypeFound> {
     if limits::MOST_BITS < bits.len() {
-        return TypeFound::Nowhere;
+        return None;
     }
     if !coding::are_bits(bits) {
-        return TypeFound::Nowhere;
+        return None;
     }
     explaining::find_type(bits)
 }
 
-fn ending_of(bits: bool, kind: bool, found: bool, right: bool) -> Ending {
-    if !bits {
+fn ending_of(
+    bits: Option<BurstBits>,
+    kind: Option<TypeFound>,
+    found: Option<DecodedFrame>,
+) -> Ending {
+    if bits.is_none() {
         return Ending::Clockless;
     }
-    if !kind {
+    if kind.is_none() {
         return Ending::Typeless;
     }
-    if !found {
-        return Ending::Few;
+    match found {
+        None => Ending::Few,
+        Some(d) if d.frame.crc_ok => Ending::Read,
+        Some(_) => Ending::Wrong,
     }
-    if right {
-        return Ending::Read;
-    }
-    Ending::Wrong
 }
 
-fn print_clock(rt: &impl Print, bits: BurstBits) {
+fn print_clock(rt: &impl Print, bits: Result<Option<BurstBits>, Refusal>) {
     match bits {
-        BurstBits::Refused(_) => {}
-        BurstBits::Nothing => {
+        Err(_) => {}
+        Ok(None) => {
             replay::print(rt, b"  no bits: it takes 8 dips on the grid\n");
         }
-        BurstBits::Bits(count, _, ppm, _, points, _) => {
+        Ok(Some(b)) => {
             replay::print(rt, b"  clock error ");
-            replay::print_signed(rt, ppm);
+            replay::print_signed(rt, b.clock_error_ppm);
             replay::print(rt, b" ppm, ");
-            replay::print_number(rt, points as u64);
+            replay::print_number(rt, b.points as u64);
             replay::print(rt, b" dips on the grid, ");
-            replay::print_number(rt, count as u64);
+            replay::print_number(rt, b.count as u64);
             replay::print(rt, b" bits\n");
         }
     }
@@ -194,13 +174,12 @@ fn print_bits(rt: &impl Print, bits: &[u8], n: usize) {
 }
 
 // What a frame with a right CRC does: it joins the message of its device and counter, or opens one.
-fn join(rt: &impl Print, t: Tally, scan: Scan, f: frame::UplinkFrame) -> Tally {
+fn join(rt: &impl Print, t: Tally, scan: Scan, f: UplinkFrame) -> Tally {
     let waiting = scan.waiting;
-    let last = last_of(waiting, f.device_id, f.counter);
-    if last < 0.0 {
+    let Some(last) = last_of(waiting, f.device_id, f.counter) else {
         replay::print(rt, b"  it opens a message\n");
         return t;
-    }
+    };
     let margin = explaining::quiet_margin(scan.time, last);
     replay::print(rt, b"  it joins the message, which had waited ");
     print_parts(rt, scan.time - last);
@@ -217,40 +196,20 @@ fn explain_frame(
     scan: Scan,
     b: Burst,
     near: Near,
-    x: BurstFrame,
+    x: Option<DecodedFrame>,
     how: Ending,
 ) -> Tally {
-    let d = x.decoded;
-    let f = d.frame;
-    match how {
-        Ending::Read => {
-            print_frame(rt, f);
+    match (how, x) {
+        (Ending::Read, Some(d)) => {
+            print_frame(rt, d.frame);
             let u = crate::tally::read(t, explaining::margin(b), near);
-            join(rt, u, scan, f)
+            join(rt, u, scan, d.frame)
         }
-        Ending::Wrong => {
-            print_frame(rt, f);
+        (Ending::Wrong, Some(d)) => {
+            print_frame(rt, d.frame);
             t
         }
-        Ending::Few
-        | Ending::Faint
-        | Ending::Short
-        | Ending::Cut
-        | Ending::Clockless
-        | Ending::Typeless => t,
-    }
-}
-
-// The lesser of two.
-pub fn least(a: usize, b: usize) -> usize
-    ensures { (result ≤ a) × (result ≤ b) }
-{
-    if a < b { a } else { b }
-}
-
-fn print_type_of(rt: &impl Print, bits: bool, kind: TypeFound) {
-    if bits {
-        print_type(rt, kind);
+        _ => t,
     }
 }
 
@@ -262,23 +221,23 @@ fn explain_bits(
     scan: Scan,
     b: Burst,
     from: f64,
-    x: BurstFrame,
-    found: BurstBits,
+    x: Option<DecodedFrame>,
+    found: Result<Option<BurstBits>, Refusal>,
     bits: &[u8],
     scratch: &mut [f64],
 ) -> Tally {
-    let n = least(bits_handed(found), bits.len());
+    let known = found.unwrap_or(None);
+    let n = bits_handed(known).min(bits.len());
     let kind = type_of(&bits[..n]);
-    let known = are_bits_found(found);
-    let outcome = x.outcome;
-    let right = x.decoded.frame.crc_ok;
-    let how = ending_of(known, is_type(kind), is_frame(outcome), right);
+    let how = ending_of(known, kind, x);
     let u = crate::tally::ended(t, how);
     print_head(rt, u.bursts, scan.rate, scan.base, b, how);
     let near = explain_dips(rt, seg, scan.rate, from, scratch);
     print_clock(rt, found);
     print_bits(rt, bits, n);
-    print_type_of(rt, known, kind);
+    if known.is_some() {
+        print_type(rt, kind);
+    }
     explain_frame(rt, u, scan, b, near, x, how)
 }
 
@@ -290,7 +249,7 @@ fn explain_segment(
     scan: Scan,
     b: Burst,
     from: f64,
-    x: BurstFrame,
+    x: Option<DecodedFrame>,
     scratch32: &mut [f32],
     scratch64: &mut [f64],
 ) -> Tally {
@@ -310,13 +269,7 @@ pub fn explain_taken(
     scratch64: &mut [f64],
 ) -> Tally {
     let rate = scan.rate;
-    if !limits::rate_ok(rate) {
-        return t;
-    }
-    if held.len() < b.end {
-        return t;
-    }
-    if limits::MOST_SAMPLES < held.len() {
+    if !limits::rate_ok(rate) || held.len() < b.end || limits::MOST_SAMPLES < held.len() {
         return t;
     }
     let x = demod::decode_burst(
@@ -331,5 +284,15 @@ pub fn explain_taken(
     let from = s.from;
     let to = s.to;
     let at = seconds(rate, std::num::wrapping_add_u64(scan.base, from as u64));
-    explain_segment(rt, &held[from..to], t, scan, b, at, x, scratch32, scratch64)
+    explain_segment(
+        rt,
+        &held[from..to],
+        t,
+        scan,
+        b,
+        at,
+        x.unwrap_or(None),
+        scratch32,
+        scratch64,
+    )
 }

@@ -103,14 +103,12 @@ fn go_through(rt: &impl Print, dips: &[f64], n: usize, rate: u32, from: f64, sta
         near,
         going: true,
     };
-    let mut i: usize = 0;
-    while i < n {
+    for i in 0..n {
         let d = dips[i];
         let depth = dips[dips::DEPTHS + i];
         if w.going {
             w = step(rt, w, from + d / (rate as f64), d, depth);
         }
-        i += 1;
     }
     w.near
 }
@@ -119,13 +117,11 @@ fn go_through(rt: &impl Print, dips: &[f64], n: usize, rate: u32, from: f64, sta
 fn print_loose(rt: &impl Print, dips: &[f64], n: usize, rate: u32, from: f64)
     requires { (n ≤ 3000) × (6000 ≤ length dips.now) }
 {
-    let mut i: usize = 0;
-    while i < n {
+    for i in 0..n {
         let d = dips[i];
         let depth = dips[dips::DEPTHS + i];
         print_dip(rt, from + d / (rate as f64), depth);
         replay::print_end(rt);
-        i += 1;
     }
 }
 
@@ -168,7 +164,7 @@ pub fn explain_dips(
     }
     let level = std::num::f32_to_f64_with_nan(clock::level_of(seg));
     let found = dips::find_dips(seg, rate, level, scratch);
-    let dips::DipCount::Count(n) = found else {
+    let Ok(n) = found else {
         return none;
     };
     if dips::DEPTHS < n {

@@ -3,7 +3,7 @@ ghost use Rattle.std.specs.Prelude.{◌≤◌, length};
 
 use explaining::TypeFound;
 use frame::kinds::FrameKind;
-use frame::{Repair, SingleBit, UplinkFrame};
+use frame::{Repair, UplinkFrame};
 
 fn print_class(rt: &impl Print, class: u8) {
     match class {
@@ -39,23 +39,23 @@ fn print_kind(rt: &impl Print, start: usize, kind: FrameKind) {
     replay::print_end(rt);
 }
 
-pub fn print_type(rt: &impl Print, found: TypeFound) {
+pub fn print_type(rt: &impl Print, found: Option<TypeFound>) {
     match found {
-        TypeFound::Nowhere => {
+        None => {
             replay::print(rt, b"  no frame type at bits 8 to 22\n");
         }
-        TypeFound::At(start, kind) => {
-            print_kind(rt, start, kind);
+        Some(t) => {
+            print_kind(rt, t.start, t.kind);
         }
     }
 }
 
-fn print_bit(rt: &impl Print, bit: SingleBit) {
+fn print_bit(rt: &impl Print, bit: Option<bool>) {
     match bit {
-        SingleBit::Absent => {
+        None => {
             replay::print(rt, b"-");
         }
-        SingleBit::Is(b) => {
+        Some(b) => {
             if b {
                 replay::print(rt, b"bit 1");
             } else {
@@ -84,22 +84,22 @@ fn print_place(rt: &impl Print, text: &[u8], i: usize) {
     replay::print(rt, b" of the body\n");
 }
 
-fn print_repair(rt: &impl Print, how: Repair) {
+fn print_repair(rt: &impl Print, how: Option<Repair>) {
     match how {
-        Repair::Unchanged => {
+        None => {
             replay::print(rt, b"CRC right\n");
         }
-        Repair::Inserted(b, i) => {
+        Some(Repair::Inserted(b, i)) => {
             if b {
                 print_place(rt, b"a 1 put in", i);
             } else {
                 print_place(rt, b"a 0 put in", i);
             }
         }
-        Repair::Deleted(i) => {
+        Some(Repair::Deleted(i)) => {
             print_place(rt, b"a bit left out", i);
         }
-        Repair::Flipped(i) => {
+        Some(Repair::Flipped(i)) => {
             print_place(rt, b"a bit turned over", i);
         }
     }

@@ -15,10 +15,11 @@ mod words; // numbers
 
 use arguments::Form;
 use blocks::Scan;
-use reading::Fetched;
-use receiver::{Received, SigfoxReceiver};
+use limits::Refusal;
+use receiver::SigfoxReceiver;
 use scans::Remembered;
 use shifts::Shifts;
+use std::io;
 use tally::Tally;
 
 // The rate of `listen`'s records.
@@ -47,12 +48,12 @@ fn print_usage(rt: &impl Eprint) {
 }
 
 // The words of a cause that a recording can have (docs/CONTRACTS.md).
-fn print_cause(rt: &impl Eprint, n: u8) {
-    match n {
-        limits::BAD_SAMPLE => {
+fn print_cause(rt: &impl Eprint, refusal: Refusal) {
+    match refusal {
+        Refusal::BadSample => {
             complain(rt, ": a sample is no number from -200 to 100 dBm\n");
         }
-        limits::STREAM => {
+        Refusal::Stream => {
             complain(rt, ": the recording is longer than 2^40 samples\n");
         }
         _ => {
@@ -61,9 +62,10 @@ fn print_cause(rt: &impl Eprint, n: u8) {
     }
 }
 
-fn print_refusal(rt: &impl Eprint, n: u8) {
+fn print_refusal(rt: &impl Eprint, refusal: Refusal) {
+    let n = u8::from(refusal);
     let _ = eprint!(rt; "explain: refused with {n}");
-    print_cause(rt, n);
+    print_cause(rt, refusal);
 }
 
 // Samples of a call: eight, as `listen` has it; four at an odd rate, so that no call meets the end of the held 12 s in its middle.
@@ -100,8 +102,8 @@ fn samples_in(form: Form, n: usize, call: usize) -> usize
     ensures { result ≤ 8 }
 {
     match form {
-        Form::Raw => blocks::least(n, call),
-        Form::Floats => blocks::least(n / 4, call),
+        Form::Raw => n.min(call),
+        Form::Floats => (n / 4).min(call),
         Form::Records => {
             if n < 16 {
                 return 0;
@@ -128,20 +130,16 @@ fn print_leftover(rt: &impl Eprint, form: Form, n: usize) {
 fn put_floats(block: &[u8; 32], n: usize, dbm: &mut [f32; 8])
     requires { n ≤ 8 }
 {
-    let mut i: usize = 0;
-    while i < n {
-        dbm[i] = endian::get_f32(block, 4 * i);
-        i += 1;
+    for i in 0..n {
+        dbm[i] = endian::get::<f32>(block, 4 * i);
     }
 }
 
 fn put_raw(block: &[u8; 32], n: usize, dbm: &mut [f32; 8])
     requires { n ≤ 8 }
 {
-    let mut i: usize = 0;
-    while i < n {
+    for i in 0..n {
         dbm[i] = receiver_samples::dbm_of(block[i]);
-        i += 1;
     }
 }
 
@@ -205,17 +203,17 @@ fn look(
 
 // A call with the first n samples.
 fn push_first(
-    receiver: SigfoxReceiver,
+    receiver: &mut SigfoxReceiver,
     dbm: &[f32],
     n: usize,
     samples: &mut [f32],
     events: &mut [u8],
     scratch32: &mut [f32],
     scratch64: &mut [f64],
-) -> Received {
+) -> Result<usize, Refusal> {
     let closed = [0u32; 0];
     let first: usize = 0;
-    let end = blocks::least(n, dbm.len());
+    let end = n.min(dbm.len());
     receiver.push(
         &dbm[first..end],
         Shifts::none(),
@@ -264,18 +262,21 @@ fn hear(
     scratch64: &mut [f64; limits::SCRATCH64],
 ) -> Course {
     let before = s.receiver;
-    let r = push_first(before, dbm, n, samples, events, scratch32, scratch64);
-    if r.refused != 0 {
-        print_refusal(rt, r.refused);
-        let mut stopped = s;
-        stopped.more = false;
-        return stopped;
-    }
-    let after = r.receiver;
+    let mut after = before;
+    let r = push_first(&mut after, dbm, n, samples, events, scratch32, scratch64);
+    let count = match r {
+        Ok(count) => count,
+        Err(refusal) => {
+            print_refusal(rt, refusal);
+            let mut stopped = s;
+            stopped.more = false;
+            return stopped;
+        }
+    };
     let t = s.tally;
     let u = scanned(rt, before, after, t, samples, scratch32, scratch64);
     let waiting = before.waiting;
-    messages::print_messages(rt, events, r.count, waiting, time_of(after), false);
+    messages::print_messages(rt, events, count, waiting, time_of(after), false);
     Course {
         receiver: after,
         tally: u,
@@ -294,7 +295,8 @@ fn finish(
 ) {
     let before = s.receiver;
     let closed = [0u32; 0];
-    let r = before.flush(
+    let mut after = before;
+    let r = after.flush(
         Shifts::none(),
         &closed,
         samples,
@@ -302,23 +304,25 @@ fn finish(
         scratch32,
         scratch64,
     );
-    if r.refused != 0 {
-        print_refusal(rt, r.refused);
-        return;
-    }
-    let after = r.receiver;
+    let count = match r {
+        Ok(count) => count,
+        Err(refusal) => {
+            print_refusal(rt, refusal);
+            return;
+        }
+    };
     let t = s.tally;
     let u = look(rt, before, after, 0, t, samples, scratch32, scratch64);
     let waiting = before.waiting;
-    messages::print_messages(rt, events, r.count, waiting, time_of(after), true);
+    messages::print_messages(rt, events, count, waiting, time_of(after), true);
     tally::print(rt, u);
 }
 
 // The next n bytes of standard input, at the front of a block.
-fn fetch(rt: &impl Input, block: &mut [u8], n: usize) -> Fetched
+fn fetch(rt: &impl Input, block: &mut [u8], n: usize) -> io::Result<usize>
     requires { n ≤ length block.old }
 {
-    reading::fill(rt, &mut block[..n])
+    reading::fill(&mut rt.reader(), &mut block[..n])
 }
 
 // One block of the recording; the last one may be short.
@@ -338,7 +342,7 @@ fn turn(
     let fetched = fetch(rt, &mut block, size);
     let mut stopped = s;
     stopped.more = false;
-    let Fetched::Bytes(n) = fetched else {
+    let Ok(n) = fetched else {
         complain(rt, "explain: standard input can't be read\n");
         return stopped;
     };
@@ -366,8 +370,10 @@ fn run(rt: &(impl Input + Print + Eprint), rate: u32, form: Form) {
         tally,
         more: true,
     };
-    let mut left = MOST_READS;
-    while left > 0 && s.more {
+    for _ in 0..MOST_READS {
+        if !s.more {
+            break;
+        }
         s = turn(
             rt,
             s,
@@ -377,7 +383,6 @@ fn run(rt: &(impl Input + Print + Eprint), rate: u32, form: Form) {
             &mut scratch32,
             &mut scratch64,
         );
-        left -= 1;
     }
     finish(
         rt,

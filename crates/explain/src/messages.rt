@@ -18,21 +18,14 @@ fn is_of(p: Pending, device: u32, counter: u16) -> bool {
     same & equal
 }
 
-// When a frame last joined the message of a device and counter that waits; a negative number where none does.
-pub fn last_of(w: Waiting, device: u32, counter: u16) -> f64 {
-    let n = w.count;
-    let mut i: usize = 0;
-    while i < OPEN_PLACES {
-        if i == n {
-            return NEVER;
+// When a frame last joined the message of a device and counter that waits, none where none waits.
+pub fn last_of(w: Waiting, device: u32, counter: u16) -> Option<f64> {
+    for p in &w.messages[..w.count.min(OPEN_PLACES)] {
+        if is_of(*p, device, counter) {
+            return Some(p.last);
         }
-        let p = w.messages[i];
-        if is_of(p, device, counter) {
-            return p.last;
-        }
-        i += 1;
     }
-    NEVER
+    None
 }
 
 fn print_ranks(rt: &impl Print, mask: u8) {
@@ -48,14 +41,14 @@ fn print_ranks(rt: &impl Print, mask: u8) {
 }
 
 // Why a message closed at a time, of which a frame had last joined at another.
-fn print_reason(rt: &impl Print, mask: u8, ended: bool, time: f64, last: f64) {
+fn print_reason(rt: &impl Print, mask: u8, ended: bool, time: f64, last: Option<f64>) {
     if mask == ALL_RANKS {
         replay::print(rt, b"three ranks\n");
         return;
     }
     if ended {
         replay::print(rt, b"the recording ended");
-        if last >= 0.0 {
+        if let Some(last) = last {
             replay::print(rt, b", after a silence of ");
             print_parts(rt, time - last);
             replay::print(rt, b" s of 10");
@@ -64,7 +57,7 @@ fn print_reason(rt: &impl Print, mask: u8, ended: bool, time: f64, last: f64) {
         return;
     }
     replay::print(rt, b"a silence of ");
-    print_parts(rt, time - last);
+    print_parts(rt, time - last.unwrap_or(NEVER));
     replay::print(rt, b" s, over 10\n");
 }
 
@@ -117,12 +110,7 @@ pub fn print_messages(
     time: f64,
     ended: bool,
 ) {
-    let mut i: usize = 0;
-    while i < 256 {
-        if i == n {
-            return;
-        }
+    for i in 0..n.min(256) {
         print_one(rt, events, i, waiting, time, ended);
-        i += 1;
     }
 }

@@ -4,7 +4,7 @@ ghost use Rattle.std.specs.Prelude.{◌^◌, ◌<◌};
 use crate::blocks::{Scan, explain_left, explain_taken, seconds};
 use crate::tally::{Ending, Tally};
 use crate::words::print_parts;
-use bursts::{Burst, Level, NextBurst};
+use bursts::Burst;
 use receiver_starts::Starts;
 
 // The starts that the receiver remembered before a call and after it, each with the absolute sample that they are counted from.
@@ -60,9 +60,8 @@ fn took(rate: u32, r: Remembered, start: u64) -> bool {
 // Whether a burst is one of those that a scan looks at.
 fn is_long(held: &[f32], rate: u32, b: Burst) -> bool {
     match bursts::find_bursts(held, rate, explaining::scan_options(), b.floor_dbm, b.start) {
-        NextBurst::Refused(_) => false,
-        NextBurst::Nothing => false,
-        NextBurst::Found(c) => c.start == b.start,
+        Err(_) | Ok(None) => false,
+        Ok(Some(c)) => c.start == b.start,
     }
 }
 
@@ -80,17 +79,15 @@ fn end_of(scan: Scan, b: Burst) -> u64 {
 
 // Where another burst follows a short one within 0.3 s: the gap between them, which was not bridged.
 fn print_gap(rt: &impl Print, held: &[f32], rate: u32, b: Burst) {
-    match bursts::find_bursts(held, rate, explaining::any_options(), b.floor_dbm, b.end) {
-        NextBurst::Refused(_) => {}
-        NextBurst::Nothing => {}
-        NextBurst::Found(c) => {
-            let gap = seconds(rate, dips::back(c.start, b.end) as u64);
-            if gap < 0.3 {
-                replay::print(rt, b"  the next loud sample comes ");
-                print_parts(rt, gap);
-                replay::print(rt, b" s later: a gap over 0.04 s is not bridged\n");
-            }
-        }
+    let found = bursts::find_bursts(held, rate, explaining::any_options(), b.floor_dbm, b.end);
+    let Ok(Some(c)) = found else {
+        return;
+    };
+    let gap = seconds(rate, dips::back(c.start, b.end) as u64);
+    if gap < 0.3 {
+        replay::print(rt, b"  the next loud sample comes ");
+        print_parts(rt, gap);
+        replay::print(rt, b" s later: a gap over 0.04 s is not bridged\n");
     }
 }
 
@@ -156,22 +153,12 @@ fn all_loud(
     let options = explaining::any_options();
     let mut u = t;
     let mut from: usize = 0;
-    let mut turns: usize = 0;
-    while turns < MOST_BURSTS {
-        match bursts::find_bursts(held, scan.rate, options, floor, from) {
-            NextBurst::Refused(_) => {
-                return u;
-            }
-            NextBurst::Nothing => {
-                return u;
-            }
-            NextBurst::Found(b) => {
-                let v = loud(rt, held, u, scan, r, b, scratch32, scratch64);
-                u = v;
-                from = b.end;
-                turns += 1;
-            }
-        }
+    for _ in 0..MOST_BURSTS {
+        let Ok(Some(b)) = bursts::find_bursts(held, scan.rate, options, floor, from) else {
+            return u;
+        };
+        u = loud(rt, held, u, scan, r, b, scratch32, scratch64);
+        from = b.end;
     }
     u
 }
@@ -197,22 +184,12 @@ fn all_faint(rt: &impl Print, held: &[f32], floor: f32, t: Tally, scan: Scan) ->
     let options = explaining::faint_options();
     let mut u = t;
     let mut from: usize = 0;
-    let mut turns: usize = 0;
-    while turns < MOST_BURSTS {
-        match bursts::find_bursts(held, scan.rate, options, floor, from) {
-            NextBurst::Refused(_) => {
-                return u;
-            }
-            NextBurst::Nothing => {
-                return u;
-            }
-            NextBurst::Found(b) => {
-                let v = faint(rt, held.len(), u, scan, b);
-                u = v;
-                from = b.end;
-                turns += 1;
-            }
-        }
+    for _ in 0..MOST_BURSTS {
+        let Ok(Some(b)) = bursts::find_bursts(held, scan.rate, options, floor, from) else {
+            return u;
+        };
+        u = faint(rt, held.len(), u, scan, b);
+        from = b.end;
     }
     u
 }
@@ -227,8 +204,7 @@ pub fn explain_scan(
     scratch32: &mut [f32],
     scratch64: &mut [f64],
 ) -> Tally {
-    let level = bursts::noise_floor(held, scratch32);
-    let Level::Dbm(floor) = level else {
+    let Ok(floor) = bursts::noise_floor(held, scratch32) else {
         return t;
     };
     let u = all_faint(rt, held, floor, t, scan);

@@ -14,7 +14,7 @@ ghost use Rattle.ledger.specs.Causes.{most_starts};
 
 use bursts::{Burst, BurstOptions};
 use clock::{Clock, Step};
-use frame::kinds::{FoundKind, FrameKind};
+use frame::kinds::FrameKind;
 use receiver_starts::Starts;
 
 // The receiver's own shortest burst.
@@ -85,8 +85,8 @@ pub fn looked_at(dbm: &[f32], rate: u32, burst: Burst) -> Segment
     ensures { (result ≡ segment_of dbm.now rate burst) × (result.from ≤ result.to) × (result.to ≤ length dbm.now) }
 {
     let pad = demod::margin(rate);
-    let from = whole::least(dips::back(burst.start, pad), dbm.len());
-    let to = whole::greatest(from, whole::least(burst.end + pad, dbm.len()));
+    let from = dips::back(burst.start, pad).min(dbm.len());
+    let to = from.max((burst.end + pad).min(dbm.len()));
     Segment { from, to }
 }
 
@@ -167,36 +167,31 @@ pub fn grid_margin(off: f64) -> f64
 
 // ---- frames and messages
 
-// Where the frame type stands that decides, and what it says.
+// A frame type, and the bit where it starts.
 #[derive(Clone, Copy)]
-pub enum TypeFound {
-    Nowhere,
-    At(usize, FrameKind),
+pub struct TypeFound {
+    pub start: usize,
+    pub kind: FrameKind,
 }
 
 const FIRST_START: usize = 8;
 
 const LAST_START: usize = 22;
 
-// The frame type of bits: the first that stands at a start from 8 to 22. What is decoded is decoded from there (law `decoded-there`).
-pub fn find_type(bits: &[u8]) -> TypeFound
+// The frame type of bits, none where there is none: the first that stands at a start from 8 to 22. What is decoded is decoded from there (law `decoded-there`).
+pub fn find_type(bits: &[u8]) -> Option<TypeFound>
     requires { (are_bits bits.now ≡ true) × (length bits.now ≤ most_bits) }
     ensures { result ≡ type_in (map odd bits.now) }
 {
-    let mut start: usize = FIRST_START;
-    while start <= LAST_START {
+    for start in FIRST_START..LAST_START + 1 {
         if bits.len() < start + frame::kinds::SYNC {
-            return TypeFound::Nowhere;
+            return None;
         }
-        match frame::kinds::find_kind(frame::kinds::word(bits, start)) {
-            FoundKind::Known(kind) => {
-                return TypeFound::At(start, kind);
-            }
-            FoundKind::Unknown => {}
+        if let Some(kind) = frame::kinds::find_kind(frame::kinds::word(bits, start)) {
+            return Some(TypeFound { start, kind });
         }
-        start += 1;
     }
-    TypeFound::Nowhere
+    None
 }
 
 // What a message that waits at a time has left of 10 s.
@@ -212,7 +207,7 @@ pub fn quiet_margin(now: f64, last: f64) -> f64
 pub fn lesser(a: f64, b: f64) -> f64
     ensures { result ≡ lesser a b }
 {
-    floats::pick64(b < a, b, a)
+    whole::pick(b < a, b, a)
 }
 
 // How many units of 1 / scale a number is, its sign left out, rounded to the nearest: its decimals.

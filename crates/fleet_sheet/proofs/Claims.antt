@@ -6,15 +6,16 @@ use lib.Seq.{sets, sets-eq}
 use lib.IntN.{+ℤ_idl, +ℤ_assoc, +ℤ_comm}
 use lib.Signed.{mag}
 use Rattle.limits.specs.Limits.{short, long, bad_records, many_devices, most_record_bytes}
-use Rattle.limits.specs.Answer.{Answer, accepted, answer, number, leaves}
+use Rattle.limits.specs.Answer.{said, Answer, accepted, answer, number, leaves}
 use Rattle.record.specs.Readers.{device_of, ppm_of}
 use Rattle.event_list.specs.Events.{is_message, list_ok}
 use Rattle.event_list.specs.Sums.{those, sum_of}
 use Rattle.event_list.proofs.EventLaws.{ok_reordered}
 use Rattle.event_list.proofs.SumLaws.{sum_perm, those_perm}
-use Rattle.fleet_sheet.specs.declared.Sheet.{Sheet}
+use Rattle.std.specs.Prelude.{Result}
+use Rattle.limits.specs.declared.Refusal.{Refusal}
 use Rattle.fleet_sheet.specs.Fleet.{each, has_ranks, halves_of, min_z, max_z, over_from, over, is_of, row_from, row_of, devices_of}
-use Rattle.fleet_sheet.specs.Report.{said, most_devices, sheet_places, nine, sheet_of, sheet, fleet_messages, sheet_cause, fleet_cause}
+use Rattle.fleet_sheet.specs.Report.{most_devices, sheet_places, nine, sheet_of, sheet, fleet_messages, sheet_cause, fleet_cause}
 use Rattle.fleet_sheet.specs.Claims.{Call, device_at, MessageOf, EveryDevice, column, EverySum, AnyOrder}
 use Rattle.fleet_sheet.proofs.NumberLaws.{min_assoc, max_assoc, min_comm, max_comm}
 use Rattle.fleet_sheet.proofs.DeviceLaws.{has, has_insert, has_at, devices_perm, rising-devices, none_of, delta, delta-once, sum-insert}
@@ -47,7 +48,7 @@ record Accepted (l : List ℕ) (before after : List ℤ) (n : ℕ) : Type 0 wher
   counted : n ≡ length (devices_of (fleet_messages l))
   wrote : after ≡ sheet (fleet_messages l) ++ drop (0 + length (sheet (fleet_messages l))) before
 
-accepts : (l : List ℕ) (before after : List ℤ) (r : Sheet) (n : ℕ) → Call l before after r → said r ≡ accepted n → Accepted l before after n
+accepts : (l : List ℕ) (before after : List ℤ) (r : Result ℕ Refusal) (n : ℕ) → Call l before after r → said r ≡ accepted n → Accepted l before after n
 unfolding answer number leaves
 accepts l before after r n c e = go (fleet_cause l (length before)) refl (sym e ∙ c.answered)
   where

@@ -4,8 +4,8 @@ use contract.Lifetimes.{Lfts}
 use borrow.Fn.World.{ArgsD, ResD}
 use borrow.Fn.Kinds.{ended_of}
 use denote.Triple.Clauses.{AtExit}
-use Rattle.limits.specs.Answer.{accepted}
-use Rattle.fleet_sheet.specs.Report.{said, fleet_messages}
+use Rattle.limits.specs.Answer.{said, accepted}
+use Rattle.fleet_sheet.specs.Report.{fleet_messages}
 use Rattle.fleet_sheet.specs.Claims.{Call, Devices, Sums}
 use Rattle.fleet_sheet.proofs.Claims.{every-device, every-sum}
 use Rattle.fleet_sheet.specs.contracts.fleet_report as report-fn

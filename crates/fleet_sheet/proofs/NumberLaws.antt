@@ -1,9 +1,10 @@
 -- Signed numbers: the lower and the higher of two, and how far a sum may lie from 0. Assumes nothing.
-use Rattle.std.proofs.Common.{◌≡◌, ℕ, suc, ◌+◌, ◌-◌, ◌^◌, ◌<◌, ◌≤◌, min, max, Bool, true, false, cond, ltb, ℤ, pos, negsuc, ◌+ℤ◌, sym, refl, ap, true≢false, pow-suc, arith, ltb-false, ltb-true}
+use Rattle.std.proofs.Common.{◌≡◌, ℕ, suc, ◌+◌, ◌-◌, ◌^◌, ◌<◌, ◌≤◌, min, max, Bool, true, false, cond, ltb, ℤ, pos, negsuc, ◌+ℤ◌, sym, refl, ap, ◌∙◌, true≢false, pow-suc, arith, ltb-false, ltb-true}
 use lib.IntN.{sub_ℕ}
 use lib.Signed.{mag, lt_z}
 use lib.Ieee.{binary64, of_bits, of_int, round}
 use Rattle.floats.specs.Number.{num}
+use Rattle.std.specs.Int.{int_min, int_max}
 use Rattle.fleet_sheet.specs.Fleet.{min_z, max_z}
 
 -- the code's 2.0
@@ -41,6 +42,14 @@ high_first (pos a) (negsuc b) h = refl
 high_first (negsuc a) (pos b) h = absurd (true≢false h)
 high_first (negsuc a) (negsuc b) h = let l = ltb-false b a h in let e : a ≡ min a b = omega arith in ap negsuc e
 
+-- the library's
+pub min_is : (a b : ℤ) → int_min a b ≡ min_z a b
+min_is a b = go (lt_z b a) refl
+  where
+    go : (t : Bool) → lt_z b a ≡ t → cond t b a ≡ min_z a b
+    go true e = low_second a b e
+    go false e = low_first a b e
+
 pub min_comm : (a b : ℤ) → min_z a b ≡ min_z b a
 unfolding min_z
 min_comm (pos a) (pos b) = let e : min a b ≡ min b a = omega arith in ap pos e
@@ -54,6 +63,13 @@ max_comm (pos a) (pos b) = let e : max a b ≡ max b a = omega arith in ap pos e
 max_comm (pos a) (negsuc b) = refl
 max_comm (negsuc a) (pos b) = refl
 max_comm (negsuc a) (negsuc b) = let e : min a b ≡ min b a = omega arith in ap negsuc e
+
+pub max_is : (a b : ℤ) → int_max a b ≡ max_z a b
+max_is a b = go (lt_z b a) refl ∙ max_comm b a
+  where
+    go : (t : Bool) → lt_z b a ≡ t → cond t a b ≡ max_z b a
+    go true e = high-second b a e
+    go false e = high_first b a e
 
 pub min_assoc : (a b c : ℤ) → min_z (min_z a b) c ≡ min_z a (min_z b c)
 unfolding min_z

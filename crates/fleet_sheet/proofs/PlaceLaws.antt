@@ -1,7 +1,8 @@
 -- The place of a number in a rising list, and moving a part of a list on. Assumes nothing.
-use Rattle.std.proofs.Common.{◌≡◌, ℕ, zero, suc, ◌+◌, ◌<◌, ◌≤◌, true, eqb, ltb, List, [], ◌∷◌, ◌++◌, length, get_or, take, drop, set, sym, refl, ap, ◌∙◌, subst, ⊎_elim, eq-or-lt_of_le, arith, length-append, length-drop, take-append-drop, length-take-le, get_or-take, take-suc, ltb-true, le-ltb, lt-ltb, eqb-true}
-use lib.ListN.{get_or-append}
-use lib.Seq.{slice, slice-cons, slice_empty, length-slice, append_snoc, set_at}
+use Rattle.std.proofs.Common.{◌≡◌, ℕ, zero, suc, ◌+◌, ◌-◌, ◌<◌, ◌≤◌, true, eqb, ltb, List, [], ◌∷◌, ◌++◌, length, get_or, take, drop, sym, refl, ap, ◌∙◌, subst, append_assoc, ⊎_elim, eq-or-lt_of_le, arith, length-append, length-drop, length-take-le, get_or-take, ltb-true, le-ltb, lt-ltb, eqb-true}
+use lib.Seq.{slice, length-slice}
+use Rattle.std.specs.List.{copy_within}
+use Rattle.std.proofs.lemmas.List.{drop-take}
 use Rattle.limits.proofs.Samples.{and_left, and_right}
 use Rattle.fleet_sheet.specs.Table.{place_of, Rising, shifted, is_there}
 
@@ -39,34 +40,19 @@ there_place d n p ids h r e =
 
 -- ---- moving on
 
-pub shift_start : {A : Type 0} (w to : ℕ) (l : List A) → l ≡ shifted w to to l
-shift_start {A = A} w to l = sym (ap (λ (m : List A). take (to + w) l ++ (m ++ drop (to + w) l)) (slice_empty to l) ∙ take-append-drop (to + w) l)
-
 pub length-shifted : {A : Type 0} (w k to : ℕ) (l : List A) → k ≤ to → to + w ≤ length l → length (shifted w k to l) ≡ length l
 length-shifted w k to l h b =
     omega (arith, length-append (take (k + w) l) (slice k to l ++ drop (to + w) l), length-append (slice k to l) (drop (to + w) l), length-take-le (k + w) l (omega arith), length-slice k to l (omega arith), length-drop (to + w) l)
 
--- one place more: what stands at k goes to k + w
-pub shift-turn : {A : Type 0} (w k to : ℕ) (l : List A) (d : A) → 0 < w → k < to → to + w ≤ length l
-    → set (shifted w (suc k) to l) (k + w) (get_or (shifted w (suc k) to l) k d) ≡ shifted w k to l
-shift-turn {A = A} w k to l d p h b =
-    let rest = slice (suc k) to l ++ drop (to + w) l in
-    let n : length (take (suc k + w) l) ≡ suc k + w = length-take-le (suc k + w) l (omega arith) in
-    let g : get_or (take (suc k + w) l ++ rest) k d ≡ get_or l k d =
-    get_or-append (take (suc k + w) l) rest d k (omega arith) ∙ get_or-take (suc k + w) l k d (omega arith) in
-    let q : suc k + w ≡ suc (k + w) = omega arith in
-    let t : take (suc k + w) l ≡ take (k + w) l ++ (get_or l (k + w) d ∷ []) = ap (λ (j : ℕ). take j l) q ∙ take-suc l (k + w) d (omega arith) in
-    let s : shifted w (suc k) to l ≡ take (k + w) l ++ get_or l (k + w) d ∷ rest = ap (λ (m : List A). m ++ rest) t ∙ append_snoc (take (k + w) l) (get_or l (k + w) d) rest in
-    ap (set (shifted w (suc k) to l) (k + w)) g
-    ∙ ap (λ (m : List A). set m (k + w) (get_or l k d)) s
-    ∙ set_at (take (k + w) l) (get_or l (k + w) d) rest (get_or l k d) (k + w) (length-take-le (k + w) l (omega arith))
-    ∙ ap (λ (m : List A). take (k + w) l ++ (m ++ drop (to + w) l)) (sym (slice-cons k to l d h (omega arith)))
+-- as the library does it
+pub moved_on : {A : Type 0} (w from to : ℕ) (l : List A) → from ≤ to → copy_within l from to (from + w) ≡ shifted w from to l
+moved_on {A = A} w from to l h =
+    append_assoc (take (from + w) l) (take (to - from) (drop from l)) (drop (from + w + (to - from)) l)
+    ∙ ap (λ (m : List A). take (from + w) l ++ (m ++ drop (from + w + (to - from)) l)) (sym (drop-take from (to - from) l) ∙ ap (λ (k : ℕ). drop from (take k l)) (back from to h))
+    ∙ ap (λ (k : ℕ). take (from + w) l ++ (slice from to l ++ drop k l)) (place from to w h)
+  where
+    back : (from to : ℕ) → from ≤ to → from + (to - from) ≡ to
+    back from to h = omega arith
 
--- as the code goes: j is k - 1
-pub shift-step : {A : Type 0} (w j k to : ℕ) (l s : List A) (d v : A) → 0 < w → k ≡ suc j → k ≤ to → to + w ≤ length l → v ≡ get_or s j d → s ≡ shifted w k to l
-    → set s (j + w) v ≡ shifted w j to l
-shift-step {A = A} w j k to l s d v p e h b q i =
-    ap (set s (j + w)) q ∙ ap (λ (m : List A). set m (j + w) (get_or m j d)) (i ∙ ap (λ (n : ℕ). shifted w n to l) e) ∙ shift-turn w j to l d p (omega arith) b
-
-pub shift_end : {A : Type 0} (w k from to : ℕ) (l s : List A) → from ≡ k → s ≡ shifted w k to l → s ≡ shifted w from to l
-shift_end {A = A} w k from to l s e i = i ∙ ap (λ (n : ℕ). shifted w n to l) (sym e)
+    place : (from to w : ℕ) → from ≤ to → from + w + (to - from) ≡ to + w
+    place from to w h = omega arith

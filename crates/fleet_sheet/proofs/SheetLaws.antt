@@ -1,5 +1,5 @@
 -- Reading the list into the rows, and the rows into the sheet. Assumes nothing.
-use Rattle.std.proofs.Common.{◌≡◌, ℕ, zero, suc, ◌+◌, ◌*◌, ◌<◌, ◌≤◌, List, [], ◌∷◌, ◌++◌, map, length, get_or, take, ℤ, sym, refl, ap, ◌∙◌, subst, append_assoc, append-nil, add-one, arith, length-append, length-take-le, get_or-take, take-suc}
+use Rattle.std.proofs.Common.{◌≡◌, ℕ, zero, suc, ◌+◌, ◌*◌, ◌<◌, ◌≤◌, List, [], ◌∷◌, ◌++◌, map, length, get_or, take, ℤ, sym, refl, ap, ◌∙◌, subst, append_assoc, append-nil, add-one, arith, length-append, get_or-take, take-suc}
 use lib.ListN.{length-map, get_or-map}
 use lib.Seq.{sets, take-length}
 use Rattle.event_list.specs.Events.{is_message, messages_of}
@@ -15,49 +15,34 @@ use Rattle.fleet_sheet.proofs.StandLaws.{stands-next, devices_grow}
 
 -- ---- reading
 
--- so many messages ms stood before the first record of es
-module _ (ms es : List (List ℕ)) where
-  -- those of the first i records behind them
-  abbrev pub read_to : ℕ → List (List ℕ)
-  read_to i = ms ++ messages_of (take i es)
+-- messages ms stood before the records, of which `done` were read
+module _ (ms done : List (List ℕ)) where
+  abbrev pub read_to : List (List ℕ)
+  read_to = ms ++ messages_of done
 
-  read_more : (i : ℕ) → i < length es → read_to (i + 1) ≡ read_to i ++ messages_of (get_or es i [] ∷ [])
-  read_more i h =
-      ap (λ (l : List (List ℕ)). ms ++ l)
-      (ap (λ (k : ℕ). messages_of (take k es)) (add-one i) ∙ ap messages_of (take-suc es i [] h) ∙ those-append is_message (take i es) (get_or es i [] ∷ []))
-      ∙ sym (append_assoc ms (messages_of (take i es)) (messages_of (get_or es i [] ∷ [])))
+-- one more is
+module _ (ms done : List (List ℕ)) (r : List ℕ) where
+  read_more : read_to ms (done ++ (r ∷ [])) ≡ read_to ms done ++ messages_of (r ∷ [])
+  read_more = ap (λ (l : List (List ℕ)). ms ++ l) (those-append is_message done (r ∷ [])) ∙ sym (append_assoc ms (messages_of done) (messages_of (r ∷ [])))
 
-  pub read_none : ms ≡ read_to 0
-  unfolding those
-  read_none = sym (append-nil ms)
-
-  pub read_all : (i : ℕ) → i ≡ length es → read_to i ≡ ms ++ messages_of es
-  read_all i e = ap (λ (l : List (List ℕ)). ms ++ messages_of l) (ap (λ (k : ℕ). take k es) e ∙ take-length es)
-
-  pub read_few : (i n : ℕ) → length ms ≤ n → i ≤ length es → length (read_to i) ≤ n + i
-  read_few i n a b =
-      omega (arith, length-append ms (messages_of (take i es)), those-le is_message (take i es), length-take-le i es b)
-
-  -- a record is taken in
-  pub read_next : (i : ℕ) → i < length es → (ids : List ℕ) (t : List ℤ) (n : ℕ) → n ≤ rows_most → Gathered ids t n (read_to i) → (m : List ℕ) → m ≡ get_or es i []
-      → (k : ℕ) (ids' : List ℕ) (t' : List ℤ) → Took m n ids t k ids' t' → Gathered ids' t' k (read_to (i + 1))
-  read_next i h ids t n u g m e k ids' t' w =
-      subst (λ (l : List (List ℕ)). Gathered ids' t' k l)
-      (ap (λ (r : List ℕ). read_to i ++ messages_of (r ∷ [])) e ∙ sym (read_more i h))
-      (stands-next ids t n (read_to i) (g.under u) m k ids' t' w)
+  -- it is taken in
+  pub read_next : (ids : List ℕ) (t : List ℤ) (n : ℕ) → n ≤ rows_most → Gathered ids t n (read_to ms done) → (k : ℕ) (ids' : List ℕ) (t' : List ℤ) → Took r n ids t k ids' t'
+      → Gathered ids' t' k (read_to ms (done ++ (r ∷ [])))
+  read_next ids t n u g k ids' t' w = subst (λ (l : List (List ℕ)). Gathered ids' t' k l) (sym read_more) (stands-next ids t n (read_to ms done) (g.under u) r k ids' t' w)
 
   -- too many devices stay too many
-  pub read_over : (i : ℕ) → i < length es → (ids : List ℕ) (t : List ℤ) (n : ℕ) → rows_most < n → Gathered ids t n (read_to i) → Gathered ids t n (read_to (i + 1))
-  read_over i h ids t n u g = record {
+  pub read_over : (ids : List ℕ) (t : List ℤ) (n : ℕ) → rows_most < n → Gathered ids t n (read_to ms done) → Gathered ids t n (read_to ms (done ++ (r ∷ [])))
+  read_over ids t n u g = record {
     under = λ v. absurd (omega arith);
-    above = λ v.
-        omega (
-          arith,
-          g.above u,
-          devices_grow (messages_of (get_or es i [] ∷ [])) (read_to i),
-          ap (λ (l : List (List ℕ)). length (devices_of l)) (read_more i h),
-        );
+    above = λ v. omega (arith, g.above u, devices_grow (messages_of (r ∷ [])) (read_to ms done), ap (λ (l : List (List ℕ)). length (devices_of l)) read_more);
   }
+
+pub read_none : (ms : List (List ℕ)) → ms ≡ read_to ms []
+unfolding those
+read_none ms = sym (append-nil ms)
+
+pub read_few : (ms done : List (List ℕ)) (n : ℕ) → length ms ≤ n → length (read_to ms done) ≤ n + length done
+read_few ms done n a = omega (arith, length-append ms (messages_of done), those-le is_message done)
 
 -- ---- writing
 

@@ -1,17 +1,17 @@
 -- REQUEST 09'S CLAIMS, over every call of `fleet_report`: which devices have a row, 'the sums over all devices equal those over all message records', and that the order of the records doesn't matter.
 -- `Call` is what the contract of `fleet_report` ensures of a call; proofs/Contracts.antt takes it from the contract itself. Assumes nothing.
-use Rattle.std.specs.Prelude.{◌≡◌, ℕ, zero, suc, ◌*◌, ◌<◌, List, [], length, drop, ℤ, pos, ◌+ℤ◌, slice_index_or}
+use Rattle.std.specs.Prelude.{◌≡◌, ℕ, zero, suc, ◌*◌, ◌<◌, Result, List, [], length, drop, ℤ, pos, ◌+ℤ◌, slice_index_or}
 use Rattle.std.proofs.lemmas.List.Edits.{sets}
-use Rattle.limits.specs.Answer.{answer, number, leaves, accepted}
+use Rattle.limits.specs.Answer.{said, answer, number, leaves, accepted}
 use Rattle.record.specs.Readers.{device_of}
 use Rattle.event_list.specs.Events.{Reordered}
 use Rattle.event_list.specs.Sums.{sum_of}
-use Rattle.fleet_sheet.specs.declared.Sheet.{Sheet}
+use Rattle.limits.specs.declared.Refusal.{Refusal}
 use Rattle.fleet_sheet.specs.Fleet.{has_ranks, halves_of, devices_of}
-use Rattle.fleet_sheet.specs.Report.{said, sheet, fleet_messages, fleet_cause}
+use Rattle.fleet_sheet.specs.Report.{sheet, fleet_messages, fleet_cause}
 
 -- a call: the records, the result list before and after it, and its answer
-pub record Call (l : List ℕ) (before after : List ℤ) (r : Sheet) : Type 0 where
+pub record Call (l : List ℕ) (before after : List ℤ) (r : Result ℕ Refusal) : Type 0 where
   pub answered : said r ≡ answer (fleet_cause l (length before)) (length (devices_of (fleet_messages l)))
   pub left : after ≡ leaves (number (said r)) (sets before 0 (sheet (fleet_messages l))) before
 
@@ -40,7 +40,7 @@ pub record Devices (rows : List ℤ) (n : ℕ) (ms : List (List ℕ)) : Type 0 w
   pub heard : (d : ℕ) → MessageOf ms d → RowFor rows n d
 
 abbrev pub EveryDevice : Type 0
-EveryDevice = (l : List ℕ) (before after : List ℤ) (r : Sheet) (n : ℕ) → Call l before after r → said r ≡ accepted n → Devices after n (fleet_messages l)
+EveryDevice = (l : List ℕ) (before after : List ℤ) (r : Result ℕ Refusal) (n : ℕ) → Call l before after r → said r ≡ accepted n → Devices after n (fleet_messages l)
 
 -- the sum of number j of the first n rows
 unfoldable pub column : ℕ → ℕ → List ℤ → ℤ
@@ -57,10 +57,10 @@ pub record Sums (rows : List ℤ) (n : ℕ) (ms : List (List ℕ)) : Type 0 wher
   pub count : column n 8 rows ≡ pos (length ms)
 
 abbrev pub EverySum : Type 0
-EverySum = (l : List ℕ) (before after : List ℤ) (r : Sheet) (n : ℕ) → Call l before after r → said r ≡ accepted n → Sums after n (fleet_messages l)
+EverySum = (l : List ℕ) (before after : List ℤ) (r : Result ℕ Refusal) (n : ℕ) → Call l before after r → said r ≡ accepted n → Sums after n (fleet_messages l)
 
 -- whatever the order of the records: the same answer, and the same list
 abbrev pub AnyOrder : Type 0
 AnyOrder =
-    (l k : List ℕ) (before after after' : List ℤ) (r r' : Sheet) → Reordered l k → Call l before after r → Call k before after' r'
+    (l k : List ℕ) (before after after' : List ℤ) (r r' : Result ℕ Refusal) → Reordered l k → Call l before after r → Call k before after' r'
     → (said r ≡ said r') × (after ≡ after')

@@ -1,17 +1,9 @@
--- What `fleet_report` answers and leaves in the result list (02, request 09; causes 2, 3, 12 and 13). Assumes nothing.
+-- What `fleet_report` answers, a refusal's number or how many devices have a row, and leaves in the result list (02, request 09; causes 2, 3, 12 and 13). Assumes nothing.
 use Rattle.std.specs.Prelude.{ℕ, Bool, cond, List, [], ◌∷◌, ◌++◌, length, ℤ, pos, nat_lt}
 use Rattle.limits.specs.Limits.{short, long, bad_records, many_devices, most_record_bytes}
-use Rattle.limits.specs.Answer.{Answer, refused, accepted}
 use Rattle.event_list.specs.Events.{events_of, messages_of, list_ok}
 use Rattle.fleet_sheet.specs.declared.rows.Row.{Row}
-use Rattle.fleet_sheet.specs.declared.Sheet.{Sheet}
-use Rattle.fleet_sheet.specs.declared.Sheet.TheVariants.{Refused, Rows}
 use Rattle.fleet_sheet.specs.Fleet.{row_of, devices_of}
-
--- `Sheet` in 02's words: a refusal's number, or how many devices have a row
-abbrev pub said : Sheet → Answer ℕ
-said (Refused n) = refused n
-said (Rows n) = accepted n
 
 -- 'up to 256 devices'
 abbrev pub most_devices : ℕ

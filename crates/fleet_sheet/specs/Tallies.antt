@@ -1,11 +1,13 @@
 -- Scaffolding. What is read so far of a list that comes in parts: the tally and the table stand for the messages among it. `fleet_report` reads its list as one part. Assumes nothing.
-use Rattle.std.specs.Prelude.{◌≡◌, ℕ, ◌≤◌, List, ◌++◌, length, ℤ}
+use Rattle.std.specs.Prelude.{◌≡◌, ℕ, ◌+◌, ◌≤◌, true, cond, Result, Ok, Err, List, ◌++◌, length, ℤ}
 use Rattle.std.proofs.lemmas.List.Edits.{sets}
-use Rattle.limits.specs.Answer.{answer, number, leaves}
+use Rattle.limits.specs.Answer.{said, answer, number, leaves}
+use Rattle.limits.specs.declared.Refusal.TheVariants.{BadRecords}
+use Rattle.event_list.specs.Events.{wholes, list_ok}
 use Rattle.fleet_sheet.specs.declared.Tally.{Tally}
-use Rattle.fleet_sheet.specs.declared.Sheet.{Sheet}
+use Rattle.limits.specs.declared.Refusal.{Refusal}
 use Rattle.fleet_sheet.specs.Fleet.{devices_of}
-use Rattle.fleet_sheet.specs.Report.{said, sheet, fleet_messages, sheet_cause}
+use Rattle.fleet_sheet.specs.Report.{sheet, fleet_messages, sheet_cause}
 use Rattle.fleet_sheet.specs.Table.{Gathered}
 
 -- the messages of what was read
@@ -22,8 +24,15 @@ pub record Tallied (t : Tally) (ids : List ℕ) (sums : List ℤ) : Type 0 where
 abbrev pub Adds : List ℕ → Tally → List ℕ → List ℤ → Tally → List ℕ → List ℤ → Type 0
 Adds l t ids sums t' ids' sums' = (ms : List (List ℕ)) → Held t ids sums ms → Held t' ids' sums' (ms ++ fleet_messages l)
 
--- the report of what was read, or refusal 12 or 13
-abbrev pub Reported : Tally → List ℕ → List ℤ → Sheet → List ℤ → List ℤ → Type 0
+-- and 12 applies where it applies to it
+pub record Reads (l : List ℕ) (t : Tally) (ids : List ℕ) (sums : List ℤ) (r : Result Tally Refusal) (ids' : List ℕ) (sums' : List ℤ) : Type 0 where
+  pub read : Tally
+  pub answered : r ≡ cond (list_ok l) (Ok read) (Err BadRecords)
+  pub counted : read.«records» ≡ t.«records» + wholes l
+  pub adds : Adds l t ids sums read ids' sums'
+
+-- the report of what was read, or refusal 13
+abbrev pub Reported : Tally → List ℕ → List ℤ → Result ℕ Refusal → List ℤ → List ℤ → Type 0
 Reported t ids sums r before after =
     (ms : List (List ℕ)) → Held t ids sums ms
-    → (said r ≡ answer (sheet_cause t.ok ms) (length (devices_of ms))) × (after ≡ leaves (number (said r)) (sets before 0 (sheet ms)) before)
+    → (said r ≡ answer (sheet_cause true ms) (length (devices_of ms))) × (after ≡ leaves (number (said r)) (sets before 0 (sheet ms)) before)

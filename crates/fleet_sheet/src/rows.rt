@@ -29,7 +29,7 @@ fn half_decibels(x: f32) -> i32
 fn one_if(t: bool) -> i64
     ensures { result ≡ one_if t }
 {
-    if t { 1 } else { 0 }
+    i64::from(t)
 }
 
 // How many repetitions a mask of 1, 2, 4 names.
@@ -49,19 +49,13 @@ fn sum(a: i64, b: i64) -> i64
 fn lower(a: i64, b: i64) -> i64
     ensures { result ≡ min_z a b }
 {
-    if b < a {
-        return b;
-    }
-    a
+    a.min(b)
 }
 
 fn higher(a: i64, b: i64) -> i64
     ensures { result ≡ max_z a b }
 {
-    if a < b {
-        return b;
-    }
-    a
+    a.max(b)
 }
 
 // The row of a single message.
@@ -70,8 +64,8 @@ pub fn single(r: &[u8]) -> Row
     ensures { result ≡ single r.now }
 {
     let n = ranks(read::rank_of(r));
-    let ppm = read::ppm_of(r) as i64;
-    let halves = half_decibels(read::rssi_of(r)) as i64;
+    let ppm = i64::from(read::ppm_of(r));
+    let halves = i64::from(half_decibels(read::rssi_of(r)));
     Row {
         messages: 1,
         one: one_if(n == 1),
@@ -79,7 +73,7 @@ pub fn single(r: &[u8]) -> Row
         three: one_if(n == 3),
         lowest: ppm,
         highest: ppm,
-        halves: halves,
+        halves,
     }
 }
 
@@ -120,18 +114,11 @@ pub fn put_row(table: &mut [i64], at: usize, row: Row)
     requires { at + 7 ≤ length table.old }
     ensures { table.new ≡ sets table.old at (numbers row) }
 {
-    let messages = row.messages;
-    let one = row.one;
-    let two = row.two;
-    let three = row.three;
-    let lowest = row.lowest;
-    let highest = row.highest;
-    let halves = row.halves;
-    table[at] = messages;
-    table[at + 1] = one;
-    table[at + 2] = two;
-    table[at + 3] = three;
-    table[at + 4] = lowest;
-    table[at + 5] = highest;
-    table[at + 6] = halves;
+    table[at] = row.messages;
+    table[at + 1] = row.one;
+    table[at + 2] = row.two;
+    table[at + 3] = row.three;
+    table[at + 4] = row.lowest;
+    table[at + 5] = row.highest;
+    table[at + 6] = row.halves;
 }

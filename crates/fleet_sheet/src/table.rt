@@ -1,7 +1,7 @@
 // The rows of the devices met so far, in rising device number: numbers of devices, and seven numbers a row.
 ghost use Rattle.std.specs.Prelude.{◌≡◌, ℕ, ◌+◌, ◌*◌, ◌<◌, ◌≤◌, length, take};
 ghost use Rattle.limits.specs.Limits.{record_size};
-ghost use Rattle.fleet_sheet.specs.Table.{Small, row_at, place_of, Rising, shifted, is_there, taken_count, taken_ids, taken_table, rows_most, hints_most};
+ghost use Rattle.fleet_sheet.specs.Table.{Small, row_at, place_of, Rising, is_there, taken_count, taken_ids, taken_table, rows_most, hints_most};
 
 use crate::{MOST_DEVICES, rows};
 use record::read;
@@ -35,16 +35,7 @@ fn is_there(ids: &[u32], n: usize, p: usize, d: u32) -> bool
     requires { n ≤ length ids.now }
     ensures { result ≡ is_there d p n ids.now }
 {
-    if p < n {
-        return ids[p] == d;
-    }
-    false
-}
-
-fn wide(x: u8) -> usize
-    ensures { result ≡ x }
-{
-    x as usize
+    p < n && ids[p] == d
 }
 
 // Where d stands, or belongs, among the first n: where its hint says, or by search, and then that is its hint. A hint may say anything.
@@ -53,39 +44,13 @@ fn place(ids: &[u32], hints: &mut [u8], n: usize, d: u32) -> usize
     ensures { (result ≡ place_of d (take n ids.now)) × (result ≤ n) × (length hints.new ≡ hints_most) }
 {
     let at = (d as usize) % HINTS;
-    let hint = wide(hints[at]);
+    let hint = usize::from(hints[at]);
     if is_there(ids, n, hint, d) {
         return hint;
     }
     let p = find(ids, n, d);
     hints[at] = (p % MOST_DEVICES) as u8;
     p
-}
-
-// The numbers from one place up to another moved on by one.
-fn shift_ids(ids: &mut [u32], from: usize, to: usize)
-    requires { (from ≤ to) × (to + 1 ≤ length ids.old) }
-    ensures { ids.new ≡ shifted 1 from to ids.old }
-{
-    let mut k = to;
-    while from < k {
-        k -= 1;
-        let x = ids[k];
-        ids[k + 1] = x;
-    }
-}
-
-// The same of rows.
-fn shift_rows(table: &mut [i64], from: usize, to: usize)
-    requires { (from ≤ to) × (to + 7 ≤ length table.old) }
-    ensures { table.new ≡ shifted 7 from to table.old }
-{
-    let mut k = to;
-    while from < k {
-        k -= 1;
-        let x = table[k];
-        table[k + 7] = x;
-    }
 }
 
 // A record is taken into the first n rows: a message joins its device's row or opens one. The answer is their number then, or one more than the table holds.
@@ -112,9 +77,9 @@ pub fn taken(ids: &mut [u32], table: &mut [i64], hints: &mut [u8], n: usize, r: 
     if MOST_DEVICES <= n {
         return MOST_DEVICES + 1;
     }
-    shift_ids(ids, p, n);
+    ids.copy_within(p..n, p + 1);
     ids[p] = device;
-    shift_rows(table, at, WIDTH * n);
+    table.copy_within(at..WIDTH * n, at + WIDTH);
     rows::put_row(table, at, m);
     n + 1
 }

@@ -1,4 +1,4 @@
-// Floats: floor, rounding, Rust's casts and magnitude from the bits, choice and maximum, and 01's sine, cosine and arctangent.
+// Floats: floor, rounding, Rust's casts, magnitude and maximum, and 01's sine, cosine and arctangent.
 #![tactic(auto)]
 
 ghost use Rattle.std.specs.Prelude.{◌≡◌, ◌^◌, ◌<◌, ◌≤◌, false, not, T, pos, if◌then◌else◌, is_nan};
@@ -6,54 +6,20 @@ ghost use Rattle.std.specs.Float.{binary64};
 ghost use Rattle.std.specs.Float.Ieee.{round, lt, of_int, to_unsigned, to_signed};
 ghost use Rattle.floats.specs.Number.{num};
 ghost use Rattle.floats.specs.Floor.{floor, round_half_up};
-ghost use Rattle.floats.specs.Fold.{max_of};
+ghost use Rattle.floats.specs.Fold.{max_of, max_from};
 ghost use Rattle.floats.specs.Trig.{terms, atan_terms, reduce, series, cosine, sine, atan_from, atan, magnitude, arctangent};
+
+use std::f64::consts::PI;
+use std::num::{saturating_f64_to_i32, saturating_f64_to_u32, saturating_f64_to_usize};
+use whole::pick;
 
 // ---- floor and rounding
 
-// The float of the whole number w, which is below 2^53: the leading digit goes to bit 52, where it adds one to the exponent's field.
-fn of_whole(w: u64) -> f64
-    requires { w < 2 ^ 53 }
-    ensures { result ≡ round binary64 false w 1 }
-{
-    if w == 0 {
-        return 0.0;
-    }
-    let z = u64::leading_zeros(w) as u64;
-    f64::from_bits((1085 - z) * 0x10_0000_0000_0000 + (w << (z - 11)))
-}
-
-// f64::floor, worked out from the bits: the sign, the exponent's field and the 52 digits below the leading one.
+// f64::floor
 pub fn floor64(x: f64) -> f64
     ensures { result ≡ floor x }
 {
-    if x != x {
-        return x;
-    }
-    let bits = f64::to_bits(x);
-    let neg = bits >= 0x8000_0000_0000_0000;
-    let field = bits % 0x8000_0000_0000_0000 / 0x10_0000_0000_0000;
-    let digits = bits % 0x10_0000_0000_0000;
-    if field >= 1075 {
-        // no digit stands below the point
-        return x;
-    }
-    if field < 1023 {
-        // below 1 in magnitude
-        if field + digits == 0 {
-            return x;
-        }
-        if neg {
-            return -1.0;
-        }
-        return 0.0;
-    }
-    let m = digits + 0x10_0000_0000_0000;
-    let unit = 1u64 << (1075 - field);
-    if neg {
-        return -of_whole((m + (unit - 1)) / unit);
-    }
-    of_whole(m / unit)
+    x.floor()
 }
 
 // floor(x + 0.5): halves go up (demod.rs round).
@@ -63,72 +29,27 @@ pub fn round_half_up(x: f64) -> f64
     floor64(x + 0.5)
 }
 
-// ---- Rust's `as`: toward zero, to the nearest end of the range, and 0 for a NaN; worked out from the bits
-
-// The whole part of x's magnitude, or the largest u64 where that is less.
-fn whole_part(x: f64) -> u64
-    requires { T (not (is_nan x)) }
-    ensures { result ≡ to_unsigned 64 (magnitude x) }
-{
-    let bits = f64::to_bits(x);
-    let field = bits % 0x8000_0000_0000_0000 / 0x10_0000_0000_0000;
-    let m = bits % 0x10_0000_0000_0000 + 0x10_0000_0000_0000;
-    if field < 1023 {
-        // below 1
-        return 0;
-    }
-    if field < 1075 {
-        return m >> (1075 - field);
-    }
-    if field < 1087 {
-        return m << (field - 1075);
-    }
-    // 2^64 or more
-    u64::MAX
-}
+// ---- Rust's `as`: toward zero, to the nearest end of the range, and 0 for a NaN
 
 // x as usize
 pub fn to_usize_saturating(x: f64) -> usize
     ensures { result ≡ to_unsigned 64 x }
 {
-    if x != x {
-        return 0;
-    }
-    if f64::to_bits(x) >= 0x8000_0000_0000_0000 {
-        return 0;
-    }
-    whole_part(x) as usize
+    saturating_f64_to_usize(x)
 }
 
 // x as u32
 pub fn to_u32_saturating(x: f64) -> u32
     ensures { result ≡ to_unsigned 32 x }
 {
-    let v = to_usize_saturating(x);
-    if v < 0x1_0000_0000 {
-        return v as u32;
-    }
-    u32::MAX
+    saturating_f64_to_u32(x)
 }
 
 // x as i32
 pub fn to_i32_saturating(x: f64) -> i32
     ensures { result ≡ to_signed 31 x }
 {
-    if x != x {
-        return 0;
-    }
-    let w = whole_part(x);
-    if f64::to_bits(x) >= 0x8000_0000_0000_0000 {
-        if w < 0x8000_0000 {
-            return -(w as i32);
-        }
-        return i32::MIN;
-    }
-    if w >= 0x8000_0000 {
-        return i32::MAX;
-    }
-    w as i32
+    saturating_f64_to_i32(x)
 }
 
 // ---- to f64, exactly
@@ -141,43 +62,35 @@ pub fn count_as_f64(n: usize) -> f64
     n as f64
 }
 
-// ---- choice and maximum
-
-// a where t holds, else b: a choice without a branch, whose callers are proved by computing.
-pub fn pick64(t: bool, a: f64, b: f64) -> f64
-    ensures { result ≡ (if t then a else b) }
-{
-    if t { a } else { b }
-}
-
-// The same of f32.
-pub fn pick32(t: bool, a: f32, b: f32) -> f32
-    ensures { result ≡ (if t then a else b) }
-{
-    if t { a } else { b }
-}
+// ---- maximum and magnitude
 
 // f32::max of numbers that are no NaN.
 pub fn max32(a: f32, b: f32) -> f32
     ensures { result ≡ max_of a b }
 {
-    pick32(a < b, b, a)
+    if a < b { b } else { a }
 }
 
-// f64::abs, worked out from the bits: the pattern without its sign.
+// The highest of a number and those of a list, none of which is a NaN.
+pub fn highest32(least: f32, xs: &[f32]) -> f32
+    ensures { result ≡ max_from least xs.now }
+{
+    let mut m = least;
+    for x in xs {
+        m = max32(m, *x);
+    }
+    m
+}
+
+// f64::abs
 pub fn abs64(x: f64) -> f64
     ensures { result ≡ magnitude x }
 {
-    if x != x {
-        return x;
-    }
-    f64::from_bits(f64::to_bits(x) % 0x8000_0000_0000_0000)
+    x.abs()
 }
 
 // ---- 01's stand-ins for sine, cosine and arctangent: the same rounded operations in the same order
 
-// std::f64::consts::PI
-pub const PI: f64 = 3.141592653589793;
 // The n that the series of cosine and sine starts from, down to 1.
 const TERMS: u32 = 11;
 // One more than the n that the arctangent's series starts from, down to 0.
@@ -241,8 +154,8 @@ fn atan64(t: f64) -> f64
     ensures { result ≡ atan t }
 {
     let steep = t > STEEP;
-    let u = pick64(steep, (t - 1.0) / (t + 1.0), t);
-    pick64(steep, PI / 4.0, 0.0) + u * atan_series(u)
+    let u = pick(steep, (t - 1.0) / (t + 1.0), t);
+    pick(steep, PI / 4.0, 0.0) + u * atan_series(u)
 }
 
 // f64::atan2 of the Rust, by its stand-in.
@@ -256,8 +169,8 @@ pub fn atan2_64(s: f64, c: f64) -> f64
     }
     let a = abs64(s);
     let b = abs64(c);
-    let x = atan64(pick64(a > b, b / a, a / b));
-    let y = pick64(a > b, PI / 2.0 - x, x);
-    let z = pick64(c < 0.0, PI - y, y);
-    pick64(s < 0.0, -z, z)
+    let x = atan64(pick(a > b, b / a, a / b));
+    let y = pick(a > b, PI / 2.0 - x, x);
+    let z = pick(c < 0.0, PI - y, y);
+    pick(s < 0.0, -z, z)
 }

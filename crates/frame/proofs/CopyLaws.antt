@@ -1,35 +1,24 @@
--- Bytes copied one by one, and lists in arrays of a fixed length. Assumes nothing.
-use mathlib.Core.Path.{◌≡◌, sym, ap, ap₂, ◌∙◌}
+-- Parts of lists, and lists in arrays of a fixed length. Assumes nothing.
+use mathlib.Core.Path.{◌≡◌, sym, ap, ◌∙◌}
 use mathlib.Core.List.{List, [], ◌∷◌, ◌++◌}
-use Prim.Native.Nat.{ℕ, zero, suc, ◌+◌, ◌-◌, ◌≤◌, ◌<◌}
+use Prim.Native.Nat.{ℕ, zero, suc, ◌+◌, ◌-◌, ◌≤◌}
 use native.Mathlib.Nat.{sub-zero}
 use native.Mathlib.Omega.{arith}
-use lib.ListN.{length, take, drop, get_or, set, replicate, length-replicate}
-use lib.Seq.{drop-cons, sets, sets-eq}
+use lib.ListN.{length, take, drop, set, replicate, length-drop, length-replicate}
+use lib.Seq.{sets, sets-eq, drop-drop, length-take-le}
+use borrow.Rule.Slice.PartMut.{put_mid}
+use Rattle.std.proofs.Common.{append_assoc}
 use Rattle.frame.specs.Fields.{padded}
 
-module _ (out bytes : List ℕ) (at from n i : ℕ) where
-  -- what is left to copy
-  abbrev pub left : List ℕ
-  left = sets out (at + i) (take (n - i) (drop (from + i) bytes))
+-- what stands in a list after a part of it, n elements from a place on, came to be zs
+pub part_put : (at n : ℕ) (out ys zs : List ℕ) → ys ≡ zs → length zs ≡ n → at + n ≤ length out → put_mid at (at + n - at) out ys ≡ sets out at zs
+part_put at n out ys zs e k h =
+    let end : at + (at + n - at) ≡ at + length zs = omega (arith, k) in
+    rw (e, drop-drop, end) (sym (append_assoc (take at out) zs (drop (at + length zs) out))) ∙ sym (sets-eq zs out at (omega (arith, k)))
 
-  pub copy_step : i < n → from + n ≤ length bytes
-      → sets (set out (at + i) (get_or bytes (from + i) 0)) (at + (i + 1)) (take (n - (i + 1)) (drop (from + (i + 1)) bytes)) ≡ left
-  copy_step h k =
-      let e : n - i ≡ suc (n - (i + 1)) = omega arith in
-      let p : at + (i + 1) ≡ suc (at + i) = omega arith in
-      let q : from + (i + 1) ≡ suc (from + i) = omega arith in
-      ap₂ (λ (x y : ℕ). sets (set out (at + i) (get_or bytes (from + i) 0)) x (take (n - (i + 1)) (drop y bytes))) p q
-      ∙ sym (ap₂ (λ (x : ℕ) (y : List ℕ). sets out (at + i) (take x y)) e (drop-cons bytes (from + i) 0 (omega arith)))
-
-  pub copy_end : n ≤ i → left ≡ out
-  copy_end h = let e : n - i ≡ 0 = omega arith in ap (λ (x : ℕ). sets out (at + i) (take x (drop (from + i) bytes))) e
-
-pub copy_start : (out bytes : List ℕ) (at from n : ℕ) → sets out (at + 0) (take (n - 0) (drop (from + 0) bytes)) ≡ sets out at (take n (drop from bytes))
-copy_start out bytes at from n =
-    let p : at + 0 ≡ at = omega arith in
-    let q : from + 0 ≡ from = omega arith in
-    ap₂ (λ (x y : ℕ). sets out x (take (n - 0) (drop y bytes))) p q ∙ ap (λ (x : ℕ). sets out at (take x (drop from bytes))) (sub-zero n)
+-- a part of a list is as long as it says
+pub part_length : (l : List ℕ) (from n : ℕ) → from + n ≤ length l → length (take n (drop from l)) ≡ n
+part_length l from n h = length-take-le n (drop from l) (omega (arith, length-drop from l))
 
 abbrev pub zeros : ℕ → List ℕ
 zeros n = replicate n 0

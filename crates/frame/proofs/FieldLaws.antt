@@ -1,4 +1,5 @@
 -- A body's bytes in a longer array read the same; which bits they come from; and when a repair passes. Assumes nothing.
+use Rattle.std.proofs.Common.{Option, None, Some}
 use mathlib.Core.Path.{◌≡◌, refl, sym, ap, ap₂, ◌∙◌}
 use mathlib.Core.Bool.{Bool, true, false, cond, ◌&&◌}
 use mathlib.Core.List.{List, [], ◌∷◌, ◌++◌, map}
@@ -18,7 +19,7 @@ use Rattle.coding.proofs.Codes.{deconvolve-take}
 use Rattle.frame.specs.Sizes.{header_size, most_payload, most_auth, most_bytes, payload_size, auth_size, body_bytes}
 use Rattle.frame.specs.Fields.{byte_at, li, counter_of, device_of, payload_of, auth_of, bit_from, crc_right, padded, frame_from}
 use Rattle.frame.specs.Repairs.{repaired}
-use Rattle.frame.specs.Decode.{found, nothing, parse_body, passes}
+use Rattle.frame.specs.Decode.{is_right, parse_body, passes}
 use Rattle.frame.specs.Plain.{right_bits}
 use Rattle.frame.specs.Splices.{spliced}
 use Rattle.frame.specs.declared.splices.Splice.{Splice}
@@ -51,7 +52,7 @@ crc-front n b z h e =
     (ap₂ (λ (x y : ℕ). x * 256 + y) (at (n - 2) (omega arith)) (at (n - 1) (omega arith)))
 
 -- a frame by its fields
-abbrev made : FrameKind → Repair → ℕ → ℕ → ℕ → List ℕ → List ℕ → Bool → UplinkFrame
+abbrev made : FrameKind → Option Repair → ℕ → ℕ → ℕ → List ℕ → List ℕ → Bool → UplinkFrame
 made kind how first device counter payload auth ok = record {
   rank = kind.rank;
   device_id = device;
@@ -67,7 +68,7 @@ made kind how first device counter payload auth ok = record {
   repaired = how;
 }
 
-pub frame-front : (kind : FrameKind) (how : Repair) (b z : List ℕ) → length b ≡ body_bytes kind.class → byte_at b 0 < 256
+pub frame-front : (kind : FrameKind) (how : Option Repair) (b z : List ℕ) → length b ≡ body_bytes kind.class → byte_at b 0 < 256
     → frame_from kind how (b ++ z) ≡ frame_from kind how b
 unfolding frame_from
 frame-front kind how b z e h =
@@ -138,35 +139,35 @@ right_padded rank n l bytes h k e =
 
 -- ---- when a repair passes
 
-module _ (kind : FrameKind) (how : Repair) (body : List Bool) where
+module _ (kind : FrameKind) (how : Option Repair) (body : List Bool) where
   pub passes_is : passes kind body how ≡ right_bits kind.rank (body_bytes kind.class) (repaired how body)
   unfolding parse_body right_bits frame_from
   passes_is = go (leb (8 * body_bytes kind.class) (length (repaired how body)))
     where
       go : (b : Bool)
-          → (cond b (found (frame_from kind how (to_bytes (body_bytes kind.class) (deconvolved kind.rank fresh (repaired how body))))) nothing).frame.crc_ok
+          → is_right (cond b (Some (frame_from kind how (to_bytes (body_bytes kind.class) (deconvolved kind.rank fresh (repaired how body))))) None)
           ≡ b && crc_right (body_bytes kind.class) (to_bytes (body_bytes kind.class) (deconvolved kind.rank fresh (repaired how body)))
       go true = refl
       go false = refl
 
-  pub parse-short : length (repaired how body) < 8 * body_bytes kind.class → nothing ≡ parse_body kind how body
+  pub parse-short : length (repaired how body) < 8 * body_bytes kind.class → None ≡ parse_body kind how body
   unfolding parse_body
   parse-short h = simp (lt-leb _ _ h)
 
   -- from the bytes that the code has, with zeros after them
   pub parse-long : (l : List Bool) (bytes : List ℕ) → l ≡ repaired how body → 8 * body_bytes kind.class ≤ length l
-      → bytes ≡ padded most_bytes (to_bytes (body_bytes kind.class) (deconvolved kind.rank fresh l)) → found (frame_from kind how bytes) ≡ parse_body kind how body
+      → bytes ≡ padded most_bytes (to_bytes (body_bytes kind.class) (deconvolved kind.rank fresh l)) → Some (frame_from kind how bytes) ≡ parse_body kind how body
   unfolding parse_body
   parse-long l bytes e h g =
       let n = body_bytes kind.class in
       let b = to_bytes n (deconvolved kind.rank fresh l) in
-      ap (λ (x : List ℕ). found (frame_from kind how x)) g
-      ∙ ap found (frame-front kind how b (replicate (most_bytes - length b) 0) (length-bytes n (deconvolved kind.rank fresh l)) (byte-lt n 0 (deconvolved kind.rank fresh l)))
-      ∙ ap (λ (t : Bool). cond t (found (frame_from kind how b)) nothing) (sym (le-leb (8 * n) (length l) h))
-      ∙ ap (λ (x : List Bool). cond (leb (8 * n) (length x)) (found (frame_from kind how (to_bytes n (deconvolved kind.rank fresh x)))) nothing) e
+      ap (λ (x : List ℕ). Some (frame_from kind how x)) g
+      ∙ ap Some (frame-front kind how b (replicate (most_bytes - length b) 0) (length-bytes n (deconvolved kind.rank fresh l)) (byte-lt n 0 (deconvolved kind.rank fresh l)))
+      ∙ ap (λ (t : Bool). cond t (Some (frame_from kind how b)) None) (sym (le-leb (8 * n) (length l) h))
+      ∙ ap (λ (x : List Bool). cond (leb (8 * n) (length x)) (Some (frame_from kind how (to_bytes n (deconvolved kind.rank fresh x)))) None) e
 
 -- what the code's test of a splice says of the repair that it makes
-pub tested : (kind : FrameKind) (body : List ℕ) (how : Repair) (s : Splice) (n : ℕ) (r : Bool) → n ≡ body_bytes kind.class → Makes how body s
+pub tested : (kind : FrameKind) (body : List ℕ) (how : Option Repair) (s : Splice) (n : ℕ) (r : Bool) → n ≡ body_bytes kind.class → Makes how body s
     → r ≡ right_bits kind.rank n (spliced s (map odd body)) → passes kind (map odd body) how ≡ r
 tested kind body how s n r e m f =
     passes_is kind how (map odd body)

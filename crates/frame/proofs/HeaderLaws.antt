@@ -7,13 +7,12 @@ use lib.ListN.{length, take, drop, length-append}
 use lib.Seq.{sets, sets-eq, take-length}
 use borrow.Author.Tests.{lt-ltb, le-ltb}
 use Rattle.limits.specs.Limits.{short, bad_number}
-use Rattle.limits.specs.Answer.{answer, leaves}
+use Rattle.limits.specs.Answer.{refused, accepted, answer, leaves}
 use Rattle.coding.specs.Bits.{bit_of}
 use Rattle.endian.specs.Bytes.{bytes_of}
 use Rattle.frame.specs.Sizes.{header_size, most_payload, auth_size}
-use Rattle.frame.specs.Header.{size_class, size_li, class_of, li_of, header_bytes, most_header, header_cause, said, header_answer, header_out}
+use Rattle.frame.specs.Header.{size_class, size_li, class_of, li_of, header_bytes, most_header, header_cause, header_answer, header_out}
 use Rattle.frame.specs.declared.header.UplinkFields.{UplinkFields}
-use Rattle.frame.specs.declared.header.UplinkHeader.TheVariants.{Refused, Made}
 use Rattle.frame.proofs.CopyLaws.{sets_then}
 
 -- ---- two bytes and more
@@ -57,20 +56,22 @@ written out a b c d f payload x y ea eb ec ed ex ey =
 -- ---- the answers
 
 module _ (f : UplinkFields) (payload out : List ℕ) where
-  pub header_short : length out < most_header → (said (Refused short) ≡ header_answer f payload out) × (out ≡ header_out f payload out)
-  unfolding said answer leaves header_answer header_out header_cause
+  pub header_short : length out < most_header → (refused short ≡ header_answer f payload out) × (out ≡ header_out f payload out)
+  unfolding answer leaves header_answer header_out header_cause
   header_short h = (simp (lt-ltb _ _ h), simp (lt-ltb _ _ h))
 
   module _ (h : most_header ≤ length out) where
-    pub header-long : most_payload < length payload → (said (Refused bad_number) ≡ header_answer f payload out) × (out ≡ header_out f payload out)
-    unfolding said answer leaves header_answer header_out header_cause
+    pub header-long : most_payload < length payload → (refused bad_number ≡ header_answer f payload out) × (out ≡ header_out f payload out)
+    unfolding answer leaves header_answer header_out header_cause
     header-long k = (simp (le-ltb _ _ h, lt-ltb _ _ k), simp (le-ltb _ _ h, lt-ltb _ _ k))
 
     pub header_made : length payload ≤ most_payload → (class auth : ℕ) → class ≡ class_of f.bit (length payload)
-        → auth ≡ auth_size class (li_of f.bit (length payload)) → said (Made (header_size + length payload) class auth) ≡ header_answer f payload out
-    unfolding said answer header_answer header_cause
+        → auth ≡ auth_size class (li_of f.bit (length payload))
+        → accepted (record { size = header_size + length payload; class = class; auth_size = auth }) ≡ header_answer f payload out
+    unfolding answer header_answer header_cause
     header_made k class auth e g =
-        ap₂ (λ (c a : ℕ). said (Made (header_size + length payload) c a)) e (g ∙ ap (λ (c : ℕ). auth_size c (li_of f.bit (length payload))) e)
+        ap₂ (λ (c a : ℕ). accepted (record { size = header_size + length payload; class = c; auth_size = a })) e
+        (g ∙ ap (λ (c : ℕ). auth_size c (li_of f.bit (length payload))) e)
         ∙ simp (le-ltb _ _ h, le-ltb _ _ k)
 
     pub header-written : length payload ≤ most_payload → sets out 0 (header_bytes f payload) ≡ header_out f payload out

@@ -1,4 +1,5 @@
 -- The frame types in numbers, and the search of their table. Assumes nothing.
+use Rattle.std.proofs.Common.{None, Some}
 use mathlib.Core.Path.{◌≡◌, refl, sym, ap, ◌∙◌}
 use mathlib.Core.Bool.{Bool, true, false, cond, ◌&&◌}
 use mathlib.Core.List.{List, [], ◌∷◌, ◌++◌, map}
@@ -11,9 +12,8 @@ use lib.Seq.{drop-cons, get_or-append-add}
 use borrow.Author.Tests.{eq-eqb, ne_eqb, leb-true}
 use Rattle.limits.proofs.Samples.{and_left, and_right}
 use Rattle.coding.specs.Bits.{digits, value}
-use Rattle.frame.specs.Kinds.{alternating, preamble, sync_bits, control, plain, kinds_of, kinds, blank_kind, choose_kind, kind_of}
+use Rattle.frame.specs.Kinds.{alternating, preamble, sync_bits, control, plain, kinds_of, kinds, blank_kind, kind_of}
 use Rattle.frame.specs.declared.kinds.FrameKind.{FrameKind}
-use Rattle.frame.specs.declared.kinds.FoundKind.TheVariants.{Unknown, Known}
 
 -- the Rust's numbers
 abbrev pub rust_types : List ℕ
@@ -80,20 +80,20 @@ row_plain r m e = ap (λ (b : Bool). cond b (control r) (plain r (m - 1))) (sym 
 
 module _ (ft i : ℕ) (h : i < 18) where
   split : kind_of ft (drop i kinds)
-      ≡ choose_kind (eqb (word_of (get_or kinds i blank_kind)) ft) (Known (get_or kinds i blank_kind)) (kind_of ft (drop (suc i) kinds))
+      ≡ cond (eqb (word_of (get_or kinds i blank_kind)) ft) (Some (get_or kinds i blank_kind)) (kind_of ft (drop (suc i) kinds))
   unfolding kind_of
   split = ap (kind_of ft) (drop-cons kinds i blank_kind h)
 
-  pub kind_here : word_of (get_or kinds i blank_kind) ≡ ft → Known (get_or kinds i blank_kind) ≡ kind_of ft (drop i kinds)
+  pub kind_here : word_of (get_or kinds i blank_kind) ≡ ft → Some (get_or kinds i blank_kind) ≡ kind_of ft (drop i kinds)
   kind_here e =
-      sym (split ∙ ap (λ (b : Bool). choose_kind b (Known (get_or kinds i blank_kind)) (kind_of ft (drop (suc i) kinds))) (eq-eqb (word_of (get_or kinds i blank_kind)) ft e))
+      sym (split ∙ ap (λ (b : Bool). cond b (Some (get_or kinds i blank_kind)) (kind_of ft (drop (suc i) kinds))) (eq-eqb (word_of (get_or kinds i blank_kind)) ft e))
 
   pub kind-later : (word_of (get_or kinds i blank_kind) ≡ ft → ⊥) → kind_of ft (drop (i + 1) kinds) ≡ kind_of ft (drop i kinds)
   kind-later e =
       ap (λ (j : ℕ). kind_of ft (drop j kinds)) (add-one i)
-      ∙ sym (split ∙ ap (λ (b : Bool). choose_kind b (Known (get_or kinds i blank_kind)) (kind_of ft (drop (suc i) kinds))) (ne_eqb (word_of (get_or kinds i blank_kind)) ft e))
+      ∙ sym (split ∙ ap (λ (b : Bool). cond b (Some (get_or kinds i blank_kind)) (kind_of ft (drop (suc i) kinds))) (ne_eqb (word_of (get_or kinds i blank_kind)) ft e))
 
-pub no_kind : (ft i : ℕ) → 18 ≤ i → Unknown ≡ kind_of ft (drop i kinds)
+pub no_kind : (ft i : ℕ) → 18 ≤ i → None ≡ kind_of ft (drop i kinds)
 unfolding kind_of
 no_kind ft i h = sym (ap (kind_of ft) (drop_of_length-le kinds {i = i} h))
 
@@ -110,20 +110,20 @@ kinds-good : all_good kinds ≡ true
 unfolding all_good
 kinds-good = refl
 
-good_in : (ft : ℕ) (l : List FrameKind) (k : FrameKind) → all_good l ≡ true → kind_of ft l ≡ Known k → good_kind k ≡ true
+good_in : (ft : ℕ) (l : List FrameKind) (k : FrameKind) → all_good l ≡ true → kind_of ft l ≡ Some k → good_kind k ≡ true
 unfolding kind_of all_good
 good_in ft [] k a e = absurd (let z : ◌≡◌ {A = ℕ} 0 1 = cc in omega arith)
 good_in ft (x ∷ l) k a e = go (eqb (word_of x) ft) (good_kind x) (all_good l) a refl refl e (good_in ft l k)
   where
-    go : (b g r : Bool) → g && r ≡ true → g ≡ good_kind x → r ≡ all_good l → choose_kind b (Known x) (kind_of ft l) ≡ Known k
-        → (all_good l ≡ true → kind_of ft l ≡ Known k → good_kind k ≡ true) → good_kind k ≡ true
+    go : (b g r : Bool) → g && r ≡ true → g ≡ good_kind x → r ≡ all_good l → cond b (Some x) (kind_of ft l) ≡ Some k
+        → (all_good l ≡ true → kind_of ft l ≡ Some k → good_kind k ≡ true) → good_kind k ≡ true
     go true true r a f h e i = let z : x ≡ k = cc in ap good_kind (sym z) ∙ sym f
     go false true r a f h e i = i (sym h ∙ a) e
     go true false r a f h e i = absurd (let z : false ≡ true = a in let y : ◌≡◌ {A = ℕ} 0 1 = cc in omega arith)
     go false false r a f h e i = absurd (let z : false ≡ true = a in let y : ◌≡◌ {A = ℕ} 0 1 = cc in omega arith)
 
-pub found_rank : (ft : ℕ) (k : FrameKind) → kind_of ft kinds ≡ Known k → k.rank ≤ 2
+pub found_rank : (ft : ℕ) (k : FrameKind) → kind_of ft kinds ≡ Some k → k.rank ≤ 2
 found_rank ft k e = leb-true k.rank 2 (and_left (leb k.rank 2) (leb k.class 4) (good_in ft kinds k kinds-good e))
 
-pub found_class : (ft : ℕ) (k : FrameKind) → kind_of ft kinds ≡ Known k → k.class ≤ 4
+pub found_class : (ft : ℕ) (k : FrameKind) → kind_of ft kinds ≡ Some k → k.class ≤ 4
 found_class ft k e = leb-true k.class 4 (and_right (leb k.rank 2) (leb k.class 4) (good_in ft kinds k kinds-good e))

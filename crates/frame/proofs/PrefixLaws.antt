@@ -1,4 +1,5 @@
 -- Which bits decoding reads: no repair past a frame's bits matters, and none past the 215th bit is read. Assumes nothing.
+use Rattle.std.proofs.Common.{Option, None, Some}
 use mathlib.Core.Path.{◌≡◌, refl, sym, ap, ap₂, ◌∙◌}
 use mathlib.Core.Bool.{Bool, true, false, not, cond}
 use mathlib.Core.List.{List, [], ◌∷◌, ◌++◌}
@@ -13,15 +14,12 @@ use Rattle.frame.specs.Kinds.{sync_size, kinds, kind_of}
 use Rattle.frame.specs.Sizes.{body_bytes}
 use Rattle.frame.specs.Fields.{frame_from}
 use Rattle.frame.specs.Repairs.{replaced, repaired, repairs, first_of}
-use Rattle.frame.specs.Decode.{found, nothing, parse_body, passes, first_repair, decode_body, decide_at, first_start, starts, search_from, decode_uplink}
+use Rattle.frame.specs.Decode.{is_right, parse_body, passes, mends, first_repair, decode_body, decide_at, first_start, starts, search_from, decode_uplink}
 use Rattle.frame.specs.Plain.{right_bits}
 use Rattle.frame.specs.Splices.{placed}
 use Rattle.frame.specs.declared.kinds.FrameKind.{FrameKind}
-use Rattle.frame.specs.declared.kinds.FoundKind.{FoundKind}
-use Rattle.frame.specs.declared.kinds.FoundKind.TheVariants.{Unknown, Known}
 use Rattle.frame.specs.declared.Repair.{Repair}
-use Rattle.frame.specs.declared.Repair.TheVariants.{Unchanged, Inserted, Deleted, Flipped}
-use Rattle.frame.specs.declared.DecodedUplink.{DecodedUplink}
+use Rattle.frame.specs.declared.Repair.TheVariants.{Inserted, Deleted, Flipped}
 use Rattle.frame.proofs.KindLaws.{found_class}
 use Rattle.frame.proofs.SpliceLaws.{length-replaced, take-replaced}
 use Rattle.frame.proofs.SizeLaws.{body_most}
@@ -35,50 +33,50 @@ module _ (kind : FrameKind) where
   abbrev pub total : ℕ
   total = 8 * body_bytes kind.class
 
-  module _ (l : List Bool) (e : passes kind l Unchanged ≡ false) where
-    past : total ≤ length l → (how : Repair) (at : ℕ) (middle : List Bool) (skip : ℕ) → repaired how l ≡ replaced at middle skip l → skip ≤ 1 → total ≤ at → at < length l
+  module _ (l : List Bool) (e : passes kind l None ≡ false) where
+    past : total ≤ length l → (how : Option Repair) (at : ℕ) (middle : List Bool) (skip : ℕ) → repaired how l ≡ replaced at middle skip l → skip ≤ 1 → total ≤ at → at < length l
         → passes kind l how ≡ false
     unfolding repaired
     past a how at middle skip f s t u =
         passes_is kind how l ∙ ap (right_bits kind.rank (body_bytes kind.class)) f
         ∙ right_same kind.rank (body_bytes kind.class) (replaced at middle skip l) l (omega (arith, length-replaced at middle skip l (omega arith))) a
         (take-replaced at middle skip l (omega arith) total t)
-        ∙ sym (passes_is kind Unchanged l) ∙ e
+        ∙ sym (passes_is kind None l) ∙ e
 
-    later : total ≤ length l → first_of (passes kind l) (repairs (length l - total) (0 + total)) ≡ Unchanged
+    later : total ≤ length l → first_of (mends kind l) (repairs (length l - total) (0 + total)) ≡ None
     unfolding repaired
     later a =
-        agree (passes kind l) (λ how. false) (length l - total) (0 + total)
+        agree (mends kind l) (λ how. false) (length l - total) (0 + total)
         (λ j b c. (
-          past a (Inserted true j) j (true ∷ []) 0 refl (omega arith) (omega arith) (omega arith),
-          past a (Inserted false j) j (false ∷ []) 0 refl (omega arith) (omega arith) (omega arith),
-          past a (Deleted j) j [] 1 refl (omega arith) (omega arith) (omega arith),
-          past a (Flipped j) j (not (get_or l j false) ∷ []) 1 refl (omega arith) (omega arith) (omega arith),
+          past a (Some (Inserted true j)) j (true ∷ []) 0 refl (omega arith) (omega arith) (omega arith),
+          past a (Some (Inserted false j)) j (false ∷ []) 0 refl (omega arith) (omega arith) (omega arith),
+          past a (Some (Deleted j)) j [] 1 refl (omega arith) (omega arith) (omega arith),
+          past a (Some (Flipped j)) j (not (get_or l j false) ∷ []) 1 refl (omega arith) (omega arith) (omega arith),
         ))
         ∙ none_passes (length l - total) (0 + total)
 
-    pub first-within : total ≤ length l → first_repair kind l ≡ first_of (passes kind l) (repairs total 0)
+    pub first-within : total ≤ length l → first_repair kind l ≡ first_of (mends kind l) (repairs total 0)
     unfolding first_repair
     first-within a =
-        ap (λ (n : ℕ). first_of (passes kind l) (repairs n 0)) (let z : length l ≡ total + (length l - total) = omega arith in z)
-        ∙ first_few (passes kind l) total (length l - total) 0 (later a)
+        ap (λ (n : ℕ). first_of (mends kind l) (repairs n 0)) (let z : length l ≡ total + (length l - total) = omega arith in z)
+        ∙ first_few (mends kind l) total (length l - total) 0 (later a)
 
     -- the places that the code tries
-    pub first-least : (end : ℕ) → end ≡ min (length l) total → first_repair kind l ≡ first_of (passes kind l) (repairs end 0)
+    pub first-least : (end : ℕ) → end ≡ min (length l) total → first_repair kind l ≡ first_of (mends kind l) (repairs end 0)
     unfolding first_repair
     first-least end f = go (leb (length l) total) (leb-true (length l) total) (leb-false (length l) total)
       where
-        go : (b : Bool) → (b ≡ true → length l ≤ total) → (b ≡ false → total < length l) → first_repair kind l ≡ first_of (passes kind l) (repairs end 0)
-        go true g h = let k = g refl in ap (λ (n : ℕ). first_of (passes kind l) (repairs n 0)) (let e : length l ≡ end = omega arith in e)
-        go false g h = let k = h refl in first-within (omega arith) ∙ ap (λ (n : ℕ). first_of (passes kind l) (repairs n 0)) (let e : total ≡ end = omega arith in e)
+        go : (b : Bool) → (b ≡ true → length l ≤ total) → (b ≡ false → total < length l) → first_repair kind l ≡ first_of (mends kind l) (repairs end 0)
+        go true g h = let k = g refl in ap (λ (n : ℕ). first_of (mends kind l) (repairs n 0)) (let e : length l ≡ end = omega arith in e)
+        go false g h = let k = h refl in first-within (omega arith) ∙ ap (λ (n : ℕ). first_of (mends kind l) (repairs n 0)) (let e : total ≡ end = omega arith in e)
 
   -- ---- a body and its first n bits
 
-  parse_same : (how : Repair) (l m : List Bool) → total ≤ length (repaired how l) → total ≤ length (repaired how m) → take total (repaired how l) ≡ take total (repaired how m)
+  parse_same : (how : Option Repair) (l m : List Bool) → total ≤ length (repaired how l) → total ≤ length (repaired how m) → take total (repaired how l) ≡ take total (repaired how m)
       → parse_body kind how l ≡ parse_body kind how m
   unfolding parse_body
   parse_same how l m a b e =
-      ap₂ (λ (t : Bool) (x : List ℕ). cond t (found (frame_from kind how x)) nothing)
+      ap₂ (λ (t : Bool) (x : List ℕ). cond t (Some (frame_from kind how x)) None)
       (le-leb total (length (repaired how l)) a ∙ sym (le-leb total (length (repaired how m)) b))
       (bytes_same kind.rank (body_bytes kind.class) (repaired how l) (repaired how m) e)
 
@@ -97,7 +95,7 @@ module _ (kind : FrameKind) where
         ∙ ap (λ (x : List Bool). take at l ++ x) (sym (take-append-add middle r j))
         ∙ sym (ap (λ (i : ℕ). take (i + (length middle + j)) (take at l ++ (middle ++ r))) (sym e) ∙ take-append-add (take at l) (middle ++ r) (length middle + j))
 
-    cut : (how : Repair) (at : ℕ) (middle : List Bool) (skip : ℕ) → repaired how (take n l) ≡ replaced at middle skip (take n l) → repaired how l ≡ replaced at middle skip l
+    cut : (how : Option Repair) (at : ℕ) (middle : List Bool) (skip : ℕ) → repaired how (take n l) ≡ replaced at middle skip (take n l) → repaired how l ≡ replaced at middle skip l
         → skip ≤ 1 → at < total → parse_body kind how (take n l) ≡ parse_body kind how l
     cut how at middle skip f g s t =
         parse_same how (take n l) l
@@ -106,29 +104,29 @@ module _ (kind : FrameKind) where
         (ap (take total) (f ∙ replaced-take at middle skip (omega arith))
         ∙ take-take total (at + (length middle + (n - (at + skip)))) (replaced at middle skip l) (omega arith) ∙ ap (take total) (sym g))
 
-    parse-cut : (how : Repair) → placed how total ≡ true → parse_body kind how (take n l) ≡ parse_body kind how l
+    parse-cut : (how : Option Repair) → placed how total ≡ true → parse_body kind how (take n l) ≡ parse_body kind how l
     unfolding repaired placed
-    parse-cut Unchanged h = parse_same Unchanged (take n l) l (omega (arith, length_cut)) (omega arith) (take-take total n l (omega arith))
-    parse-cut (Inserted x at) h = cut (Inserted x at) at (x ∷ []) 0 refl refl (omega arith) (ltb-true at total h)
-    parse-cut (Deleted at) h = cut (Deleted at) at [] 1 refl refl (omega arith) (ltb-true at total h)
-    parse-cut (Flipped at) h =
+    parse-cut None h = parse_same None (take n l) l (omega (arith, length_cut)) (omega arith) (take-take total n l (omega arith))
+    parse-cut (Some (Inserted x at)) h = cut (Some (Inserted x at)) at (x ∷ []) 0 refl refl (omega arith) (ltb-true at total h)
+    parse-cut (Some (Deleted at)) h = cut (Some (Deleted at)) at [] 1 refl refl (omega arith) (ltb-true at total h)
+    parse-cut (Some (Flipped at)) h =
         let k = ltb-true at total h in
-        cut (Flipped at) at (not (get_or l at false) ∷ []) 1
+        cut (Some (Flipped at)) at (not (get_or l at false) ∷ []) 1
         (ap (λ (x : Bool). replaced at (not x ∷ []) 1 (take n l)) (get_or-take n l at false (omega arith))) refl (omega arith) k
 
-    passes-cut : (how : Repair) → placed how total ≡ true → passes kind (take n l) how ≡ passes kind l how
-    passes-cut how h = ap (λ (d : DecodedUplink). d.frame.crc_ok) (parse-cut how h)
+    passes-cut : (how : Option Repair) → placed how total ≡ true → passes kind (take n l) how ≡ passes kind l how
+    passes-cut how h = ap is_right (parse-cut how h)
 
-    first-cut : passes kind l Unchanged ≡ false → first_repair kind (take n l) ≡ first_repair kind l
+    first-cut : passes kind l None ≡ false → first_repair kind (take n l) ≡ first_repair kind l
     unfolding placed
     first-cut e =
-        first-within (take n l) (passes-cut Unchanged refl ∙ e) (omega (arith, length_cut))
-        ∙ agree (passes kind (take n l)) (passes kind l) total 0
+        first-within (take n l) (passes-cut None refl ∙ e) (omega (arith, length_cut))
+        ∙ agree (mends kind (take n l)) (mends kind l) total 0
         (λ j u v. (
-          passes-cut (Inserted true j) (in_reach j v),
-          passes-cut (Inserted false j) (in_reach j v),
-          passes-cut (Deleted j) (in_reach j v),
-          passes-cut (Flipped j) (in_reach j v),
+          passes-cut (Some (Inserted true j)) (in_reach j v),
+          passes-cut (Some (Inserted false j)) (in_reach j v),
+          passes-cut (Some (Deleted j)) (in_reach j v),
+          passes-cut (Some (Flipped j)) (in_reach j v),
         ))
         ∙ sym (first-within l e (omega arith))
       where
@@ -137,19 +135,19 @@ module _ (kind : FrameKind) where
 
     decode-cut : decode_body kind (take n l) ≡ decode_body kind l
     unfolding decode_body placed
-    decode-cut = go (passes kind l Unchanged) refl
+    decode-cut = go (passes kind l None) refl
       where
-        chosen : Bool → List Bool → Repair
-        chosen t m = cond t Unchanged (first_repair kind m)
+        chosen : Bool → List Bool → Option Repair
+        chosen t m = cond t None (first_repair kind m)
 
-        go : (t : Bool) → passes kind l Unchanged ≡ t → parse_body kind (chosen (passes kind (take n l) Unchanged) (take n l)) (take n l) ≡ parse_body kind (chosen (passes kind l Unchanged) l) l
+        go : (t : Bool) → passes kind l None ≡ t → parse_body kind (chosen (passes kind (take n l) None) (take n l)) (take n l) ≡ parse_body kind (chosen (passes kind l None) l) l
         go true e =
-            ap (λ (t : Bool). parse_body kind (chosen t (take n l)) (take n l)) (passes-cut Unchanged refl ∙ e) ∙ parse-cut Unchanged refl
+            ap (λ (t : Bool). parse_body kind (chosen t (take n l)) (take n l)) (passes-cut None refl ∙ e) ∙ parse-cut None refl
             ∙ sym (ap (λ (t : Bool). parse_body kind (chosen t l) l) e)
         go false e =
-            ap (λ (t : Bool). parse_body kind (chosen t (take n l)) (take n l)) (passes-cut Unchanged refl ∙ e)
-            ∙ ap (λ (h : Repair). parse_body kind h (take n l)) (first-cut e)
-            ∙ parse-cut (first_repair kind l) (ap (λ (h : Repair). placed h total) (first-within l e (omega arith)) ∙ first_below (passes kind l) total)
+            ap (λ (t : Bool). parse_body kind (chosen t (take n l)) (take n l)) (passes-cut None refl ∙ e)
+            ∙ ap (λ (h : Option Repair). parse_body kind h (take n l)) (first-cut e)
+            ∙ parse-cut (first_repair kind l) (ap (λ (h : Option Repair). placed h total) (first-within l e (omega arith)) ∙ first_below (mends kind l) total)
             ∙ sym (ap (λ (t : Bool). parse_body kind (chosen t l) l) e)
 
 -- ---- the starts
@@ -164,10 +162,10 @@ search_cut (suc m) start n l h a b =
     rw (le-leb (start + sync_size) (length (take n l)) (omega arith), le-leb (start + sync_size) (length l) (omega arith), w)
     (go (kind_of (value (take sync_size (drop start l))) kinds) refl (search_cut m (suc start) n l (omega arith) a b))
   where
-    go : (x : FoundKind) → kind_of (value (take sync_size (drop start l))) kinds ≡ x → search_from m (suc start) (take n l) ≡ search_from m (suc start) l
+    go : (x : Option FrameKind) → kind_of (value (take sync_size (drop start l))) kinds ≡ x → search_from m (suc start) (take n l) ≡ search_from m (suc start) l
         → decide_at x (drop (start + sync_size) (take n l)) (search_from m (suc start) (take n l)) ≡ decide_at x (drop (start + sync_size) l) (search_from m (suc start) l)
-    go Unknown f r = r
-    go (Known kind) f r =
+    go None f r = r
+    go (Some kind) f r =
         ap (decode_body kind) (drop-take (start + sync_size) n l)
         ∙ decode-cut kind (n - (start + sync_size)) (drop (start + sync_size) l)
         (omega (arith, body_most kind.class (found_class (value (take sync_size (drop start l))) kind f))) (omega (arith, length-drop (start + sync_size) l))

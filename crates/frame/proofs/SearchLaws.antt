@@ -1,4 +1,5 @@
 -- Decoding a body and searching the starts, step by step. Assumes nothing.
+use Rattle.std.proofs.Common.{Option, None, Some}
 use mathlib.Core.Path.{◌≡◌, refl, sym, ap, ◌∙◌}
 use mathlib.Core.Bool.{Bool, true, false, cond}
 use mathlib.Core.List.{List, [], ◌∷◌, map}
@@ -9,64 +10,62 @@ use lib.ListN.{length, take, drop, length-drop}
 use lib.Seq.{take_all}
 use borrow.Author.Tests.{le-leb, lt-leb, lt-ltb, le-ltb}
 use Rattle.limits.specs.Limits.{most_bits, long, bad_number}
+use Rattle.limits.specs.Answer.{refused, accepted}
 use Rattle.coding.specs.Bits.{odd, value, are_bits}
 use Rattle.coding.proofs.BitLaws.{length-map-odd}
 use Rattle.frame.specs.Kinds.{sync_size, kinds, kind_of}
 use Rattle.frame.specs.Repairs.{repairs, first_of}
-use Rattle.frame.specs.Decode.{nothing, refused, parse_body, passes, first_repair, decode_body, decide_at, search_from, decode_uplink, uplink_answer}
+use Rattle.frame.specs.Decode.{parse_body, passes, mends, first_repair, decode_body, decide_at, search_from, decode_uplink, uplink_answer}
 use Rattle.frame.specs.Splices.{placed}
 use Rattle.frame.specs.declared.kinds.FrameKind.{FrameKind}
-use Rattle.frame.specs.declared.kinds.FoundKind.{FoundKind}
-use Rattle.frame.specs.declared.kinds.FoundKind.TheVariants.{Unknown, Known}
 use Rattle.frame.specs.declared.Repair.{Repair}
-use Rattle.frame.specs.declared.Repair.TheVariants.{Unchanged}
 use Rattle.frame.proofs.RepairLaws.{first_below}
 
 -- ---- a body
 
 module _ (kind : FrameKind) (l : List Bool) where
-  pub decode_right : passes kind l Unchanged ≡ true → parse_body kind Unchanged l ≡ decode_body kind l
+  pub decode_right : passes kind l None ≡ true → parse_body kind None l ≡ decode_body kind l
   unfolding decode_body
-  decode_right e = ap (λ (b : Bool). parse_body kind (cond b Unchanged (first_repair kind l)) l) (sym e)
+  decode_right e = ap (λ (b : Bool). parse_body kind (cond b None (first_repair kind l)) l) (sym e)
 
-  pub decode_mended : (how : Repair) → passes kind l Unchanged ≡ false → how ≡ first_repair kind l → parse_body kind how l ≡ decode_body kind l
+  pub decode_mended : (how : Option Repair) → passes kind l None ≡ false → how ≡ first_repair kind l → parse_body kind how l ≡ decode_body kind l
   unfolding decode_body
-  decode_mended how e f = ap (λ (h : Repair). parse_body kind h l) f ∙ ap (λ (b : Bool). parse_body kind (cond b Unchanged (first_repair kind l)) l) (sym e)
+  decode_mended how e f = ap (λ (h : Option Repair). parse_body kind h l) f ∙ ap (λ (b : Bool). parse_body kind (cond b None (first_repair kind l)) l) (sym e)
 
-pub repair-placed : (kind : FrameKind) (body : List ℕ) (how : Repair) → how ≡ first_repair kind (map odd body) → placed how (length body) ≡ true
+pub repair-placed : (kind : FrameKind) (body : List ℕ) (how : Option Repair) → how ≡ first_repair kind (map odd body) → placed how (length body) ≡ true
 unfolding first_repair
 repair-placed kind body how e =
-    ap (λ (h : Repair). placed h (length body)) e
-    ∙ ap (λ (n : ℕ). placed (first_of (passes kind (map odd body)) (repairs (length (map odd body)) 0)) n) (sym (length-map-odd body))
-    ∙ first_below (passes kind (map odd body)) (length (map odd body))
+    ap (λ (h : Option Repair). placed h (length body)) e
+    ∙ ap (λ (n : ℕ). placed (first_of (mends kind (map odd body)) (repairs (length (map odd body)) 0)) n) (sym (length-map-odd body))
+    ∙ first_below (mends kind (map odd body)) (length (map odd body))
 
 -- ---- the starts
 
 module _ (n start : ℕ) (l : List Bool) where
-  pub search_short : length l < start + sync_size → nothing ≡ search_from n start l
+  pub search_short : length l < start + sync_size → None ≡ search_from n start l
   search_short h = go n
     where
-      go : (m : ℕ) → nothing ≡ search_from m start l
+      go : (m : ℕ) → None ≡ search_from m start l
       go zero = unfold search_from in refl
       go (suc m) = unfold search_from in simp (lt-leb _ _ h)
 
-  module _ (h : start + sync_size ≤ length l) (x : FoundKind) (e : x ≡ kind_of (value (take sync_size (drop start l))) kinds) where
+  module _ (h : start + sync_size ≤ length l) (x : Option FrameKind) (e : x ≡ kind_of (value (take sync_size (drop start l))) kinds) where
     decided : decide_at x (drop (start + sync_size) l) (search_from n (suc start) l) ≡ search_from (suc n) start l
     unfolding search_from
     decided =
-        ap (λ (y : FoundKind). decide_at y (drop (start + sync_size) l) (search_from n (suc start) l)) e
-        ∙ ap (λ (b : Bool). cond b (decide_at (kind_of (value (take sync_size (drop start l))) kinds) (drop (start + sync_size) l) (search_from n (suc start) l)) nothing)
+        ap (λ (y : Option FrameKind). decide_at y (drop (start + sync_size) l) (search_from n (suc start) l)) e
+        ∙ ap (λ (b : Bool). cond b (decide_at (kind_of (value (take sync_size (drop start l))) kinds) (drop (start + sync_size) l) (search_from n (suc start) l)) None)
         (sym (le-leb (start + sync_size) (length l) h))
 
-    pub search-found : (kind : FrameKind) → x ≡ Known kind → decode_body kind (drop (start + sync_size) l) ≡ search_from (suc n) start l
-    search-found kind f = ap (λ (y : FoundKind). decide_at y (drop (start + sync_size) l) (search_from n (suc start) l)) (sym f) ∙ decided
+    pub search-found : (kind : FrameKind) → x ≡ Some kind → decode_body kind (drop (start + sync_size) l) ≡ search_from (suc n) start l
+    search-found kind f = ap (λ (y : Option FrameKind). decide_at y (drop (start + sync_size) l) (search_from n (suc start) l)) (sym f) ∙ decided
 
-    pub search-later : x ≡ Unknown → search_from n (start + 1) l ≡ search_from (suc n) start l
+    pub search-later : x ≡ None → search_from n (start + 1) l ≡ search_from (suc n) start l
     search-later f =
         ap (λ (k : ℕ). search_from n k l) (add-one start)
-        ∙ ap (λ (y : FoundKind). decide_at y (drop (start + sync_size) l) (search_from n (suc start) l)) (sym f) ∙ decided
+        ∙ ap (λ (y : Option FrameKind). decide_at y (drop (start + sync_size) l) (search_from n (suc start) l)) (sym f) ∙ decided
 
-pub search_none : (n start : ℕ) (l : List Bool) → n ≡ 0 → nothing ≡ search_from n start l
+pub search_none : (n start : ℕ) (l : List Bool) → n ≡ 0 → None ≡ search_from n start l
 unfolding search_from
 search_none n start l e = ap (λ (k : ℕ). search_from k start l) (sym e)
 
@@ -94,6 +93,6 @@ module _ (bits : List ℕ) where
   unfolding uplink_answer
   answer_bad h e = simp (le-ltb _ _ h, e)
 
-  pub answer_is : length bits ≤ most_bits → are_bits bits ≡ true → decode_uplink (map odd bits) ≡ uplink_answer bits
+  pub answer_is : length bits ≤ most_bits → are_bits bits ≡ true → accepted (decode_uplink (map odd bits)) ≡ uplink_answer bits
   unfolding uplink_answer
   answer_is h e = simp (le-ltb _ _ h, e)

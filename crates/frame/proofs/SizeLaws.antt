@@ -1,4 +1,5 @@
 -- The sizes of a frame's parts: that LI cancels, and bounds. Assumes nothing.
+use Rattle.std.proofs.Common.{None, Some}
 use mathlib.Core.Path.{◌≡◌, refl, sym, ap}
 use mathlib.Core.Bool.{Bool, true, false, cond, ◌&&◌}
 use Prim.Native.Nat.{ℕ, zero, suc, ◌+◌, ◌-◌, ◌*◌, ◌≤◌, ◌<◌}
@@ -7,7 +8,6 @@ use lib.Dec.{eqb}
 use borrow.Author.Tests.{ne_eqb, le-leb, lt-leb}
 use Rattle.frame.specs.Sizes.{header_size, crc_size, most_payload, most_auth, most_bytes, payload_size, auth_size, body_bytes}
 use Rattle.frame.specs.Fields.{bit_from}
-use Rattle.frame.specs.declared.SingleBit.TheVariants.{Absent, Is}
 
 -- ---- by class
 
@@ -73,18 +73,18 @@ body_least (suc (suc c)) = omega arith
 
 -- ---- the single bit
 
-pub bit_is : (c li : ℕ) → c ≡ 0 → 2 ≤ li → Is (eqb li 3) ≡ bit_from c li
+pub bit_is : (c li : ℕ) → c ≡ 0 → 2 ≤ li → Some (eqb li 3) ≡ bit_from c li
 unfolding bit_from
 bit_is c li e h = simp (e, le-leb 2 li h)
 
-pub bit-low : (c li : ℕ) → li < 2 → Absent ≡ bit_from c li
+pub bit-low : (c li : ℕ) → li < 2 → None ≡ bit_from c li
 unfolding bit_from
 bit-low c li h = simp (lt-leb 2 li h) (go (eqb c 0))
   where
-    go : (b : Bool) → Absent ≡ cond (b && false) (Is (eqb li 3)) Absent
+    go : (b : Bool) → None ≡ cond (b && false) (Some (eqb li 3)) None
     go true = refl
     go false = refl
 
-pub bit_none : (c li : ℕ) → (c ≡ 0 → ⊥) → Absent ≡ bit_from c li
+pub bit_none : (c li : ℕ) → (c ≡ 0 → ⊥) → None ≡ bit_from c li
 unfolding bit_from
 bit_none c li h = simp (ne_eqb c 0 h)

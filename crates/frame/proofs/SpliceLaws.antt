@@ -1,4 +1,5 @@
 -- The bits of a body with a splice, by index, and the splice of each repair. Assumes nothing.
+use Rattle.std.proofs.Common.{Option, None, Some}
 use mathlib.Core.Path.{◌≡◌, refl, sym, ap, ◌∙◌, subst}
 use mathlib.Core.Bool.{Bool, true, false, not}
 use mathlib.Core.List.{List, [], ◌∷◌, ◌++◌, map}
@@ -12,7 +13,7 @@ use Rattle.coding.proofs.BitLaws.{odd-bit, bit_at, bit-lt, length-map-odd}
 use Rattle.frame.specs.Repairs.{replaced, repaired}
 use Rattle.frame.specs.Splices.{spliced, SpliceOk, placed, keeping, inserting, deleting, flipping}
 use Rattle.frame.specs.declared.Repair.{Repair}
-use Rattle.frame.specs.declared.Repair.TheVariants.{Unchanged, Inserted, Deleted, Flipped}
+use Rattle.frame.specs.declared.Repair.TheVariants.{Inserted, Deleted, Flipped}
 use Rattle.frame.specs.declared.splices.Splice.{Splice}
 
 -- ---- a list in which `middle` replaces `skip` bits at `at`
@@ -114,28 +115,28 @@ odd_not zero h = refl
 odd_not (suc zero) h = refl
 odd_not (suc (suc b)) h = absurd (omega arith)
 
-module _ (how : Repair) (n : ℕ) (h : placed how n ≡ true) where
-  pub inserted_in : (b : Bool) (i : ℕ) → how ≡ Inserted b i → i < n
+module _ (how : Option Repair) (n : ℕ) (h : placed how n ≡ true) where
+  pub inserted_in : (b : Bool) (i : ℕ) → how ≡ Some (Inserted b i) → i < n
   unfolding placed
-  inserted_in b i e = ltb-true i n (ap (λ (x : Repair). placed x n) (sym e) ∙ h)
+  inserted_in b i e = ltb-true i n (ap (λ (x : Option Repair). placed x n) (sym e) ∙ h)
 
-  pub deleted_in : (i : ℕ) → how ≡ Deleted i → i < n
+  pub deleted_in : (i : ℕ) → how ≡ Some (Deleted i) → i < n
   unfolding placed
-  deleted_in i e = ltb-true i n (ap (λ (x : Repair). placed x n) (sym e) ∙ h)
+  deleted_in i e = ltb-true i n (ap (λ (x : Option Repair). placed x n) (sym e) ∙ h)
 
-  pub flipped_in : (i : ℕ) → how ≡ Flipped i → i < n
+  pub flipped_in : (i : ℕ) → how ≡ Some (Flipped i) → i < n
   unfolding placed
-  flipped_in i e = ltb-true i n (ap (λ (x : Repair). placed x n) (sym e) ∙ h)
+  flipped_in i e = ltb-true i n (ap (λ (x : Option Repair). placed x n) (sym e) ∙ h)
 
 -- a splice that makes a repair
-pub record Makes (how : Repair) (body : List ℕ) (s : Splice) : Type 0 where
+pub record Makes (how : Option Repair) (body : List ℕ) (s : Splice) : Type 0 where
   pub ok : SpliceOk s (length body)
   pub is : spliced s (map odd body) ≡ repaired how (map odd body)
 
-pub unchanged_makes : (body : List ℕ) (s : Splice) → s ≡ keeping → Makes Unchanged body s
+pub unchanged_makes : (body : List ℕ) (s : Splice) → s ≡ keeping → Makes None body s
 unfolding spliced replaced repaired
 unchanged_makes body s e =
-    subst (Makes Unchanged body) (sym e)
+    subst (Makes None body) (sym e)
     (record { ok = record { bit = omega arith; put = omega arith; skip = omega arith; inside = omega arith }; is = refl })
 
 pub kept : (body : List ℕ) (s : Splice) → s ≡ keeping → spliced s (map odd body) ≡ map odd body
@@ -143,31 +144,31 @@ unfolding repaired
 kept body s e = (unchanged_makes body s e).is
 
 module _ (body : List ℕ) (i : ℕ) (h : i < length body) (s : Splice) where
-  pub insert_makes : (b : Bool) (r : ℕ) → r ≡ bit_of b → s ≡ inserting i r → Makes (Inserted b i) body s
+  pub insert_makes : (b : Bool) (r : ℕ) → r ≡ bit_of b → s ≡ inserting i r → Makes (Some (Inserted b i)) body s
   unfolding spliced repaired
   insert_makes b r f e =
-      subst (Makes (Inserted b i) body) (sym e)
+      subst (Makes (Some (Inserted b i)) body) (sym e)
       (record {
         ok = record { bit = omega (arith, f, bit-lt b); put = omega arith; skip = omega arith; inside = omega arith };
         is = ap (λ (x : Bool). replaced i (x ∷ []) 0 (map odd body)) (ap odd f ∙ odd-bit b);
       })
 
-  pub delete_makes : s ≡ deleting i → Makes (Deleted i) body s
+  pub delete_makes : s ≡ deleting i → Makes (Some (Deleted i)) body s
   unfolding spliced repaired
   delete_makes e =
-      subst (Makes (Deleted i) body) (sym e)
+      subst (Makes (Some (Deleted i)) body) (sym e)
       (record { ok = record { bit = omega arith; put = omega arith; skip = omega arith; inside = omega arith }; is = refl })
 
-  pub flip_makes : are_bits body ≡ true → s ≡ flipping i (get_or body i 0) → Makes (Flipped i) body s
+  pub flip_makes : are_bits body ≡ true → s ≡ flipping i (get_or body i 0) → Makes (Some (Flipped i)) body s
   unfolding spliced repaired
   flip_makes b e =
-      subst (Makes (Flipped i) body) (sym e)
+      subst (Makes (Some (Flipped i)) body) (sym e)
       (record {
         ok = record { bit = omega arith; put = omega arith; skip = omega arith; inside = omega arith };
         is = ap (λ (x : Bool). replaced i (x ∷ []) 1 (map odd body)) (odd_not (get_or body i 0) (bit_at body i b) ∙ ap not (sym (get_or-map odd body i 0)));
       })
 
 -- the same, of a repair that is known to be that one
-pub makes_it : (how : Repair) (body : List ℕ) (s : Splice) (known : Repair) → how ≡ known → Makes known body s
+pub makes_it : (how : Option Repair) (body : List ℕ) (s : Splice) (known : Option Repair) → how ≡ known → Makes known body s
     → SpliceOk s (length body) × (spliced s (map odd body) ≡ repaired how (map odd body))
-makes_it how body s known e m = (m.ok, m.is ∙ ap (λ (h : Repair). repaired h (map odd body)) (sym e))
+makes_it how body s known e m = (m.ok, m.is ∙ ap (λ (h : Option Repair). repaired h (map odd body)) (sym e))

@@ -1,7 +1,6 @@
 -- The payload of a control frame: a type byte, then little-endian voltages and temperature; a downlink confirmation adds the RSSI at which the device received
 -- the downlink (sigfox-ep-lib; frame.rs decode_control). Assumes nothing.
-use Rattle.std.specs.Prelude.{ℕ, suc, ◌-◌, ◌/◌, cond, ◌&&◌, List, eqb, ltb, length, get_or, ℤ, pos, negsuc, Float}
-use Rattle.std.proofs.Math.Option.{Option, none, some}
+use Rattle.std.specs.Prelude.{ℕ, suc, ◌-◌, ◌/◌, cond, ◌&&◌, List, eqb, ltb, length, get_or, ℤ, pos, negsuc, Float, Option, None, Some}
 use Rattle.std.specs.Float.{binary64}
 use Rattle.std.specs.Float.Ieee.{of_int, div}
 use Rattle.floats.specs.Number.{num}
@@ -68,14 +67,14 @@ control_from kind l rssi =
 unfoldable pub control_of : List ℕ → Option Control
 unfolding control_from rssi_of
 control_of l =
-    cond (eqb (length l) keep_alive_size && eqb (get_or l 0 0) keep_alive) (some (control_from KeepAlive l none))
-    (cond (eqb (length l) confirmation_size && eqb (get_or l 0 0) confirmation) (some (control_from DownlinkConfirmation l (some (rssi_of (get_or l 7 0)))))
-    none)
+    cond (eqb (length l) keep_alive_size && eqb (get_or l 0 0) keep_alive) (Some (control_from KeepAlive l None))
+    (cond (eqb (length l) confirmation_size && eqb (get_or l 0 0) confirmation) (Some (control_from DownlinkConfirmation l (Some (rssi_of (get_or l 7 0)))))
+    None)
 
 -- 01's number and values of each answer: no call is refused
-unfoldable pub said : ControlMessage → Answer (Option Control)
-said message.Unknown = accepted none
-said (message.KeepAlive idle tx celsius) =
-    accepted (some (record { kind = KeepAlive; voltage_idle_mv = idle; voltage_tx_mv = tx; temperature_c = celsius; downlink_rssi_dbm = none }))
-said (message.DownlinkConfirmation idle tx celsius rssi) =
-    accepted (some (record { kind = DownlinkConfirmation; voltage_idle_mv = idle; voltage_tx_mv = tx; temperature_c = celsius; downlink_rssi_dbm = some rssi }))
+unfoldable pub said : Option ControlMessage → Answer (Option Control)
+said None = accepted None
+said (Some (message.KeepAlive idle tx celsius)) =
+    accepted (Some (record { kind = KeepAlive; voltage_idle_mv = idle; voltage_tx_mv = tx; temperature_c = celsius; downlink_rssi_dbm = None }))
+said (Some (message.DownlinkConfirmation idle tx celsius rssi)) =
+    accepted (Some (record { kind = DownlinkConfirmation; voltage_idle_mv = idle; voltage_tx_mv = tx; temperature_c = celsius; downlink_rssi_dbm = Some rssi }))

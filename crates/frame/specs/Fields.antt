@@ -1,14 +1,12 @@
 -- The fields of a frame's body: LI(2) BF(1) REP(1) MC(12) | device (4, least significant byte first) | payload | authentication | CRC (2, high byte first)
 -- (sigfox-ep-lib; frame.rs parse_body). Assumes nothing.
-use Rattle.std.specs.Prelude.{ℕ, ◌+◌, ◌-◌, ◌*◌, ◌/◌, ◌%◌, Bool, cond, ◌&&◌, List, ◌++◌, eqb, leb, length, take, drop, get_or, replicate}
+use Rattle.std.specs.Prelude.{ℕ, ◌+◌, ◌-◌, ◌*◌, ◌/◌, ◌%◌, Bool, cond, ◌&&◌, List, ◌++◌, eqb, leb, length, take, drop, get_or, replicate, Option, None, Some}
 use Rattle.endian.specs.Bytes.{number_at}
 use Rattle.coding.specs.Bits.{odd}
 use Rattle.coding.specs.Crc.{crc_of}
 use Rattle.frame.specs.Sizes.{header_size, crc_size, most_payload, most_auth, payload_size, auth_size, body_bytes}
 use Rattle.frame.specs.declared.kinds.FrameKind.{FrameKind}
 use Rattle.frame.specs.declared.Repair.{Repair}
-use Rattle.frame.specs.declared.SingleBit.{SingleBit}
-use Rattle.frame.specs.declared.SingleBit.TheVariants.{Absent, Is}
 use Rattle.frame.specs.declared.UplinkFrame.{UplinkFrame}
 
 abbrev pub byte_at : List ℕ → ℕ → ℕ
@@ -42,8 +40,8 @@ abbrev pub auth_of : ℕ → ℕ → List ℕ → List ℕ
 auth_of n m bytes = take m (drop (header_size + n) bytes)
 
 -- the single bit of a message without payload: LI 2 is false, LI 3 true (frame.rs 'class == 0 && li >= 2')
-unfoldable pub bit_from : ℕ → ℕ → SingleBit
-bit_from class l = cond (eqb class 0 && leb 2 l) (Is (eqb l 3)) Absent
+unfoldable pub bit_from : ℕ → ℕ → Option Bool
+bit_from class l = cond (eqb class 0 && leb 2 l) (Some (eqb l 3)) None
 
 -- of a body of n bytes, the last two are the CRC of those before
 unfoldable pub crc_right : ℕ → List ℕ → Bool
@@ -54,7 +52,7 @@ abbrev pub padded : ℕ → List ℕ → List ℕ
 padded n l = l ++ replicate (n - length l) 0
 
 -- the frame of a kind from its body's bytes
-unfoldable pub frame_from : FrameKind → Repair → List ℕ → UplinkFrame
+unfoldable pub frame_from : FrameKind → Option Repair → List ℕ → UplinkFrame
 unfolding payload_size auth_size body_bytes bit_from crc_right
 frame_from kind how bytes = record {
   rank = kind.rank;

@@ -1,10 +1,8 @@
 -- Frame types. A frame begins with 19 alternating bits, the preamble, and the 13 bits of its type, which says the repetition's rank, the payload's size class
 -- and whether it is a control frame (Sigfox radio specifications, uplink frame; frame.rs FRAME_TYPES, CONTROL_FRAME_TYPES). Assumes nothing.
-use Rattle.std.specs.Prelude.{ℕ, zero, suc, ◌+◌, ◌-◌, Bool, true, false, not, cond, List, [], ◌∷◌, ◌++◌, eqb, drop}
+use Rattle.std.specs.Prelude.{ℕ, zero, suc, ◌+◌, ◌-◌, Bool, true, false, not, cond, List, [], ◌∷◌, ◌++◌, eqb, drop, Option, None, Some}
 use Rattle.coding.specs.Bits.{digits, value}
 use Rattle.frame.specs.declared.kinds.FrameKind.{FrameKind}
-use Rattle.frame.specs.declared.kinds.FoundKind.{FoundKind}
-use Rattle.frame.specs.declared.kinds.FoundKind.TheVariants.{Unknown, Known}
 
 -- n alternating bits, from b
 unfoldable pub alternating : ℕ → Bool → List Bool
@@ -69,10 +67,7 @@ abbrev pub blank_kind : FrameKind
 blank_kind = plain 0 0
 
 -- the first kind whose 16 bits stand for a number
-abbrev pub choose_kind : Bool → FoundKind → FoundKind → FoundKind
-choose_kind b x y = cond b x y
-
-unfoldable pub kind_of : ℕ → List FrameKind → FoundKind
+unfoldable pub kind_of : ℕ → List FrameKind → Option FrameKind
 unfolding sync_bits
-kind_of ft [] = Unknown
-kind_of ft (k ∷ ks) = choose_kind (eqb (value (sync_bits k)) ft) (Known k) (kind_of ft ks)
+kind_of ft [] = None
+kind_of ft (k ∷ ks) = cond (eqb (value (sync_bits k)) ft) (Some k) (kind_of ft ks)

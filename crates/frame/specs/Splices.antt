@@ -1,11 +1,11 @@
 -- Scaffolding. A repair in the form in which the code tries it: `put` bits, 0 or 1 of them, in the place of `skip` bits. Assumes nothing.
-use Rattle.std.specs.Prelude.{◌≡◌, ℕ, ◌+◌, ◌-◌, ◌≤◌, ◌<◌, Bool, true, List, ltb, length, replicate}
+use Rattle.std.specs.Prelude.{◌≡◌, ℕ, ◌+◌, ◌-◌, ◌≤◌, ◌<◌, Bool, true, List, ltb, length, replicate, Option, None, Some}
 use Rattle.coding.specs.Bits.{odd, are_bits}
 use Rattle.limits.specs.Limits.{most_bits}
 use Rattle.frame.specs.Repairs.{replaced}
 use Rattle.frame.specs.declared.kinds.FrameKind.{FrameKind}
 use Rattle.frame.specs.declared.Repair.{Repair}
-use Rattle.frame.specs.declared.Repair.TheVariants.{Unchanged, Inserted, Deleted, Flipped}
+use Rattle.frame.specs.declared.Repair.TheVariants.{Inserted, Deleted, Flipped}
 use Rattle.frame.specs.declared.splices.Splice.{Splice}
 
 unfoldable pub spliced : Splice → List Bool → List Bool
@@ -19,12 +19,12 @@ pub record SpliceOk (s : Splice) (n : ℕ) : Type 0 where
   pub skip : s.skip ≤ 1
   pub inside : s.at + s.skip ≤ n
 
--- a repair at one of n places
-unfoldable pub placed : Repair → ℕ → Bool
-placed Unchanged n = true
-placed (Inserted b at) n = ltb at n
-placed (Deleted at) n = ltb at n
-placed (Flipped at) n = ltb at n
+-- no repair, or one at one of n places
+unfoldable pub placed : Option Repair → ℕ → Bool
+placed None n = true
+placed (Some (Inserted b at)) n = ltb at n
+placed (Some (Deleted at)) n = ltb at n
+placed (Some (Flipped at)) n = ltb at n
 
 -- the splice that changes nothing, and those of an insertion, a deletion and a flip of a bit byte
 abbrev pub keeping : Splice

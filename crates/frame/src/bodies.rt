@@ -11,7 +11,7 @@ ghost use Rattle.frame.specs.Plain.{NextByte, Passed, right_bits};
 
 use crate::kinds::FrameKind;
 use crate::splices::{Splice, spliced_bit};
-use crate::{Repair, SingleBit, UplinkFrame};
+use crate::{Repair, UplinkFrame};
 use coding::wide;
 
 // LI, BF, REP and counter, then the device.
@@ -27,13 +27,11 @@ fn straight_byte(body: &[u8], rank: u8, from: usize, last: u8) -> u8
     let mut v: u8 = 0;
     let mut a = last % 2;
     let mut b = last / 2 % 2;
-    let mut j: usize = 0;
-    while j < 8 {
+    for j in 0..8 {
         let x = coding::coded_bit(body[from + j], rank, a, b);
         v = (v % 128) * 2 + x;
         b = a;
         a = x;
-        j += 1;
     }
     v
 }
@@ -46,13 +44,11 @@ fn spliced_byte(body: &[u8], rank: u8, s: Splice, from: usize, last: u8) -> u8
     let mut v: u8 = 0;
     let mut a = last % 2;
     let mut b = last / 2 % 2;
-    let mut j: usize = 0;
-    while j < 8 {
+    for j in 0..8 {
         let x = coding::coded_bit(spliced_bit(body, s, from + j), rank, a, b);
         v = (v % 128) * 2 + x;
         b = a;
         a = x;
-        j += 1;
     }
     v
 }
@@ -85,12 +81,10 @@ pub fn plain_bytes(body: &[u8], rank: u8, n: usize, s: Splice) -> Plaintext
     let mut bytes = [0u8; 22];
     let mut crc: u16 = 0;
     let mut last: u8 = 0;
-    let mut i: usize = 0;
-    while i < end {
+    for i in 0..end {
         last = plain_byte(body, rank, s, 8 * i, last);
         bytes[i] = last;
         crc = coding::crc_byte(crc, last);
-        i += 1;
     }
     let high = plain_byte(body, rank, s, 8 * end, last);
     let low = plain_byte(body, rank, s, 8 * end + 8, high);
@@ -141,7 +135,7 @@ pub fn splice_right(body: &[u8], rank: u8, n: usize, s: Splice, front: Prefix) -
     }
     let end = n - 2;
     let mut f = front;
-    while f.bytes < end {
+    for _ in front.bytes..end {
         f = further(body, rank, s, f);
     }
     let high = plain_byte(body, rank, s, 8 * end, f.last);
@@ -181,15 +175,14 @@ pub fn body_bytes(class: u8) -> usize
     HEADER + long(payload_size(class, 0)) + long(auth_size(class, 0)) + 2
 }
 
-fn bit_from(class: u8, li: u8) -> SingleBit
+fn bit_from(class: u8, li: u8) -> Option<bool>
     ensures { result ≡ bit_from class li }
 {
-    if class == 0 {
-        if 2 <= li {
-            return SingleBit::Is(li == 3);
-        }
+    if class == 0 && 2 <= li {
+        Some(li == 3)
+    } else {
+        None
     }
-    SingleBit::Absent
 }
 
 // One byte into `out`.
@@ -205,11 +198,7 @@ pub fn copy_into(bytes: &[u8], from: usize, n: usize, out: &mut [u8], at: usize)
     requires { (from + n ≤ length bytes.now) × (at + n ≤ length out.old) }
     ensures { out.new ≡ sets out.old at (take n (drop from bytes.now)) }
 {
-    let mut i: usize = 0;
-    while i < n {
-        out[at + i] = bytes[from + i];
-        i += 1;
-    }
+    out[at..at + n].copy_from_slice(&bytes[from..from + n]);
 }
 
 // LI: the top two bits of the first byte.
@@ -222,7 +211,7 @@ fn li_of(first: u8) -> u8
 fn device_of(bytes: [u8; 22]) -> u32
     ensures { result ≡ device_of bytes }
 {
-    endian::get_u32(&bytes, 2)
+    endian::get::<u32>(&bytes, 2)
 }
 
 fn counter_of(bytes: [u8; 22]) -> u16
@@ -250,7 +239,7 @@ fn auth_of(bytes: [u8; 22], n: usize, m: usize) -> [u8; 5]
 }
 
 // The frame of a kind from its body's bytes; `ok` is whether their CRC is right.
-pub fn frame_from(bytes: [u8; 22], kind: FrameKind, how: Repair, ok: bool) -> UplinkFrame
+pub fn frame_from(bytes: [u8; 22], kind: FrameKind, how: Option<Repair>, ok: bool) -> UplinkFrame
     requires { (kind.class ≤ 4) × (ok ≡ crc_right (body_bytes kind.class) bytes) }
     ensures { result ≡ frame_from kind how bytes }
 {

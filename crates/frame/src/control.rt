@@ -5,7 +5,6 @@ ghost use Rattle.frame.specs.Control.{signed_below, minus, celsius, rssi_of, con
 
 #[derive(Clone, Copy)]
 pub enum ControlMessage {
-    Unknown,
     KeepAlive {
         voltage_idle_mv: u16,
         voltage_tx_mv: u16,
@@ -64,28 +63,28 @@ fn rssi_of(b: u8) -> i32
     difference(b as u32, 356)
 }
 
-// What a control frame's payload says, by its length and first byte (frame.rs decode_control).
-pub fn decode_control(payload: &[u8]) -> ControlMessage
+// What a control frame's payload says, by its length and first byte; none for any other (frame.rs decode_control).
+pub fn decode_control(payload: &[u8]) -> Option<ControlMessage>
     ensures { said result ≡ accepted (control_of payload.now) }
 {
     if payload.len() == KEEP_ALIVE_SIZE {
         if payload[0] == KEEP_ALIVE {
-            return ControlMessage::KeepAlive {
-                voltage_idle_mv: endian::get_u16(payload, 1),
-                voltage_tx_mv: endian::get_u16(payload, 3),
-                temperature_c: celsius_of(endian::get_u16(payload, 5)),
-            };
+            return Some(ControlMessage::KeepAlive {
+                voltage_idle_mv: endian::get::<u16>(payload, 1),
+                voltage_tx_mv: endian::get::<u16>(payload, 3),
+                temperature_c: celsius_of(endian::get::<u16>(payload, 5)),
+            });
         }
     }
     if payload.len() == CONFIRMATION_SIZE {
         if payload[0] == CONFIRMATION {
-            return ControlMessage::DownlinkConfirmation {
-                voltage_idle_mv: endian::get_u16(payload, 1),
-                voltage_tx_mv: endian::get_u16(payload, 3),
-                temperature_c: celsius_of(endian::get_u16(payload, 5)),
+            return Some(ControlMessage::DownlinkConfirmation {
+                voltage_idle_mv: endian::get::<u16>(payload, 1),
+                voltage_tx_mv: endian::get::<u16>(payload, 3),
+                temperature_c: celsius_of(endian::get::<u16>(payload, 5)),
                 downlink_rssi_dbm: rssi_of(payload[7]),
-            };
+            });
         }
     }
-    ControlMessage::Unknown
+    None
 }

@@ -14,19 +14,11 @@ pub struct FrameKind {
     pub control: bool,
 }
 
-#[derive(Clone, Copy)]
-pub enum FoundKind {
-    Unknown,
-    Known(FrameKind),
-}
-
 // Control frames (keep-alive, downlink confirmation): 7 or 8 bytes, laid out like payload class 3.
 const CONTROL_CLASS: u8 = 3;
 
 // Bits of a frame type as it is searched: the preamble's last three and the 13 of the type.
 pub const SYNC: usize = 16;
-
-const KINDS: usize = 18;
 
 // For ranks 0, 1, 2: the control frame's, then those of classes 0 to 4.
 pub const FRAME_TYPES: [u16; 18] = [
@@ -43,30 +35,28 @@ fn kind_at(i: usize) -> FrameKind
     let place = (i % 6) as u8;
     if place == 0 {
         return FrameKind {
-            rank: rank,
+            rank,
             class: CONTROL_CLASS,
             control: true,
         };
     }
     FrameKind {
-        rank: rank,
+        rank,
         class: place - 1,
         control: false,
     }
 }
 
 // The kind whose frame type the 16 bits are, or none.
-pub fn find_kind(ft: u16) -> FoundKind
+pub fn find_kind(ft: u16) -> Option<FrameKind>
     ensures { result ≡ kind_of ft kinds }
 {
-    let mut i: usize = 0;
-    while i < KINDS {
-        if FRAME_TYPES[i] == ft {
-            return FoundKind::Known(kind_at(i));
+    for (i, t) in FRAME_TYPES.iter().enumerate() {
+        if *t == ft {
+            return Some(kind_at(i));
         }
-        i += 1;
     }
-    FoundKind::Unknown
+    None
 }
 
 // The number that the 16 bits at `at` stand for (frame.rs bits_value).
@@ -75,10 +65,8 @@ pub fn word(bits: &[u8], at: usize) -> u16
     ensures { result ≡ value (take sync_size (drop at (map odd bits.now))) }
 {
     let mut v: u16 = 0;
-    let mut j: usize = 0;
-    while j < SYNC {
+    for j in 0..SYNC {
         v = (v % 32768) * 2 + wide(bits[at + j]);
-        j += 1;
     }
     v
 }

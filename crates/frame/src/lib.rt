@@ -1,16 +1,18 @@
 // Sigfox uplink frames (frame.rs): the frame type is searched, the body parsed as it is and after single-bit repairs. Bits are bytes 0 or 1.
 #![tactic(auto)]
 
-ghost use Rattle.std.specs.Prelude.{◌≡◌, true, false, map, ◌+◌, ◌*◌, ◌≤◌, length};
+ghost use Rattle.std.specs.Prelude.{◌≡◌, true, false, map, ◌+◌, ◌*◌, ◌≤◌, length, None};
 ghost use Rattle.coding.specs.Bits.{odd, are_bits};
 ghost use Rattle.limits.specs.Limits.{most_bits};
-ghost use Rattle.frame.specs.Decode.{without_frame, parse_body, passes, first_repair, decode_body, decode_uplink, uplink_answer};
+ghost use Rattle.limits.specs.Answer.{said};
+ghost use Rattle.frame.specs.Decode.{parse_body, passes, first_repair, decode_body, decode_uplink, uplink_answer};
 ghost use Rattle.frame.specs.Sizes.{most_bytes};
 ghost use Rattle.frame.specs.Plain.{Passed};
 ghost use Rattle.frame.specs.Splices.{placed, BodyOk};
 
 use bodies::{Prefix, body_bytes, frame_from, further, plain_bytes, splice_right};
-use kinds::{FoundKind, FrameKind, SYNC, find_kind, word};
+use kinds::{FrameKind, SYNC, find_kind, word};
+use limits::Refusal;
 use splices::{delete, flip, insert, splice_of, unchanged};
 
 pub mod control; // decode_control
@@ -19,20 +21,12 @@ pub mod kinds; // frame types
 pub mod bodies; // plain bytes of a body and their fields
 pub mod splices; // repairs, as the code makes and tries them
 
-// A single bit error in a frame's body, undone at a bit index after the frame type (the Rust's Option<Repair>).
+// A single bit error in a frame's body, undone at a bit index after the frame type.
 #[derive(Clone, Copy)]
 pub enum Repair {
-    Unchanged,
     Inserted(bool, usize),
     Deleted(usize),
     Flipped(usize),
-}
-
-// The bit of a single-bit message (the Rust's Option<bool>).
-#[derive(Clone, Copy)]
-pub enum SingleBit {
-    Absent,
-    Is(bool),
 }
 
 #[derive(Clone, Copy)]
@@ -45,7 +39,7 @@ pub struct UplinkFrame {
     // Places past the length are 0, here and in `auth`.
     pub payload: [u8; 12],
     pub payload_len: u8,
-    pub bit: SingleBit,
+    pub bit: Option<bool>,
     // BF: the device waits for a downlink.
     pub downlink: bool,
     // A control frame (see `decode_control`), not application data.
@@ -54,63 +48,21 @@ pub struct UplinkFrame {
     pub auth_len: u8,
     pub crc_ok: bool,
     // The bit-slip correction that made the CRC pass, if any.
-    pub repaired: Repair,
+    pub repaired: Option<Repair>,
 }
 
-#[derive(Clone, Copy)]
-pub enum Outcome {
-    // A refusal's number.
-    Refused(u8),
-    Nothing,
-    Frame,
-}
-
-#[derive(Clone, Copy)]
-pub struct DecodedUplink {
-    pub outcome: Outcome,
-    // All zero where there is none.
-    pub frame: UplinkFrame,
-}
-
-// An answer without a frame.
-pub fn without_frame(outcome: Outcome) -> DecodedUplink
-    ensures { result ≡ without_frame outcome }
-{
-    DecodedUplink {
-        outcome: outcome,
-        frame: UplinkFrame {
-            rank: 0,
-            device_id: 0,
-            counter: 0,
-            payload: [0; 12],
-            payload_len: 0,
-            bit: SingleBit::Absent,
-            downlink: false,
-            control: false,
-            auth: [0; 5],
-            auth_len: 0,
-            crc_ok: false,
-            repaired: Repair::Unchanged,
-        },
-    }
-}
-
-// The frame of a kind from the bits after its type, repaired; nothing where these are too few.
-fn parse_body(body: &[u8], kind: FrameKind, how: Repair) -> DecodedUplink
+// The frame of a kind from the bits after its type, repaired; none where these are too few.
+fn parse_body(body: &[u8], kind: FrameKind, how: Option<Repair>) -> Option<UplinkFrame>
     requires { BodyOk kind body.now × (placed how (length body.now) ≡ true) }
     ensures { result ≡ parse_body kind how (map odd body.now) }
 {
     let n = body_bytes(kind.class);
     let s = splice_of(body, how);
     if body.len() + s.put - s.skip < 8 * n {
-        return without_frame(Outcome::Nothing);
+        return None;
     }
     let plain = plain_bytes(body, kind.rank, n, s);
-    let bytes = plain.bytes;
-    DecodedUplink {
-        outcome: Outcome::Frame,
-        frame: frame_from(bytes, kind, how, plain.crc_ok),
-    }
+    Some(frame_from(plain.bytes, kind, how, plain.crc_ok))
 }
 
 // The bytes before a place, for the repairs there: a byte more where it is whole, up to the CRC.
@@ -128,46 +80,45 @@ fn front_at(body: &[u8], rank: u8, n: usize, front: Prefix, i: usize) -> Prefix
     further(body, rank, unchanged(), front)
 }
 
-// The first repair of a body that gives a frame with a right CRC, `Unchanged` where there is none. A repair past the frame's bits changes nothing.
-fn first_repair(body: &[u8], kind: FrameKind) -> Repair
-    requires { BodyOk kind body.now × (passes kind (map odd body.now) Repair.Unchanged ≡ false) }
+// The first repair of a body that gives a frame with a right CRC. A repair past the frame's bits changes nothing.
+fn first_repair(body: &[u8], kind: FrameKind) -> Option<Repair>
+    requires { BodyOk kind body.now × (passes kind (map odd body.now) None ≡ false) }
     ensures { result ≡ first_repair kind (map odd body.now) }
 {
     let n = body_bytes(kind.class);
-    let end = whole::least(body.len(), 8 * n);
+    let end = body.len().min(8 * n);
     let mut front = Prefix {
         bytes: 0,
         crc: 0,
         last: 0,
     };
-    let mut i: usize = 0;
-    while i < end {
+    for i in 0..end {
         front = front_at(body, kind.rank, n, front, i);
         if splice_right(body, kind.rank, n, insert(i, 1), front) {
-            return Repair::Inserted(true, i);
+            return Some(Repair::Inserted(true, i));
         }
         if splice_right(body, kind.rank, n, insert(i, 0), front) {
-            return Repair::Inserted(false, i);
+            return Some(Repair::Inserted(false, i));
         }
         if splice_right(body, kind.rank, n, delete(i), front) {
-            return Repair::Deleted(i);
+            return Some(Repair::Deleted(i));
         }
         if splice_right(body, kind.rank, n, flip(i, body[i]), front) {
-            return Repair::Flipped(i);
+            return Some(Repair::Flipped(i));
         }
-        i += 1;
     }
-    Repair::Unchanged
+    None
 }
 
 // The frame of a kind from its body: as it is, else by the first repair that passes, else as it is with a wrong CRC.
-fn decode_body(body: &[u8], kind: FrameKind) -> DecodedUplink
+fn decode_body(body: &[u8], kind: FrameKind) -> Option<UplinkFrame>
     requires { BodyOk kind body.now }
     ensures { result ≡ decode_body kind (map odd body.now) }
 {
-    let found = parse_body(body, kind, Repair::Unchanged);
-    if found.frame.crc_ok {
-        return found;
+    if let Some(f) = parse_body(body, kind, None) {
+        if f.crc_ok {
+            return Some(f);
+        }
     }
     parse_body(body, kind, first_repair(body, kind))
 }
@@ -178,36 +129,31 @@ const FIRST_START: usize = 8;
 const LAST_START: usize = 22;
 
 // Decodes bits that are known to be bits.
-pub fn decode_bits(bits: &[u8]) -> DecodedUplink
+pub fn decode_bits(bits: &[u8]) -> Option<UplinkFrame>
     requires { (are_bits bits.now ≡ true) × (length bits.now ≤ most_bits) }
     ensures { result ≡ decode_uplink (map odd bits.now) }
 {
-    let mut start: usize = FIRST_START;
-    while start <= LAST_START {
+    for start in FIRST_START..LAST_START + 1 {
         let after = start + SYNC;
         if bits.len() < after {
-            return without_frame(Outcome::Nothing);
+            return None;
         }
-        match find_kind(word(bits, start)) {
-            FoundKind::Known(kind) => {
-                return decode_body(&bits[after..], kind);
-            }
-            FoundKind::Unknown => {}
+        if let Some(kind) = find_kind(word(bits, start)) {
+            return decode_body(&bits[after..], kind);
         }
-        start += 1;
     }
-    without_frame(Outcome::Nothing)
+    None
 }
 
 // Decodes data bits that start somewhere in the preamble (frame.rs decode_uplink_bits).
-pub fn decode_uplink_bits(bits: &[u8]) -> DecodedUplink
-    ensures { result ≡ uplink_answer bits.now }
+pub fn decode_uplink_bits(bits: &[u8]) -> Result<Option<UplinkFrame>, Refusal>
+    ensures { said result ≡ uplink_answer bits.now }
 {
     if limits::MOST_BITS < bits.len() {
-        return without_frame(Outcome::Refused(limits::LONG));
+        return Err(Refusal::Long);
     }
     if !coding::are_bits(bits) {
-        return without_frame(Outcome::Refused(limits::BAD_NUMBER));
+        return Err(Refusal::BadNumber);
     }
-    decode_bits(bits)
+    Ok(decode_bits(bits))
 }

@@ -79,13 +79,15 @@ pub fn flip(i: usize, bit: u8) -> Splice
 }
 
 // A repair as what it replaces, and by what.
-pub fn splice_of(body: &[u8], how: Repair) -> Splice
+pub fn splice_of(body: &[u8], how: Option<Repair>) -> Splice
     requires { (are_bits body.now ≡ true) × (placed how (length body.now) ≡ true) }
     ensures { SpliceOk result (length body.now) × (spliced result (map odd body.now) ≡ repaired how (map odd body.now)) }
 {
-    match how {
-        Repair::Unchanged => unchanged(),
-        Repair::Inserted(b, i) => insert(i, whole::one_if8(b)),
+    let Some(repair) = how else {
+        return unchanged();
+    };
+    match repair {
+        Repair::Inserted(b, i) => insert(i, u8::from(b)),
         Repair::Deleted(i) => delete(i),
         Repair::Flipped(i) => flip(i, body[i]),
     }

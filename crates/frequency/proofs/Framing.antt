@@ -1,4 +1,5 @@
 -- `freq`, `frame_frequency` and `frame1`: what an accepted call has, and the answers by cases. Assumes nothing.
+use Rattle.std.proofs.Common.{Option}
 use mathlib.Core.Path.{◌≡◌, refl, sym, ap, ◌∙◌}
 use mathlib.Core.Bool.{Bool, true, false, not, ◌&&◌}
 use mathlib.Core.List.{List, [], ◌∷◌}
@@ -9,22 +10,14 @@ use lib.Dec.{ltb}
 use lib.ListN.{length, take, get_or}
 use lib.Ieee.{Float, nan}
 use Rattle.limits.specs.Samples.{rate_ok}
-use Rattle.limits.specs.Answer.{accepted}
 use Rattle.limits.specs.Answer as lent
 use Rattle.limits.proofs.Samples.{and_left, and_right}
-use Rattle.limits.proofs.AnswerLaws.{refused-answer, done-answer}
-use Rattle.frequency_lists.specs.Lists.{Reading, no_nan, last_or}
+use Rattle.frequency_lists.specs.Lists.{Reading, no_nan}
 use Rattle.record.specs.declared.FrameSpan.{FrameSpan}
-use Rattle.frequency_measure.specs.declared.Frequency.{Frequency}
-use Rattle.frequency_measure.specs.declared.Measured.{Measured}
+use Rattle.frequency_measure.specs.declared.FrameFrequency.{FrameFrequency}
 use Rattle.frequency_measure.specs.Gathered.{Free}
-use Rattle.frequency_measure.specs.Measured.{frame_frequency, frame1, of_rank, direct, middle}
-use Rattle.record.specs.Spans.{span_ok, spans_ok}
+use Rattle.frequency_measure.specs.Measured.{frame1, of_rank, direct, middle}
 use Rattle.frequency.specs.declared.FrequencyTracker.{FrequencyTracker}
-use Rattle.frequency.specs.declared.Freq.TheVariants as freq
-use Rattle.frequency.specs.declared.FrameFrequency.TheVariants as frame
-use Rattle.frequency.specs.declared.Frame1.TheVariants as first
-use Rattle.frequency.specs.Calls.{said_freq, freq_answer, said_frame, frame_answer, said_first, frame1_answer, held_readings}
 use Rattle.frequency.specs.Order.{tunings_in_order, readings_in_order, floats_ok, numbers_ok, cause_freq, cause_frame}
 use Rattle.frequency.proofs.Choices.{not_refused}
 use Rattle.frequency.proofs.Ordered.{OrderedT, ordered-t, ordered-r}
@@ -49,39 +42,8 @@ freq-ordered s tun fre e =
     let b = not_refused 4 _ (not (tunings_in_order s tun fre)) a.1 in
     ordered-t s tun fre (not-false (tunings_in_order s tun fre) b.0)
 
--- ---- the answers
-module _ (s : FrequencyTracker) (tun fre : List ℕ) (k : ℕ) (K : k ≡ cause_freq s tun fre) where
-  pub freq-refused : (k ≡ 0 → ⊥) → said_freq (freq.Refused k) ≡ freq_answer s tun fre
-  unfolding said_freq
-  freq-refused h = refused-answer k (cause_freq s tun fre) K (last_or s.base_freq (take s.tunings fre)) h
-
-  pub freq_told : k ≡ 0 → (f : ℕ) → f ≡ last_or s.base_freq (take s.tunings fre) → said_freq (freq.Hz f) ≡ freq_answer s tun fre
-  unfolding said_freq
-  freq_told h f e = ap accepted e ∙ done-answer k (cause_freq s tun fre) K (last_or s.base_freq (take s.tunings fre)) h
-
-module _ (s : FrequencyTracker) (at lo : List ℕ) (hz : List Float) (room : ℕ) (f : FrameSpan) (k : ℕ) (K : k ≡ cause_frame s at lo hz room (span_ok f)) where
-  pub frame_refused : (k ≡ 0 → ⊥) → said_frame (frame.Refused k) ≡ frame_answer s at lo hz room f
-  unfolding said_frame
-  frame_refused h = refused-answer k (cause_frame s at lo hz room (span_ok f)) K (frame_frequency s.rate (held_readings s at lo hz) f.time f.end) h
-
-  pub frame_told : k ≡ 0 → accepted (frame_frequency s.rate (held_readings s at lo hz) f.time f.end) ≡ frame_answer s at lo hz room f
-  frame_told h = done-answer k (cause_frame s at lo hz room (span_ok f)) K (frame_frequency s.rate (held_readings s at lo hz) f.time f.end) h
-
-module _ (s : FrequencyTracker) (at lo : List ℕ) (hz : List Float) (room : ℕ) (spans : List FrameSpan) (k : ℕ) (K : k ≡ cause_frame s at lo hz room (spans_ok spans)) (d : Bool) where
-  pub first_refused : (k ≡ 0 → ⊥) → said_first (first.Refused k) ≡ frame1_answer s at lo hz room spans d
-  unfolding said_first
-  first_refused h = refused-answer k (cause_frame s at lo hz room (spans_ok spans)) K (frame1 s.rate (held_readings s at lo hz) spans d) h
-
-  pub first_told : k ≡ 0 → accepted (frame1 s.rate (held_readings s at lo hz) spans d) ≡ frame1_answer s at lo hz room spans d
-  first_told h = done-answer k (cause_frame s at lo hz room (spans_ok spans)) K (frame1 s.rate (held_readings s at lo hz) spans d) h
-
--- scratch that is as it was, and scratch of an accepted call
-pub as_it_was : (k : ℕ) (l : List Float) → lent.Free k l l
-unfolding lent.Free
-as_it_was zero l = tt
-as_it_was (suc k) l = refl
-
-pub freed : (k : ℕ) (old now : List Float) → k ≡ 0 → lent.Free k old now
+-- scratch of an accepted call
+pub freed : (k : ℕ) (old now : List Float) → 0 ≡ k → lent.Free k old now
 unfolding lent.Free
 freed zero old now e = tt
 freed (suc k) old now e = absurd (omega arith)
@@ -95,20 +57,17 @@ three (a ∷ b ∷ c ∷ []) d e = refl
 three (a ∷ b ∷ c ∷ x ∷ l) d e = absurd (omega arith)
 
 -- ---- frame1, from the frequencies of the three ranks
-module _ (rate : ℕ) (rs : List Reading) (spans abc : List FrameSpan) (S : spans ≡ abc) (d : Bool) (f1 : Measured) (one : Frequency) (A : f1 ≡ of_rank rate rs abc 0) (O : one ≡ direct f1) where
+module _ (rate : ℕ) (rs : List Reading) (spans : List FrameSpan) (d : Bool) (f1 : (Option FrameFrequency)) (one : (Option ℕ)) (A : f1 ≡ of_rank rate rs spans 0) (O : one ≡ direct f1) where
   direct_is : one ≡ direct (of_rank rate rs spans 0)
-  direct_is = O ∙ ap direct (A ∙ ap (λ (l : List FrameSpan). of_rank rate rs l 0) (sym S))
+  direct_is = O ∙ ap direct A
 
   pub one_is : d ≡ false → one ≡ frame1 rate rs spans d
   unfolding frame1
   one_is e = rw e direct_is
 
-  pub mid_is : d ≡ true → (f2 f3 : Measured) (r : Frequency) → f2 ≡ of_rank rate rs abc 1 → f3 ≡ of_rank rate rs abc 2 → r ≡ middle f2 f3 one → r ≡ frame1 rate rs spans d
+  pub mid_is : d ≡ true → (f2 f3 : (Option FrameFrequency)) (r : (Option ℕ)) → f2 ≡ of_rank rate rs spans 1 → f3 ≡ of_rank rate rs spans 2 → r ≡ middle f2 f3 one → r ≡ frame1 rate rs spans d
   unfolding frame1
-  mid_is e f2 f3 r B C R =
-      rw e (R ∙ ap (λ (m : Measured). middle m f3 one) (B ∙ ap (λ (l : List FrameSpan). of_rank rate rs l 1) (sym S))
-      ∙ ap (λ (m : Measured). middle (of_rank rate rs spans 1) m one) (C ∙ ap (λ (l : List FrameSpan). of_rank rate rs l 2) (sym S))
-      ∙ ap (middle (of_rank rate rs spans 1) (of_rank rate rs spans 2)) direct_is)
+  mid_is e f2 f3 r B C R = rw (e, sym B, sym C) (R ∙ ap (middle f2 f3) direct_is)
 
 -- other scratch of the same length serves as well
 pub free_again : (n : ℕ) (at lo : List ℕ) (hz out out' : List Float) → Free n at lo hz out → length out' ≡ length out → Free n at lo hz out'

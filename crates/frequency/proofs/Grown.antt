@@ -1,4 +1,5 @@
 -- A tracker grown from `new` is always in order: its rate, counts, indices, step and readings never give a cause. Assumes nothing.
+use Rattle.std.proofs.Common.{Option, None, Some}
 use mathlib.Core.Path.{◌≡◌, refl, sym, ap, ◌∙◌, subst}
 use mathlib.Core.Bool.{Bool, true, false, not, cond}
 use mathlib.Core.List.{List, [], ◌∷◌, ◌++◌, map}
@@ -11,8 +12,6 @@ use lib.Seq.{take_at}
 use lib.Ieee.{Float}
 use Rattle.limits.specs.Limits.{longest_stream}
 use Rattle.limits.specs.Samples.{rate_ok}
-use Rattle.frequency_signal.specs.declared.Sample.{Sample}
-use Rattle.frequency_signal.specs.declared.Sample.TheVariants.{Never, At}
 use Rattle.frequency_signal.specs.declared.Signal.{Signal}
 use Rattle.frequency_signal.specs.Order.{Index, index_ok, signal_ok}
 use Rattle.frequency_signal.specs.Heard.{heard}
@@ -229,9 +228,9 @@ sound (next {s} {t} {l} out out' tune g c) =
     subst (λ (x : FrequencyTracker). Sound x l) (sym (c.state refl)) (next-sound s l o i)
 
 -- ---- so that no cause looks at such a state
-index_ok_lem : (n : ℕ) (s : Sample) → Index n s → index_ok n s ≡ true
-index_ok_lem n Never h = refl
-index_ok_lem n (At s) h = le-leb s n h
+index_ok_lem : (n : ℕ) (s : Option ℕ) → Index n s → index_ok n s ≡ true
+index_ok_lem n None h = refl
+index_ok_lem n (Some s) h = le-leb s n h
 
 signal_ok_lem : (line : ℕ) (s : Signal) → Signals line s → signal_ok line s ≡ true
 signal_ok_lem line s g = rw (le-leb s.n longest_stream g.stream, le-leb line s.n g.upto, index_ok_lem s.n s.last_signal g.last, index_ok_lem s.n s.frame_from g.from) refl

@@ -1,4 +1,5 @@
 -- What the order rules tell, once they are passed. Assumes nothing.
+use Rattle.std.proofs.Common.{Option, None, Some}
 use mathlib.Core.Path.{◌≡◌, refl}
 use mathlib.Core.Bool.{Bool, true, false, ◌&&◌}
 use mathlib.Core.List.{List}
@@ -11,8 +12,6 @@ use lib.Ieee.{Float}
 use Rattle.limits.specs.Limits.{longest_stream}
 use Rattle.limits.specs.Samples.{rate_ok}
 use Rattle.limits.proofs.Samples.{and_left, and_right, rate-low, rate-high}
-use Rattle.frequency_signal.specs.declared.Sample.{Sample}
-use Rattle.frequency_signal.specs.declared.Sample.TheVariants.{Never, At}
 use Rattle.frequency_signal.specs.declared.Signal.{Signal}
 use Rattle.frequency_signal.specs.Order.{Index, index_ok, signal_ok}
 use Rattle.frequency_signal.specs.Seconds.{Rate}
@@ -27,9 +26,9 @@ use Rattle.frequency.specs.Order.{ahead, tunings_in_order, readings_in_order, in
 pub rate_of : (rate : ℕ) → rate_ok rate ≡ true → Rate rate
 rate_of rate e = (rate-low rate e, rate-high rate e)
 
-index_of : (n : ℕ) (s : Sample) → index_ok n s ≡ true → Index n s
-index_of n Never e = tt
-index_of n (At s) e = leb-true s n e
+index_of : (n : ℕ) (s : Option ℕ) → index_ok n s ≡ true → Index n s
+index_of n None e = tt
+index_of n (Some s) e = leb-true s n e
 
 pub record Signals (line : ℕ) (s : Signal) : Type 0 where
   pub stream : s.n ≤ longest_stream

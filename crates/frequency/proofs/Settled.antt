@@ -1,4 +1,5 @@
 -- `next_tuning` of a state in order, on the slices. Assumes nothing.
+use Rattle.std.proofs.Common.{None, Some, Option, cond}
 use mathlib.Core.Path.{◌≡◌, refl, sym, ap, ◌∙◌, subst}
 use mathlib.Core.Bool.{Bool, true, false, not}
 use mathlib.Core.List.{List, map}
@@ -14,16 +15,13 @@ use Rattle.limits.specs.Samples.{rate_ok}
 use Rattle.limits.proofs.Samples.{and_right}
 use Rattle.cfo.specs.Cfo.{round_hz}
 use Rattle.frequency_signal.specs.Seconds.{Rate, quiet, late}
-use Rattle.frequency_signal.specs.declared.Sample.{Sample}
-use Rattle.frequency_signal.specs.declared.Sample.TheVariants.{Never, At}
 use Rattle.frequency_signal.specs.Order.{Index}
 use Rattle.frequency_lists.specs.Lists.{Reading, no_nan, last_or}
 use Rattle.frequency_lists.specs.Marks.{marked, retained, gathered}
 use Rattle.frequency_lists.proofs.Gather.{marked-le, map-retained, retained-take, length_retained, every-retained, length-gathered, gathered-front}
-use Rattle.frequency_measure.specs.declared.Frequency.TheVariants.{Nothing, Hz}
 use Rattle.frequency_measure.specs.Measured.{fewest, median}
 use Rattle.frequency_tuning.specs.declared.Step.TheVariants.{Stay, Base, Settled}
-use Rattle.frequency_tuning.specs.Steps.{waits, is_asked, pick_step, settled_by, target, asked, retunes, with_retuned}
+use Rattle.frequency_tuning.specs.Steps.{waits, is_asked, settled_by, target, asked, retunes, with_retuned}
 use Rattle.frequency.specs.declared.FrequencyTracker.{FrequencyTracker}
 use Rattle.frequency.specs.Lent.{Lists, tracker, packed}
 use Rattle.frequency.specs.Order.{in_order, floats_ok, numbers_ok, cause_next}
@@ -73,7 +71,7 @@ module _ (s : FrequencyTracker) (l : Lists) (o : Counts s l) where
   step_is : step_of (tracker s l) ≡ step_by s l.at l.hz
   unfolding step_of step_by tracker
   step_is =
-      ap (λ (z : List Float). pick_step (is_asked s.requested) Stay (pick_step (quiet s.rate s.signal.n s.signal.last_signal) Base (pick_step (waits s.rate s.signal) (settled_by z) Stay)))
+      ap (λ (z : List Float). cond (is_asked s.requested) Stay (cond (quiet s.rate s.signal.n s.signal.last_signal) Base (cond (waits s.rate s.signal) (settled_by z) Stay)))
       settled_is
 
   freq_is : freq_of (tracker s l) ≡ last_or s.base_freq (take s.tunings l.freq)
@@ -139,25 +137,25 @@ module _ (s : FrequencyTracker) (at : List ℕ) (hz out : List Float) (S : Settl
       let e = count_is in
       ap Settled (q ∙ ap round_hz (p ∙ ap median front_is)) ∙ sym (rw (le-leb fewest (length (settled_of s at hz)) (omega arith)) refl)
 
-pub index_up : (n : ℕ) (s : Sample) → n ≤ longest_stream → Index n s → Index longest_stream s
-index_up n Never h i = tt
-index_up n (At s) h i = omega arith
+pub index_up : (n : ℕ) (s : Option ℕ) → n ≤ longest_stream → Index n s → Index longest_stream s
+index_up n None h i = tt
+index_up n (Some s) h i = omega arith
 
 -- ---- the four ways
 module _ (s : FrequencyTracker) (at : List ℕ) (hz : List Float) where
-  pub step-asked : (f : ℕ) → s.requested ≡ Hz f → step_by s at hz ≡ Stay
+  pub step-asked : (f : ℕ) → s.requested ≡ Some f → step_by s at hz ≡ Stay
   unfolding step_by
   step-asked f e = rw e refl
 
-  module _ (e : s.requested ≡ Nothing) where
+  module _ (e : s.requested ≡ None) where
     pub step-quiet : quiet s.rate s.signal.n s.signal.last_signal ≡ true → step_by s at hz ≡ Base
     unfolding step_by
     step-quiet q = rw (e, q) refl
 
     pub step_waits : quiet s.rate s.signal.n s.signal.last_signal ≡ false → waits s.rate s.signal ≡ true → step_by s at hz ≡ settled_by (settled_of s at hz)
     unfolding step_by
-    step_waits q w = rw (e, q) (ap (λ (b : Bool). pick_step b (settled_by (settled_of s at hz)) Stay) w)
+    step_waits q w = rw (e, q) (ap (λ (b : Bool). cond b (settled_by (settled_of s at hz)) Stay) w)
 
     pub step_stays : quiet s.rate s.signal.n s.signal.last_signal ≡ false → waits s.rate s.signal ≡ false → step_by s at hz ≡ Stay
     unfolding step_by
-    step_stays q w = rw (e, q) (ap (λ (b : Bool). pick_step b (settled_by (settled_of s at hz)) Stay) w)
+    step_stays q w = rw (e, q) (ap (λ (b : Bool). cond b (settled_by (settled_of s at hz)) Stay) w)

@@ -1,4 +1,5 @@
 -- `tuned` of a state in order, from what the functions that it calls leave. Assumes nothing.
+use Rattle.std.proofs.Common.{Option}
 use mathlib.Core.Path.{◌≡◌, refl, sym, ap, ◌∙◌}
 use mathlib.Core.Bool.{Bool, true, false, not, cond, ◌&&◌}
 use mathlib.Core.List.{List, [], ◌∷◌, ◌++◌, map}
@@ -11,7 +12,6 @@ use lib.Ieee.{Float}
 use Rattle.limits.specs.Samples.{rate_ok}
 use Rattle.frequency_lists.specs.Lists.{Reading, Tuning, last_or, fits_tunings}
 use Rattle.frequency_lists.specs.Columns.{PutTuning}
-use Rattle.frequency_measure.specs.declared.Frequency.{Frequency}
 use Rattle.frequency_tuning.specs.Steps.{answered}
 use Rattle.frequency.specs.declared.FrequencyTracker.{FrequencyTracker}
 use Rattle.frequency.specs.Calls.{Beside}
@@ -48,7 +48,7 @@ fine s tun fre f e =
     room false false e g = e
 
 -- the state that `tuned` makes
-abbrev pub made : FrequencyTracker → ℕ → Frequency → FrequencyTracker
+abbrev pub made : FrequencyTracker → ℕ → (Option ℕ) → FrequencyTracker
 made s q g = record {
   rate = s.rate;
   base_freq = s.base_freq;

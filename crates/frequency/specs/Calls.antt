@@ -1,23 +1,13 @@
 -- What each exported call of the tracker says of its answer and of what it was lent. Assumes nothing.
-use Rattle.std.specs.Prelude.{ℕ, ◌≤◌, ◌≡◌, Bool, false, List, length, take, Float}
-use Rattle.limits.specs.Answer.{Answer, refused, accepted, answer, Free}
-use Rattle.frequency_signal.specs.declared.Floor.TheVariants.{Unknown}
-use Rattle.frequency_signal.specs.declared.Sample.TheVariants.{Never}
+use Rattle.std.specs.Prelude.{ℕ, ◌≤◌, ◌≡◌, Bool, false, List, length, take, Float, Option, None, Result, Ok, Err}
+use Rattle.limits.specs.declared.Refusal.{Refusal}
+use Rattle.limits.specs.Answer.{Answer, said, answer, Free}
 use Rattle.frequency_lists.specs.Lists.{Reading, last_or}
-use Rattle.frequency_measure.specs.declared.Frequency.{Frequency}
-use Rattle.frequency_measure.specs.declared.Frequency.TheVariants.{Nothing, Hz}
-use Rattle.frequency_measure.specs.declared.Measured.{Measured}
-use Rattle.frequency_measure.specs.declared.Measured.TheVariants.{Unmeasured, Found}
+use Rattle.frequency_measure.specs.declared.FrameFrequency.{FrameFrequency}
 use Rattle.record.specs.declared.FrameSpan.{FrameSpan}
 use Rattle.frequency_measure.specs.Measured.{readings_of, frame_frequency, frame1}
 use Rattle.record.specs.Spans.{span_ok, spans_ok}
 use Rattle.frequency.specs.declared.FrequencyTracker.{FrequencyTracker}
-use Rattle.frequency.specs.declared.Freq.{Freq}
-use Rattle.frequency.specs.declared.Freq.TheVariants as freq
-use Rattle.frequency.specs.declared.FrameFrequency.{FrameFrequency}
-use Rattle.frequency.specs.declared.FrameFrequency.TheVariants as frame
-use Rattle.frequency.specs.declared.Frame1.{Frame1}
-use Rattle.frequency.specs.declared.Frame1.TheVariants as first
 use Rattle.frequency.specs.Lent.{Lists, lists, tracker, packed, stored}
 use Rattle.frequency.specs.Order.{cause_freq, cause_tuned, cause_samples, cause_cfo, cause_next, cause_frame}
 use Rattle.frequency.specs.Tracker.{Tracker, tuned, samples, cfo, next_tuning, after_tuning}
@@ -51,49 +41,40 @@ pub record TunedEnd (s : FrequencyTracker) (f : ℕ) (tun fre : List ℕ) (r : �
   pub same_lent : (r ≡ 0 → ⊥) → (tun' ≡ tun) × (fre' ≡ fre)
 
 -- next_tuning: the lists are only read, and the scratch is free where the call is accepted
-pub record NextEnd (s : FrequencyTracker) (l : Lists) (out : List Float) (r : ℕ) (t : FrequencyTracker) (tune : Frequency) (out' : List Float) : Type 0 where
+pub record NextEnd (s : FrequencyTracker) (l : Lists) (out : List Float) (r : ℕ) (t : FrequencyTracker) (tune : (Option ℕ)) (out' : List Float) : Type 0 where
   pub refusal : r ≡ cause_next s l (length out)
   pub state : r ≡ 0 → t ≡ packed (after_tuning (tracker s l))
   pub answer : r ≡ 0 → tune ≡ next_tuning (tracker s l)
   pub same_state : (r ≡ 0 → ⊥) → t ≡ s
-  pub no_answer : (r ≡ 0 → ⊥) → tune ≡ Nothing
+  pub no_answer : (r ≡ 0 → ⊥) → tune ≡ None
   pub same_scratch : (r ≡ 0 → ⊥) → out' ≡ out
 
--- freq: 01's number and values of each answer, the receiver frequency
-unfoldable pub said_freq : Freq → Answer ℕ
-said_freq (freq.Refused n) = refused n
-said_freq (freq.Hz f) = accepted f
+-- where a call of next_tuning tunes to: nowhere where it is refused
+abbrev pub tune_of : Result (Option ℕ) Refusal → Option ℕ
+tune_of (Ok tune) = tune
+tune_of (Err e) = None
 
+-- freq: the receiver frequency
 abbrev pub freq_answer : FrequencyTracker → List ℕ → List ℕ → Answer ℕ
 freq_answer s tun fre = answer (cause_freq s tun fre) (last_or s.base_freq (take s.tunings fre))
-
--- frame_frequency: 01's number and values of each answer, the frequency and the receiver's, or none
-unfoldable pub said_frame : FrameFrequency → Answer Measured
-said_frame (frame.Refused n) = refused n
-said_frame frame.Unknown = accepted Unmeasured
-said_frame (frame.Found h lo) = accepted (Found h lo)
 
 abbrev pub held_readings : FrequencyTracker → List ℕ → List ℕ → List Float → List Reading
 held_readings s at lo hz = readings_of (take s.readings at) (take s.readings lo) (take s.readings hz)
 
-abbrev pub frame_answer : FrequencyTracker → List ℕ → List ℕ → List Float → ℕ → FrameSpan → Answer Measured
+-- frame_frequency: the frequency and the receiver's, or none
+abbrev pub frame_answer : FrequencyTracker → List ℕ → List ℕ → List Float → ℕ → FrameSpan → Answer (Option FrameFrequency)
 frame_answer s at lo hz room f = answer (cause_frame s at lo hz room (span_ok f)) (frame_frequency s.rate (held_readings s at lo hz) f.time f.end)
 
-pub record FrameEnd (s : FrequencyTracker) (f : FrameSpan) (at lo : List ℕ) (hz out : List Float) (r : FrameFrequency) (out' : List Float) : Type 0 where
-  pub says : said_frame r ≡ frame_answer s at lo hz (length out) f
+pub record FrameEnd (s : FrequencyTracker) (f : FrameSpan) (at lo : List ℕ) (hz out : List Float) (r : Result (Option FrameFrequency) Refusal) (out' : List Float) : Type 0 where
+  pub says : said r ≡ frame_answer s at lo hz (length out) f
   pub scratch : Free (cause_frame s at lo hz (length out) (span_ok f)) out out'
 
--- frame1: 01's number and values of each answer, the frequency in Hz, or none
-unfoldable pub said_first : Frame1 → Answer Frequency
-said_first (first.Refused n) = refused n
-said_first first.Unknown = accepted Nothing
-said_first (first.Hz f) = accepted (Hz f)
-
-abbrev pub frame1_answer : FrequencyTracker → List ℕ → List ℕ → List Float → ℕ → List FrameSpan → Bool → Answer Frequency
+-- frame1: the frequency, or none
+abbrev pub frame1_answer : FrequencyTracker → List ℕ → List ℕ → List Float → ℕ → List FrameSpan → Bool → Answer (Option ℕ)
 frame1_answer s at lo hz room spans downlink = answer (cause_frame s at lo hz room (spans_ok spans)) (frame1 s.rate (held_readings s at lo hz) spans downlink)
 
-pub record Frame1End (s : FrequencyTracker) (spans : List FrameSpan) (downlink : Bool) (at lo : List ℕ) (hz out : List Float) (r : Frame1) (out' : List Float) : Type 0 where
-  pub says : said_first r ≡ frame1_answer s at lo hz (length out) spans downlink
+pub record Frame1End (s : FrequencyTracker) (spans : List FrameSpan) (downlink : Bool) (at lo : List ℕ) (hz out : List Float) (r : Result (Option ℕ) Refusal) (out' : List Float) : Type 0 where
+  pub says : said r ≡ frame1_answer s at lo hz (length out) spans downlink
   pub scratch : Free (cause_frame s at lo hz (length out) (spans_ok spans)) out out'
 
 -- a tracker that has heard nothing
@@ -105,6 +86,6 @@ fresh rate base step = record {
   line_start = 0;
   readings = 0;
   tunings = 0;
-  requested = Nothing;
-  signal = record { n = 0; floor = Unknown; frame_from = Never; last_signal = Never; retuned = false };
+  requested = None;
+  signal = record { n = 0; floor = None; frame_from = None; last_signal = None; retuned = false };
 }

@@ -1,6 +1,5 @@
 -- Trackers grown from `new` by accepted calls, with the lists that each call left; base frequencies and tunings are u32. Assumes nothing.
-use Rattle.std.specs.Prelude.{ℕ, ◌<◌, ◌^◌, ◌≡◌, List, Float}
-use Rattle.frequency_measure.specs.declared.Frequency.{Frequency}
+use Rattle.std.specs.Prelude.{ℕ, ◌<◌, ◌^◌, ◌≡◌, List, Float, Option}
 use Rattle.frequency.specs.declared.FrequencyTracker.{FrequencyTracker}
 use Rattle.frequency.specs.Calls.{SamplesEnd, CfoEnd, TunedEnd, NextEnd, fresh}
 use Rattle.frequency.specs.Lent.{Lists, lists}
@@ -11,4 +10,4 @@ pub data Grown : FrequencyTracker → Lists → Type 0 where
   tuned : {s t : FrequencyTracker} {l : Lists} (f : ℕ) (tun fre : List ℕ) → f < 2 ^ 32 → Grown s l → TunedEnd s f l.tuned l.freq 0 t tun fre → Grown t (lists l.at l.lo l.hz tun fre)
   samples : {s t : FrequencyTracker} {l m : Lists} (dbm : List Float) → Grown s l → SamplesEnd s dbm l 0 t m → Grown t m
   cfo : {s t : FrequencyTracker} {l m : Lists} (raw : List ℕ) → Grown s l → CfoEnd s raw l 0 t m → Grown t m
-  next : {s t : FrequencyTracker} {l : Lists} (out out' : List Float) (tune : Frequency) → Grown s l → NextEnd s l out 0 t tune out' → Grown t l
+  next : {s t : FrequencyTracker} {l : Lists} (out out' : List Float) (tune : (Option ℕ)) → Grown s l → NextEnd s l out 0 t tune out' → Grown t l

@@ -1,15 +1,14 @@
 -- frequency.rs: the tracker as a record with its lists, and each call as a function on it. Assumes nothing.
-use Rattle.std.specs.Prelude.{ℕ, Bool, true, false, cond, not, List, [], ◌∷◌, ◌++◌, map, ltb, eqb, length, Float}
+use Rattle.std.specs.Prelude.{ℕ, Bool, true, false, cond, not, List, [], ◌∷◌, ◌++◌, map, ltb, eqb, length, Float, Option}
 use Rattle.frequency_signal.specs.declared.Signal.{Signal}
 use Rattle.frequency_signal.specs.Seconds.{quiet, late, kept}
 use Rattle.frequency_signal.specs.Heard.{heard}
 use Rattle.frequency_lists.specs.Lists.{Reading, Tuning, last_or, readings_from}
 use Rattle.frequency_lists.specs.Marks.{retained}
 use Rattle.frequency_retain.specs.Retain.{stays}
-use Rattle.frequency_measure.specs.declared.Frequency.{Frequency}
 use Rattle.frequency_tuning.specs.declared.Step.{Step}
 use Rattle.frequency_tuning.specs.declared.Step.TheVariants.{Stay, Base}
-use Rattle.frequency_tuning.specs.Steps.{answered, waits, is_asked, pick_step, settled_by, target, asked, retunes, with_retuned}
+use Rattle.frequency_tuning.specs.Steps.{answered, waits, is_asked, settled_by, target, asked, retunes, with_retuned}
 
 -- FrequencyTracker; requested is the Rust's Option<u32>
 pub record Tracker : Type 0 where
@@ -17,7 +16,7 @@ pub record Tracker : Type 0 where
   pub base : ℕ
   pub step : Float
   pub line : ℕ
-  pub requested : Frequency
+  pub requested : Option ℕ
   pub signal : Signal
   pub tunings : List Tuning
   pub readings : List Reading
@@ -90,11 +89,11 @@ settled_hz t = map (λ (x : Reading). x.hz) (retained (map (late t.rate t.signal
 unfoldable pub step_of : Tracker → Step
 unfolding settled_hz settled_by
 step_of t =
-    pick_step (is_asked t.requested) Stay
-    (pick_step (quiet t.rate t.signal.n t.signal.last_signal) Base
-    (pick_step (waits t.rate t.signal) (settled_by (settled_hz t)) Stay))
+    cond (is_asked t.requested) Stay
+    (cond (quiet t.rate t.signal.n t.signal.last_signal) Base
+    (cond (waits t.rate t.signal) (settled_by (settled_hz t)) Stay))
 
-unfoldable pub next_tuning : Tracker → Frequency
+unfoldable pub next_tuning : Tracker → Option ℕ
 unfolding freq_of step_of
 next_tuning t = target t.base (freq_of t) (step_of t)
 

@@ -1,5 +1,5 @@
 -- Scaffolding. `next_tuning` on the parallel slices, and what its parts ask of them. Assumes nothing.
-use Rattle.std.specs.Prelude.{ℕ, ◌≡◌, true, List, map, take, Float}
+use Rattle.std.specs.Prelude.{ℕ, ◌≡◌, true, cond, List, map, take, Float}
 use Rattle.frequency_signal.specs.Seconds.{quiet, late}
 use Rattle.frequency_lists.specs.Lists.{no_nan}
 use Rattle.frequency_lists.specs.Marks.{retained}
@@ -7,7 +7,7 @@ use Rattle.frequency_measure.specs.Gathered.{Lined}
 use Rattle.frequency.specs.declared.FrequencyTracker.{FrequencyTracker}
 use Rattle.frequency_tuning.specs.declared.Step.{Step}
 use Rattle.frequency_tuning.specs.declared.Step.TheVariants.{Stay, Base}
-use Rattle.frequency_tuning.specs.Steps.{Steady, is_asked, waits, settled_by, pick_step}
+use Rattle.frequency_tuning.specs.Steps.{Steady, is_asked, waits, settled_by}
 
 -- readings in order, none of whose frequencies is a NaN, and scratch for as many
 pub record Settling (s : FrequencyTracker) (at : List ℕ) (hz out : List Float) : Type 0 where
@@ -22,6 +22,6 @@ settled_of s at hz = retained (map (late s.rate s.signal.frame_from) (take s.rea
 unfoldable pub step_by : FrequencyTracker → List ℕ → List Float → Step
 unfolding settled_by
 step_by s at hz =
-    pick_step (is_asked s.requested) Stay
-    (pick_step (quiet s.rate s.signal.n s.signal.last_signal) Base
-    (pick_step (waits s.rate s.signal) (settled_by (settled_of s at hz)) Stay))
+    cond (is_asked s.requested) Stay
+    (cond (quiet s.rate s.signal.n s.signal.last_signal) Base
+    (cond (waits s.rate s.signal) (settled_by (settled_of s at hz)) Stay))

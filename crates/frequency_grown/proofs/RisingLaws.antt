@@ -1,4 +1,5 @@
 -- Readings rise where each call of `cfo` has one value at most, and then those that go stand in front. Assumes nothing.
+use Rattle.std.proofs.Common.{Option}
 use mathlib.Core.Path.{◌≡◌, refl, sym, ap, ◌∙◌, subst}
 use mathlib.Core.Bool.{Bool, true, false, cond, ◌&&◌}
 use mathlib.Core.List.{List, [], ◌∷◌, ◌++◌, map}
@@ -21,7 +22,6 @@ use Rattle.frequency_lists.proofs.Gather.{map-retained, every-retained}
 use Rattle.frequency_retain.specs.Retain.{Leads}
 use Rattle.frequency.specs.declared.FrequencyTracker.{FrequencyTracker}
 use Rattle.frequency_measure.specs.Measured.{readings_of}
-use Rattle.frequency_measure.specs.declared.Frequency.{Frequency}
 use Rattle.frequency.specs.Calls.{SamplesEnd, CfoEnd, TunedEnd, NextEnd, fresh}
 use Rattle.frequency.specs.Lent.{Lists, lists, tracker, packed, stored}
 use Rattle.frequency.specs.Grown as grown
@@ -189,7 +189,7 @@ after_cfo raw zero h g c = cfo raw h g c
 after_cfo {s} {t} {l} {m} raw (suc r) h g c =
     subst (λ (x : FrequencyTracker). Single x m) (sym (c.same_state (λ e. omega arith))) (subst (λ (x : Lists). Single s x) (sym (c.same_lists (λ e. omega arith))) g)
 
-pub after_next : {s t : FrequencyTracker} {l : Lists} (out out' : List Float) (tune : Frequency) (r : ℕ) → Single s l → NextEnd s l out r t tune out' → Single t l
+pub after_next : {s t : FrequencyTracker} {l : Lists} (out out' : List Float) (tune : (Option ℕ)) (r : ℕ) → Single s l → NextEnd s l out r t tune out' → Single t l
 after_next out out' tune zero g c = next out out' tune g c
 after_next {l = l} out out' tune (suc r) g c = subst (λ (x : FrequencyTracker). Single x l) (sym (c.same_state (λ e. omega arith))) g
 

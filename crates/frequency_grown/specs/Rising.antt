@@ -1,7 +1,6 @@
 -- Scaffolding. Readings that rise, and the trackers whose readings do: those that are handed one register value a call at most. Assumes nothing.
-use Rattle.std.specs.Prelude.{ℕ, ◌≤◌, ◌<◌, ◌^◌, ◌≡◌, Bool, true, ◌&&◌, List, [], ◌∷◌, leb, length, Float}
+use Rattle.std.specs.Prelude.{ℕ, ◌≤◌, ◌<◌, ◌^◌, ◌≡◌, Bool, true, ◌&&◌, List, [], ◌∷◌, leb, length, Float, Option}
 use Rattle.frequency_lists.specs.Lists.{every}
-use Rattle.frequency_measure.specs.declared.Frequency.{Frequency}
 use Rattle.frequency.specs.declared.FrequencyTracker.{FrequencyTracker}
 use Rattle.frequency.specs.Calls.{SamplesEnd, CfoEnd, TunedEnd, NextEnd, fresh}
 use Rattle.frequency.specs.Lent.{Lists, lists}
@@ -19,4 +18,4 @@ pub data Single : FrequencyTracker → Lists → Type 0 where
   tuned : {s t : FrequencyTracker} {l : Lists} (f : ℕ) (tun fre : List ℕ) → f < 2 ^ 32 → Single s l → TunedEnd s f l.tuned l.freq 0 t tun fre → Single t (lists l.at l.lo l.hz tun fre)
   samples : {s t : FrequencyTracker} {l m : Lists} (dbm : List Float) → Single s l → SamplesEnd s dbm l 0 t m → Single t m
   cfo : {s t : FrequencyTracker} {l m : Lists} (raw : List ℕ) → length raw ≤ 1 → Single s l → CfoEnd s raw l 0 t m → Single t m
-  next : {s t : FrequencyTracker} {l : Lists} (out out' : List Float) (tune : Frequency) → Single s l → NextEnd s l out 0 t tune out' → Single t l
+  next : {s t : FrequencyTracker} {l : Lists} (out out' : List Float) (tune : (Option ℕ)) → Single s l → NextEnd s l out 0 t tune out' → Single t l

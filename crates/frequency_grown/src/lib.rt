@@ -2,102 +2,93 @@
 // answers are those of the public calls.
 #![tactic(auto)]
 
-ghost use Rattle.std.specs.Prelude.{◌≡◌, true, ◌+◌, ◌^◌, ◌≤◌, ◌<◌, length, take};
+ghost use Rattle.std.specs.Prelude.{◌≡◌, true, ◌+◌, ◌^◌, ◌≤◌, ◌<◌, length, take, IfSome};
 ghost use Rattle.limits.specs.Limits.{longest_stream};
+ghost use Rattle.limits.specs.Answer.{cause_of};
 ghost use Rattle.frequency_signal.specs.Seconds.{oldest_of};
 ghost use Rattle.frequency_retain.specs.Retain.{Leads};
 ghost use Rattle.frequency.specs.Lent.{lists};
-ghost use Rattle.frequency.specs.Calls.{SamplesEnd, CfoEnd, NextEnd};
+ghost use Rattle.frequency.specs.Calls.{SamplesEnd, CfoEnd, NextEnd, tune_of};
 ghost use Rattle.frequency_grown.specs.Known.{Known, line_cause, values_cause};
 ghost use Rattle.frequency_grown.specs.Rising.{rises};
 
-use frequency::{FrequencyTracker, Next, Tracked};
-use frequency_retain::Look;
+use frequency::FrequencyTracker;
+use limits::Refusal;
 
-// The number of the cause, 3, 4 or 7, for which a line of samples is refused, or 0.
-fn line_cause(rate: u32, n: u64, dbm: &[f32]) -> u8
+// The first cause, 3, 4 or 7, that applies to a line of samples.
+fn check_line(rate: u32, n: u64, dbm: &[f32]) -> Result<(), Refusal>
     requires { n ≤ longest_stream }
-    ensures { result ≡ line_cause rate n dbm.now }
+    ensures { cause_of result ≡ line_cause rate n dbm.now }
 {
     if dbm.len() > limits::BUFFER_S * (rate as usize) {
-        return limits::LONG;
+        return Err(Refusal::Long);
     }
     if !limits::all_dbm(dbm) {
-        return limits::BAD_SAMPLE;
+        return Err(Refusal::BadSample);
     }
     if n + (dbm.len() as u64) > limits::LONGEST_STREAM {
-        return limits::STREAM;
+        return Err(Refusal::Stream);
     }
-    0
+    Ok(())
 }
 
 // The same, 3 or 8, of register values behind `held` readings.
-fn values_cause(held: usize, raw: &[u16], at: &[u64], lo: &[u32], hz: &[f64]) -> u8
+fn check_values(held: usize, raw: &[u16], at: &[u64], lo: &[u32], hz: &[f64]) -> Result<(), Refusal>
     requires { held ≤ length at.now }
-    ensures { result ≡ values_cause held raw.now at.now lo.now hz.now }
+    ensures { cause_of result ≡ values_cause held raw.now at.now lo.now hz.now }
 {
     if raw.len() > limits::MOST_READINGS {
-        return limits::LONG;
+        return Err(Refusal::Long);
     }
     if !frequency_lists::fits_readings(held + raw.len(), at, lo, hz) {
-        return limits::FULL;
+        return Err(Refusal::Full);
     }
-    0
+    Ok(())
 }
 
 // `samples` after a look at the readings.
 fn hear(
-    t: FrequencyTracker,
-    look: Look,
+    t: &mut FrequencyTracker,
+    look: Option<usize>,
     dbm: &[f32],
     at: &mut [u64],
     lo: &mut [u32],
     hz: &mut [f64],
     tuned: &mut [u64],
     freq: &mut [u32],
-) -> Tracked
-    requires { Known t (lists at.old lo.old hz.old tuned.old freq.old)
-        × (look.settled ≡ true → Leads (oldest_of t.rate (t.signal.n + length dbm.now)) t.readings look.lead at.old) }
-    ensures { SamplesEnd t dbm.now (lists at.old lo.old hz.old tuned.old freq.old)
-        result.refused result.tracker (lists at.new lo.new hz.new tuned.new freq.new) }
+) -> Result<(), Refusal>
+    requires { Known t.old (lists at.old lo.old hz.old tuned.old freq.old)
+        × IfSome look (λ lead. Leads (oldest_of t.old.rate (t.old.signal.n + length dbm.now)) t.old.readings lead at.old) }
+    ensures { SamplesEnd t.old dbm.now (lists at.old lo.old hz.old tuned.old freq.old)
+        (cause_of result) t.new (lists at.new lo.new hz.new tuned.new freq.new) }
 {
-    let signal = t.signal;
-    let cause = line_cause(t.rate, signal.n, dbm);
-    if cause != 0 {
-        return Tracked {
-            refused: cause,
-            tracker: t,
-        };
-    }
-    frequency::hear_line(t, look, dbm, at, lo, hz, tuned, freq)
+    check_line(t.rate, t.signal.n, dbm)?;
+    frequency::hear_line(t, look, dbm, at, lo, hz, tuned, freq);
+    Ok(())
 }
 
 // A look at readings that rise: those that a line of `more` samples makes go stand in front, and no other is looked at.
-fn rising_look(t: FrequencyTracker, more: usize, at: &[u64]) -> Look
-    requires { (t.signal.n ≤ longest_stream) × (more < 2 ^ 63) × (t.readings ≤ length at.now) × (rises (take t.readings at.now) ≡ true) }
-    ensures { Leads (oldest_of t.rate (t.signal.n + more)) t.readings result.lead at.now }
+fn rising_look(t: &FrequencyTracker, more: usize, at: &[u64]) -> usize
+    requires { (t.now.signal.n ≤ longest_stream) × (more < 2 ^ 63) × (t.now.readings ≤ length at.now) × (rises (take t.now.readings at.now) ≡ true) }
+    ensures { Leads (oldest_of t.now.rate (t.now.signal.n + more)) t.now.readings result at.now }
 {
-    let signal = t.signal;
-    let low = frequency_signal::oldest(t.rate, signal.n + (more as u64));
-    Look {
-        settled: true,
-        lead: frequency_retain::leading(low, t.readings, at),
-    }
+    let low = frequency_signal::oldest(t.rate, t.signal.n + (more as u64));
+    frequency_retain::leading(low, t.readings, at)
 }
 
 // `FrequencyTracker::samples`, with one look at the readings, for those that go; refusals 3, 4, 7.
 pub fn samples(
-    t: FrequencyTracker,
+    t: &mut FrequencyTracker,
     dbm: &[f32],
     at: &mut [u64],
     lo: &mut [u32],
     hz: &mut [f64],
     tuned: &mut [u64],
     freq: &mut [u32],
-) -> Tracked
-    requires { Known t (lists at.old lo.old hz.old tuned.old freq.old) }
-    ensures { SamplesEnd t dbm.now (lists at.old lo.old hz.old tuned.old freq.old)
-        result.refused result.tracker (lists at.new lo.new hz.new tuned.new freq.new) }
+) -> Result<(), Refusal>
+    requires { Known t.old (lists at.old lo.old hz.old tuned.old freq.old) }
+    ensures { SamplesEnd t.old dbm.now (lists at.old lo.old hz.old tuned.old freq.old)
+        (cause_of result) t.new (lists at.new lo.new hz.new tuned.new freq.new) }
 {
     let look = frequency::first_look(t, dbm.len(), at);
     hear(t, look, dbm, at, lo, hz, tuned, freq)
@@ -105,66 +96,57 @@ pub fn samples(
 
 // The same where the readings rise, as they do where a line has one register value: only those that go are looked at.
 pub fn samples_rising(
-    t: FrequencyTracker,
+    t: &mut FrequencyTracker,
     dbm: &[f32],
     at: &mut [u64],
     lo: &mut [u32],
     hz: &mut [f64],
     tuned: &mut [u64],
     freq: &mut [u32],
-) -> Tracked
-    requires { Known t (lists at.old lo.old hz.old tuned.old freq.old) × (rises (take t.readings at.old) ≡ true) }
-    ensures { SamplesEnd t dbm.now (lists at.old lo.old hz.old tuned.old freq.old)
-        result.refused result.tracker (lists at.new lo.new hz.new tuned.new freq.new) }
+) -> Result<(), Refusal>
+    requires { Known t.old (lists at.old lo.old hz.old tuned.old freq.old) × (rises (take t.old.readings at.old) ≡ true) }
+    ensures { SamplesEnd t.old dbm.now (lists at.old lo.old hz.old tuned.old freq.old)
+        (cause_of result) t.new (lists at.new lo.new hz.new tuned.new freq.new) }
 {
-    let look = rising_look(t, dbm.len(), at);
-    hear(t, look, dbm, at, lo, hz, tuned, freq)
+    let lead = rising_look(t, dbm.len(), at);
+    hear(t, Some(lead), dbm, at, lo, hz, tuned, freq)
 }
 
 // `FrequencyTracker::cfo`, without a look at what is held; refusals 3, 8.
 pub fn cfo(
-    t: FrequencyTracker,
+    t: &mut FrequencyTracker,
     raw: &[u16],
     at: &mut [u64],
     lo: &mut [u32],
     hz: &mut [f64],
     tuned: &[u64],
     freq: &[u32],
-) -> Tracked
-    requires { Known t (lists at.old lo.old hz.old tuned.now freq.now) }
-    ensures { CfoEnd t raw.now (lists at.old lo.old hz.old tuned.now freq.now)
-        result.refused result.tracker (lists at.new lo.new hz.new tuned.now freq.now) }
+) -> Result<(), Refusal>
+    requires { Known t.old (lists at.old lo.old hz.old tuned.now freq.now) }
+    ensures { CfoEnd t.old raw.now (lists at.old lo.old hz.old tuned.now freq.now)
+        (cause_of result) t.new (lists at.new lo.new hz.new tuned.now freq.now) }
 {
-    let cause = values_cause(t.readings, raw, at, lo, hz);
-    if cause != 0 {
-        return Tracked {
-            refused: cause,
-            tracker: t,
-        };
-    }
-    frequency::read_line(t, raw, at, lo, hz, tuned, freq)
+    check_values(t.readings, raw, at, lo, hz)?;
+    frequency::read_line(t, raw, at, lo, hz, tuned, freq);
+    Ok(())
 }
 
 // `FrequencyTracker::next_tuning`, with a look at the readings only where a frame's frequency is asked for; refusal 2.
 pub fn next_tuning(
-    t: FrequencyTracker,
+    t: &mut FrequencyTracker,
     at: &[u64],
     lo: &[u32],
     hz: &[f64],
     tuned: &[u64],
     freq: &[u32],
     out: &mut [f64],
-) -> Next
-    requires { Known t (lists at.now lo.now hz.now tuned.now freq.now) }
-    ensures { NextEnd t (lists at.now lo.now hz.now tuned.now freq.now) out.old
-        result.refused result.tracker result.tune out.new }
+) -> Result<Option<u32>, Refusal>
+    requires { Known t.old (lists at.now lo.now hz.now tuned.now freq.now) }
+    ensures { NextEnd t.old (lists at.now lo.now hz.now tuned.now freq.now) out.old
+        (cause_of result) t.new (tune_of result) out.new }
 {
     if out.len() < t.readings {
-        return Next {
-            refused: limits::SHORT,
-            tracker: t,
-            tune: frequency_measure::Frequency::Nothing,
-        };
+        return Err(Refusal::Short);
     }
-    frequency::choose_tuning(t, at, lo, hz, tuned, freq, out)
+    Ok(frequency::choose_tuning(t, at, lo, hz, tuned, freq, out))
 }

@@ -30,11 +30,8 @@ fn each_within(at: &[u64], count: usize, limit: u64) -> bool
     ensures { result ≡ up_to limit (take count at.now) }
 {
     let mut bad = 0u64;
-    let mut i = 0usize;
-    while i < count {
-        let here = past(limit, at[i]);
-        bad = bad + here;
-        i += 1;
+    for i in 0..count {
+        bad += past(limit, at[i]);
     }
     bad == 0
 }
@@ -45,11 +42,8 @@ fn spread_part(at: &[u64], first: usize, count: usize, low: u64) -> u64
     ensures { (i : ℕ) → first ≤ i → i < count → Reaches low result (slice_index at.now i) }
 {
     let mut bits = 0u64;
-    let mut i = first;
-    while i < count {
-        let far = std::num::wrapping_sub_u64(at[i], low);
-        bits = bits | far;
-        i += 1;
+    for i in first..count {
+        bits |= std::num::wrapping_sub_u64(at[i], low);
     }
     bits
 }
@@ -80,10 +74,8 @@ pub fn within(at: &[u64], count: usize, limit: u64) -> bool
         return true;
     }
     let low = at[0];
-    if low <= limit {
-        if spread(at, 0, count, low) <= limit - low {
-            return true;
-        }
+    if low <= limit && spread(at, 0, count, low) <= limit - low {
+        return true;
     }
     each_within(at, count, limit)
 }
@@ -100,11 +92,8 @@ fn no_nan_part(hz: &[f64], first: usize, count: usize) -> bool
     ensures { result ≡ no_nan (slice first count hz.now) }
 {
     let mut ok = true;
-    let mut i = first;
-    while i < count {
-        let here = is_number(hz[i]);
-        ok = ok & here;
-        i += 1;
+    for i in first..count {
+        ok &= is_number(hz[i]);
     }
     ok
 }
@@ -117,7 +106,7 @@ pub fn no_nan(hz: &[f64], count: usize) -> bool
     let mut ok = true;
     let mut i = 0usize;
     while BLOCK <= count - i {
-        ok = ok & no_nan_part(hz, i, i + BLOCK);
+        ok &= no_nan_part(hz, i, i + BLOCK);
         i += BLOCK;
     }
     ok & no_nan_part(hz, i, count)
@@ -208,13 +197,11 @@ pub fn read_values(
     ensures { Appended (readings_from rate step more tuned_at f line raw.now) count at.old lo.old hz.old result at.new lo.new hz.new }
 {
     let mut w = count;
-    let mut k = 0usize;
-    while k < raw.len() {
+    for (k, v) in raw.iter().enumerate() {
         let a = line + CFO_EVERY * (k as u64);
-        let h = cfo::reading_hz(f, raw[k], step);
+        let h = cfo::reading_hz(f, *v, step);
         let settling = frequency_signal::is_settling(rate, tuned_at, a);
         w = put_reading(!(settling & more), w, a, f, h, at, lo, hz);
-        k += 1;
     }
     w
 }

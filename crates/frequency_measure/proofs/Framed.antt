@@ -1,4 +1,5 @@
 -- A frame's frequency, from what the functions that scan and gather leave. Assumes nothing.
+use Rattle.std.proofs.Common.{None, Some}
 use mathlib.Core.Path.{◌≡◌, sym, ap, ◌∙◌, subst}
 use mathlib.Core.Bool.{Bool, true, not}
 use mathlib.Core.List.{List, map}
@@ -12,9 +13,8 @@ use lib.Ieee.{Float, nan, is_nan}
 use Rattle.frequency_lists.specs.Lists.{last_or, no_nan}
 use Rattle.frequency_lists.specs.Marks.{marked, retained, gathered, ands}
 use Rattle.frequency_lists.proofs.Gather.{marked-le, retained-take, every-retained, length-gathered, gathered-front}
-use Rattle.frequency_measure.specs.declared.Measured.TheVariants.{Unmeasured, Found}
 use Rattle.frequency_measure.specs.Gathered.{Free}
-use Rattle.frequency_measure.specs.Measured.{fewest, median, inside, first_of, past_of, frame_by}
+use Rattle.frequency_measure.specs.Measured.{fewest, measured, median, inside, first_of, past_of, frame_by}
 use Rattle.frequency_measure.proofs.Frames.{marks-size, length-ands, by_none, by-few, by-found}
 
 module _ (rate : ℕ) (time end : Float) (count : ℕ) (at lo : List ℕ) (hz out : List Float) (F : Free count at lo hz out)
@@ -38,7 +38,7 @@ module _ (rate : ℕ) (time end : Float) (count : ℕ) (at lo : List ℕ) (hz ou
     seen_is : seen ≡ marked (map (inside (first_of rate time) (past_of rate end)) (take count at))
     seen_is = S ∙ to (λ f p. marked (map (inside f p) (take count at)))
 
-    pub none_seen : seen ≡ 0 → frame_by rate time end (take count at) (take count lo) (take count hz) ≡ Unmeasured
+    pub none_seen : seen ≡ 0 → frame_by rate time end (take count at) (take count lo) (take count hz) ≡ None
     none_seen z = by_none rate time end (take count at) (take count lo) (take count hz) nl nh (sym seen_is ∙ z)
 
     module _ (Z : seen ≡ 0 → ⊥) (last m : ℕ) (out' : List Float) (L : last ≡ last_or 0 (retained (map (inside first past) (take count at)) lo))
@@ -83,7 +83,7 @@ module _ (rate : ℕ) (time end : Float) (count : ℕ) (at lo : List ℕ) (hz ou
           ap length (O ∙ to (λ f p. gathered (ands (map (inside f p) (take count at)) (map (λ (x : ℕ). eqb x last) (take count lo))) hz out))
           ∙ length-gathered bs hz out (omega arith) (omega arith)
 
-      pub few-seen : m < fewest → frame_by rate time end (take count at) (take count lo) (take count hz) ≡ Unmeasured
+      pub few-seen : m < fewest → frame_by rate time end (take count at) (take count lo) (take count hz) ≡ None
       few-seen h = by-few rate time end (take count at) (take count lo) (take count hz) nl nh last last_is some-seen (subst (λ (n : ℕ). n < fewest) count_is h)
 
       pub median-fits : fewest ≤ m → (0 < m) × (m ≤ length out') × (no_nan (take m out') ≡ true)
@@ -98,7 +98,7 @@ module _ (rate : ℕ) (time end : Float) (count : ℕ) (at lo : List ℕ) (hz ou
             subst (λ (l : List Float). no_nan l ≡ true) (sym (front_is ∙ sym hzs-are)) (every-retained (λ (x : Float). not (is_nan x)) bs (take count hz) F.numbers),
           )
 
-      pub found-is : fewest ≤ m → (h : Float) → h ≡ median (take m out') → Found h last ≡ frame_by rate time end (take count at) (take count lo) (take count hz)
+      pub found-is : fewest ≤ m → (h : Float) → h ≡ median (take m out') → Some (measured h last) ≡ frame_by rate time end (take count at) (take count lo) (take count hz)
       found-is k h e =
-          ap (λ (x : Float). Found x last) (e ∙ ap median (front_is ∙ sym hzs-are))
+          ap (λ (x : Float). Some (measured x last)) (e ∙ ap median (front_is ∙ sym hzs-are))
           ∙ sym (by-found rate time end (take count at) (take count lo) (take count hz) nl nh last last_is some-seen (subst (λ (n : ℕ). fewest ≤ n) count_is k))

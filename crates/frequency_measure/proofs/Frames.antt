@@ -1,4 +1,5 @@
 -- The readings of a frame, from the parallel lists: the last one's receiver frequency, and the frequencies against it. Assumes nothing.
+use Rattle.std.proofs.Common.{None, Some}
 use mathlib.Core.Path.{◌≡◌, refl, sym, ap, ◌∙◌, subst}
 use mathlib.Core.Bool.{Bool, true, false, cond, ◌&&◌}
 use mathlib.Core.List.{List, [], ◌∷◌, ◌++◌, map}
@@ -14,8 +15,7 @@ use lib.Ieee.{Float}
 use Rattle.frequency_lists.specs.Lists.{Reading, last_or}
 use Rattle.frequency_lists.specs.Marks.{marked, retained, ands}
 use Rattle.frequency_lists.proofs.Gather.{retained_yes, retained_no, length_retained, map-retained, mark_at_lem}
-use Rattle.frequency_measure.specs.declared.Measured.TheVariants.{Unmeasured, Found}
-use Rattle.frequency_measure.specs.Measured.{fewest, median, inside, first_of, past_of, pick_measured, frame_of, frame_frequency, frame_by, readings_of}
+use Rattle.frequency_measure.specs.Measured.{fewest, measured, median, inside, first_of, past_of, frame_of, frame_frequency, frame_by, readings_of}
 
 -- ---- the marks of the first count elements
 module _ {A : Type 0} (p : A → Bool) (count : ℕ) (l : List A) (h : count ≤ length l) where
@@ -100,18 +100,18 @@ none_left : {A : Type 0} (l : List A) → length l ≡ 0 → l ≡ []
 none_left [] e = refl
 none_left (x ∷ l) e = absurd (omega arith)
 
-pub frame_none : (l : List Reading) → length l ≡ 0 → frame_of l ≡ Unmeasured
+pub frame_none : (l : List Reading) → length l ≡ 0 → frame_of l ≡ None
 unfolding frame_of
 frame_none l e = rw (none_left l e) refl
 
 pub frame_some : (l : List Reading) (lo : ℕ) (hzs : List Float) → 0 < length l → lo ≡ last_or 0 (map (λ (y : Reading). y.lo) l)
     → hzs ≡ map (λ (y : Reading). y.hz) (retained (map (λ (y : Reading). eqb y.lo lo) l) l)
-    → frame_of l ≡ pick_measured (leb fewest (length hzs)) (Found (median hzs) lo) Unmeasured
+    → frame_of l ≡ cond (leb fewest (length hzs)) (Some (measured (median hzs) lo)) None
 unfolding frame_of last_or
 frame_some [] lo hzs h e p = absurd (omega arith)
 frame_some (x ∷ l) lo hzs h e p =
     let at-last = λ (z : ℕ). map (λ (y : Reading). y.hz) (retained (map (λ (y : Reading). eqb y.lo z) (x ∷ l)) (x ∷ l)) in
-    rw p (subst (λ (z : ℕ). frame_of (x ∷ l) ≡ pick_measured (leb fewest (length (at-last z))) (Found (median (at-last z)) z) Unmeasured) (sym e) refl)
+    rw p (subst (λ (z : ℕ). frame_of (x ∷ l) ≡ cond (leb fewest (length (at-last z))) (Some (measured (median (at-last z)) z)) None) (sym e) refl)
 
 -- ---- the parallel lists
 module _ (at lo : List ℕ) (hz : List Float) (p : length at ≡ length lo) (q : length at ≡ length hz) where
@@ -141,7 +141,7 @@ module _ (rate : ℕ) (time end : Float) (at lo : List ℕ) (hz : List Float) (p
   seen_is : length (retained insides (readings_of at lo hz)) ≡ marked insides
   seen_is = let e = size in let f = length-map at (inside (first_of rate time) (past_of rate end)) in length_retained insides (readings_of at lo hz) (omega arith)
 
-  pub by_none : marked insides ≡ 0 → frame_by rate time end at lo hz ≡ Unmeasured
+  pub by_none : marked insides ≡ 0 → frame_by rate time end at lo hz ≡ None
   unfolding frame_frequency
   by_none z = ap (λ (bs : List Bool). frame_of (retained bs (readings_of at lo hz))) marks_are ∙ frame_none (retained insides (readings_of at lo hz)) (seen_is ∙ z)
 
@@ -160,7 +160,7 @@ module _ (rate : ℕ) (time end : Float) (at lo : List ℕ) (hz : List Float) (p
         (sym (map-map (λ (y : Reading). y.lo) (λ (x : ℕ). eqb x last) (readings_of at lo hz) ∙ ap (map (λ (x : ℕ). eqb x last)) (los_of at lo hz p q)))
         ∙ ap (map (λ (y : Reading). y.hz)) (sym (retained_both (λ (y : Reading). eqb y.lo last) insides (readings_of at lo hz)))
 
-    by-some : 0 < marked insides → frame_by rate time end at lo hz ≡ pick_measured (leb fewest (length (retained ofs hz))) (Found (median (retained ofs hz)) last) Unmeasured
+    by-some : 0 < marked insides → frame_by rate time end at lo hz ≡ cond (leb fewest (length (retained ofs hz))) (Some (measured (median (retained ofs hz)) last)) None
     unfolding frame_frequency
     by-some z =
         let e = seen_is in
@@ -173,8 +173,8 @@ module _ (rate : ℕ) (time end : Float) (at lo : List ℕ) (hz : List Float) (p
     count_is : length (retained ofs hz) ≡ marked ofs
     count_is = let e = ofs-size in length_retained ofs hz (omega arith)
 
-    pub by-few : 0 < marked insides → marked ofs < fewest → frame_by rate time end at lo hz ≡ Unmeasured
+    pub by-few : 0 < marked insides → marked ofs < fewest → frame_by rate time end at lo hz ≡ None
     by-few z h = let e = count_is in by-some z ∙ rw (lt-leb fewest (length (retained ofs hz)) (omega arith)) refl
 
-    pub by-found : 0 < marked insides → fewest ≤ marked ofs → frame_by rate time end at lo hz ≡ Found (median (retained ofs hz)) last
+    pub by-found : 0 < marked insides → fewest ≤ marked ofs → frame_by rate time end at lo hz ≡ Some (measured (median (retained ofs hz)) last)
     by-found z h = let e = count_is in by-some z ∙ rw (le-leb fewest (length (retained ofs hz)) (omega arith)) refl

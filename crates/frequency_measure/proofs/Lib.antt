@@ -3,3 +3,4 @@ pub mod Constants
 pub mod Frames
 pub mod Framed
 pub mod Signed
+pub mod Picked

@@ -1,5 +1,5 @@
 -- frequency.rs: median, frame_frequency and frame1, on lists of readings. Assumes nothing.
-use Rattle.std.specs.Prelude.{ℕ, ◌/◌, Bool, true, false, ◌&&◌, List, [], ◌∷◌, map, leb, ltb, eqb, length, Float}
+use Rattle.std.specs.Prelude.{ℕ, ◌/◌, Bool, true, false, cond, ◌&&◌, List, [], ◌∷◌, map, leb, ltb, eqb, length, Float, Option, None, Some}
 use Rattle.std.specs.Float.{binary64}
 use Rattle.std.specs.Float.Ieee.{add, sub, mul, div, lt, le, to_unsigned}
 use Rattle.floats.specs.Floor.{round_half_up}
@@ -11,10 +11,7 @@ use Rattle.rates.specs.Numbers.{settle_s}
 use Rattle.cfo.specs.Cfo.{round_hz}
 use Rattle.frequency_lists.specs.Lists.{Reading, last_or}
 use Rattle.frequency_lists.specs.Marks.{retained}
-use Rattle.frequency_measure.specs.declared.Frequency.{Frequency}
-use Rattle.frequency_measure.specs.declared.Frequency.TheVariants.{Nothing, Hz}
-use Rattle.frequency_measure.specs.declared.Measured.{Measured}
-use Rattle.frequency_measure.specs.declared.Measured.TheVariants.{Unmeasured, Found}
+use Rattle.frequency_measure.specs.declared.FrameFrequency.{FrameFrequency}
 use Rattle.record.specs.declared.FrameSpan.{FrameSpan}
 
 -- hz.len() >= 5
@@ -58,29 +55,25 @@ past_of rate end = sample_of (mul binary64 end (num rate))
 abbrev pub inside : ℕ → ℕ → ℕ → Bool
 inside first past at = leb first at && ltb at past
 
-abbrev pub pick_measured : Bool → Measured → Measured → Measured
-pick_measured true a b = a
-pick_measured false a b = b
+-- a frequency and the receiver frequency it was measured against
+abbrev pub measured : Float → ℕ → FrameFrequency
+measured h f = record { hz = h; lo = f }
 
 -- of the readings in a frame: against the last receiver frequency used in it, of five readings or more with that one
-unfoldable pub frame_of : List Reading → Measured
+unfoldable pub frame_of : List Reading → Option FrameFrequency
 unfolding median last_or
-frame_of [] = Unmeasured
+frame_of [] = None
 frame_of (x ∷ l) =
     let lo = last_or x.lo (map (λ (y : Reading). y.lo) l) in
     let hzs = map (λ (y : Reading). y.hz) (retained (map (λ (y : Reading). eqb y.lo lo) (x ∷ l)) (x ∷ l)) in
-    pick_measured (leb fewest (length hzs)) (Found (median hzs) lo) Unmeasured
+    cond (leb fewest (length hzs)) (Some (measured (median hzs) lo)) None
 
 -- frame_frequency
-unfoldable pub frame_frequency : ℕ → List Reading → Float → Float → Measured
+unfoldable pub frame_frequency : ℕ → List Reading → Float → Float → Option FrameFrequency
 unfolding frame_of
 frame_frequency rate readings time end = frame_of (retained (map (λ (y : Reading). inside (first_of rate time) (past_of rate end) y.at) readings) readings)
 
 -- ---- frame1
-
-abbrev pub pick_frequency : Bool → Frequency → Frequency → Frequency
-pick_frequency true a b = a
-pick_frequency false a b = b
 
 -- (hz - f64::from(lo)).abs() <= MAX_OFFSET_HZ
 abbrev pub near : Float → ℕ → Bool
@@ -91,26 +84,26 @@ abbrev pub spaced : Float → Float → Bool
 spaced h g = lt (mul binary64 spacing_low delta_hz) (sub binary64 h g) && lt (sub binary64 h g) (mul binary64 spacing_high delta_hz)
 
 -- frame 1 itself, measured close to the receiver frequency
-unfoldable pub direct : Measured → Frequency
-direct Unmeasured = Nothing
-direct (Found h lo) = pick_frequency (near h lo) (Hz (round_hz h)) Nothing
+unfoldable pub direct : Option FrameFrequency → Option ℕ
+direct None = None
+direct (Some f) = cond (near f.hz f.lo) (Some (round_hz f.hz)) None
 
 -- the midpoint of frames 2 and 3, plausibly spaced and measured with the same receiver frequency, else the other
-unfoldable pub middle : Measured → Measured → Frequency → Frequency
-middle Unmeasured b other = other
-middle (Found h lo) Unmeasured other = other
-middle (Found h lo) (Found g lp) other =
-    let mid = div binary64 (add binary64 h g) (num 2) in
-    pick_frequency (eqb lo lp && (spaced h g && near mid lo)) (Hz (round_hz mid)) other
+unfoldable pub middle : Option FrameFrequency → Option FrameFrequency → Option ℕ → Option ℕ
+middle None b other = other
+middle (Some f) None other = other
+middle (Some f) (Some g) other =
+    let mid = div binary64 (add binary64 f.hz g.hz) (num 2) in
+    cond (eqb f.lo g.lo && (spaced f.hz g.hz && near mid f.lo)) (Some (round_hz mid)) other
 
 -- frames.iter().find(|x| x.rank == rank).and_then(|f| self.frame_frequency(f))
-unfoldable pub of_rank : ℕ → List Reading → List FrameSpan → ℕ → Measured
+unfoldable pub of_rank : ℕ → List Reading → List FrameSpan → ℕ → Option FrameFrequency
 unfolding frame_frequency
-of_rank rate readings [] k = Unmeasured
-of_rank rate readings (f ∷ l) k = pick_measured (eqb f.rank k) (frame_frequency rate readings f.time f.end) (of_rank rate readings l k)
+of_rank rate readings [] k = None
+of_rank rate readings (f ∷ l) k = cond (eqb f.rank k) (frame_frequency rate readings f.time f.end) (of_rank rate readings l k)
 
 -- frame1: ranks 0, 1, 2 are frames 1, 2, 3
-unfoldable pub frame1 : ℕ → List Reading → List FrameSpan → Bool → Frequency
+unfoldable pub frame1 : ℕ → List Reading → List FrameSpan → Bool → Option ℕ
 unfolding of_rank direct middle
 frame1 rate readings spans true = middle (of_rank rate readings spans 1) (of_rank rate readings spans 2) (direct (of_rank rate readings spans 0))
 frame1 rate readings spans false = direct (of_rank rate readings spans 0)
@@ -122,5 +115,5 @@ readings_of (a ∷ ats) [] hs = []
 readings_of (a ∷ ats) (l ∷ ls) [] = []
 readings_of (a ∷ ats) (l ∷ ls) (h ∷ hs) = record { at = a; lo = l; hz = h } ∷ readings_of ats ls hs
 
-abbrev pub frame_by : ℕ → Float → Float → List ℕ → List ℕ → List Float → Measured
+abbrev pub frame_by : ℕ → Float → Float → List ℕ → List ℕ → List Float → Option FrameFrequency
 frame_by rate time end ats los hzs = frame_frequency rate (readings_of ats los hzs) time end

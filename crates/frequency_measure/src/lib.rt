@@ -7,8 +7,8 @@ ghost use Rattle.frequency_signal.specs.Seconds.{Rate, late};
 ghost use Rattle.frequency_signal.specs.Order.{Index};
 ghost use Rattle.frequency_lists.specs.Lists.{no_nan, last_or};
 ghost use Rattle.frequency_lists.specs.Marks.{marked, retained, gathered, put, ands};
-ghost use Rattle.frequency_measure.specs.Measured.{median, sample_of, first_of, past_of, inside, near, spaced, frame_by, direct, middle, pick_frequency};
-ghost use Rattle.frequency_measure.specs.Gathered.{Lined, Rows, Free};
+ghost use Rattle.frequency_measure.specs.Measured.{median, sample_of, first_of, past_of, inside, near, spaced, frame_by, direct, middle};
+ghost use Rattle.frequency_measure.specs.Gathered.{Lined, Rows, IsLast, Free};
 
 // The frequency of a frame, and a retune, need this many readings.
 pub const FEWEST: usize = 5;
@@ -28,43 +28,17 @@ const SPACING_HIGH: f64 = 2.5;
 // CFO readings are trusted this long into a frame.
 const SETTLE_S: f64 = 0.3;
 
-// A frequency in whole Hz, or none: the Rust's Option<u32>.
+// A frame's frequency and the receiver frequency it was measured against.
 #[derive(Clone, Copy)]
-pub enum Frequency {
-    Nothing,
-    Hz(u32),
-}
-
-// A frame's frequency and the receiver frequency it was measured against, or none: the Rust's Option<FrameFrequency>.
-#[derive(Clone, Copy)]
-pub enum Measured {
-    Unmeasured,
-    Found(f64, u32),
-}
-
-// How many readings lie in a frame, and the receiver frequency of the last.
-#[derive(Clone, Copy)]
-struct Scan {
-    seen: usize,
-    lo: u32,
-}
-
-// x at the place w, if it is taken; how many there are then.
-fn put_hz(taken: bool, x: f64, w: usize, out: &mut [f64]) -> usize
-    requires { w < length out.old }
-    ensures { (result ≡ cond taken (w + 1) w) × (out.new ≡ put taken out.old w x) }
-{
-    if taken {
-        out[w] = x;
-        return w + 1;
-    }
-    w
+pub struct FrameFrequency {
+    pub hz: f64,
+    pub lo: u32,
 }
 
 // The frequencies of the readings that are at least GAP_S into the frame, in front of the scratch (hz of next_tuning).
 pub fn gather_late(
     rate: u32,
-    from: frequency_signal::Sample,
+    from: Option<u64>,
     count: usize,
     at: &[u64],
     hz: &[f64],
@@ -75,10 +49,11 @@ pub fn gather_late(
         × (out.new ≡ gathered (map (late rate from) (take count at.now)) hz.now out.old) }
 {
     let mut w = 0usize;
-    let mut i = 0usize;
-    while i < count {
-        w = put_hz(frequency_signal::is_late(rate, from, at[i]), hz[i], w, out);
-        i += 1;
+    for i in 0..count {
+        if frequency_signal::is_late(rate, from, at[i]) {
+            out[w] = hz[i];
+            w += 1;
+        }
     }
     w
 }
@@ -89,7 +64,7 @@ pub fn median_of(xs: &[f64], m: usize) -> f64
     ensures { result ≡ median (take m xs.now) }
 {
     let part = &xs[..m];
-    order::select64(part, m / 2)
+    order::select(part, m / 2)
 }
 
 // (x + 0.5).floor() as an index.
@@ -121,32 +96,18 @@ fn is_inside(first: u64, past: u64, at: u64) -> bool
     a & b
 }
 
-fn pick_scan(t: bool, lo: u32, s: Scan) -> Scan
-    requires { s.seen < 2 ^ 63 }
-    ensures { (result.seen ≡ cond t (s.seen + 1) s.seen) × (result.lo ≡ cond t lo s.lo) }
-{
-    if t {
-        return Scan {
-            seen: s.seen + 1,
-            lo: lo,
-        };
-    }
-    s
-}
-
-// The readings of a frame, and the last one's receiver frequency.
-fn scan_frame(first: u64, past: u64, count: usize, at: &[u64], lo: &[u32]) -> Scan
+// The receiver frequency of a frame's last reading, or none where it has no reading.
+fn last_lo(first: u64, past: u64, count: usize, at: &[u64], lo: &[u32]) -> Option<u32>
     requires { (count ≤ length at.now) × (count ≤ length lo.now) }
-    ensures { (result.seen ≡ marked (map (inside first past) (take count at.now)))
-        × (result.lo ≡ last_or 0 (retained (map (inside first past) (take count at.now)) lo.now)) }
+    ensures { IsLast (map (inside first past) (take count at.now)) lo.now result }
 {
-    let mut s = Scan { seen: 0, lo: 0 };
-    let mut i = 0usize;
-    while i < count {
-        s = pick_scan(is_inside(first, past, at[i]), lo[i], s);
-        i += 1;
+    let mut last = None;
+    for i in 0..count {
+        if is_inside(first, past, at[i]) {
+            last = Some(lo[i]);
+        }
     }
-    s
+    last
 }
 
 // Whether a reading lies in the frame, against the receiver frequency last.
@@ -173,10 +134,11 @@ fn gather_frame(
         × (out.new ≡ gathered (ands (map (inside first past) (take count at.now)) (map (λ (x : ℕ). eqb x last) (take count lo.now))) hz.now out.old) }
 {
     let mut w = 0usize;
-    let mut i = 0usize;
-    while i < count {
-        w = put_hz(is_of(first, past, last, at[i], lo[i]), hz[i], w, out);
-        i += 1;
+    for i in 0..count {
+        if is_of(first, past, last, at[i], lo[i]) {
+            out[w] = hz[i];
+            w += 1;
+        }
     }
     w
 }
@@ -191,28 +153,21 @@ pub fn frame_of(
     lo: &[u32],
     hz: &[f64],
     out: &mut [f64],
-) -> Measured
+) -> Option<FrameFrequency>
     requires { Free count at.now lo.now hz.now out.old }
     ensures { (result ≡ frame_by rate time end (take count at.now) (take count lo.now) (take count hz.now)) × (length out.new ≡ length out.old) }
 {
     let first = first_of(rate, time);
     let past = past_of(rate, end);
-    let s = scan_frame(first, past, count, at, lo);
-    if s.seen == 0 {
-        return Measured::Unmeasured;
-    }
-    let last = s.lo;
+    let last = last_lo(first, past, count, at, lo)?;
     let m = gather_frame(first, past, last, count, at, lo, hz, out);
     if m < FEWEST {
-        return Measured::Unmeasured;
+        return None;
     }
-    Measured::Found(median_of(out, m), last)
-}
-
-fn pick_frequency(t: bool, a: Frequency, b: Frequency) -> Frequency
-    ensures { result ≡ pick_frequency t a b }
-{
-    if t { a } else { b }
+    Some(FrameFrequency {
+        hz: median_of(out, m),
+        lo: last,
+    })
 }
 
 // Whether a frequency was measured close to the receiver frequency.
@@ -232,39 +187,34 @@ fn is_spaced(h: f64, g: f64) -> bool
 }
 
 // Frame 1 itself, unless it was measured too far from the receiver frequency.
-pub fn direct_hz(m: Measured) -> Frequency
+pub fn direct_hz(m: Option<FrameFrequency>) -> Option<u32>
     ensures { result ≡ direct m }
 {
-    match m {
-        Measured::Unmeasured => Frequency::Nothing,
-        Measured::Found(h, lo) => pick_frequency(
-            is_near(h, lo),
-            Frequency::Hz(cfo::round_hz(h)),
-            Frequency::Nothing,
-        ),
-    }
+    let f = m?;
+    is_near(f.hz, f.lo).then_some(cfo::round_hz(f.hz))
 }
 
 // The midpoint of two frequencies, if they are plausible, else the other.
-fn midpoint(h: f64, lo: u32, g: f64, lp: u32, other: Frequency) -> Frequency
-    ensures { result ≡ middle (Measured.Found h lo) (Measured.Found g lp) other }
+fn midpoint(f: FrameFrequency, g: FrameFrequency, other: Option<u32>) -> Option<u32>
+    ensures { result ≡ middle (Some f) (Some g) other }
 {
-    let mid = (h + g) / 2.0;
-    let same = lo == lp;
-    let ok = same & (is_spaced(h, g) & is_near(mid, lo));
-    pick_frequency(ok, Frequency::Hz(cfo::round_hz(mid)), other)
+    let mid = (f.hz + g.hz) / 2.0;
+    let same = f.lo == g.lo;
+    let ok = same & (is_spaced(f.hz, g.hz) & is_near(mid, f.lo));
+    whole::pick(ok, Some(cfo::round_hz(mid)), other)
 }
 
 // The midpoint of frames 2 and 3 when the device sent them at frame 1 +/- 6 kHz and they were measured with the same
 // receiver frequency, else the other.
-pub fn middle_hz(f2: Measured, f3: Measured, other: Frequency) -> Frequency
+pub fn middle_hz(
+    f2: Option<FrameFrequency>,
+    f3: Option<FrameFrequency>,
+    other: Option<u32>,
+) -> Option<u32>
     ensures { result ≡ middle f2 f3 other }
 {
-    match f2 {
-        Measured::Unmeasured => other,
-        Measured::Found(h, lo) => match f3 {
-            Measured::Unmeasured => other,
-            Measured::Found(g, lp) => midpoint(h, lo, g, lp, other),
-        },
+    match (f2, f3) {
+        (Some(f), Some(g)) => midpoint(f, g, other),
+        _ => other,
     }
 }

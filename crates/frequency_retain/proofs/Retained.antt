@@ -9,6 +9,8 @@ use lib.Dec.{leb, ltb}
 use lib.ListN.{length, take, get_or}
 use lib.Seq.{get_or-take, length-take-le}
 use lib.Ieee.{Float}
+use Rattle.std.specs.Prelude.{IfSome}
+use Rattle.std.specs.Bool.{then_some}
 use Rattle.frequency_lists.specs.Marks.{marked, gathered}
 use Rattle.frequency_lists.specs.Lists.{Reaches}
 use Rattle.frequency_lists.proofs.Reach.{up_to_all}
@@ -68,3 +70,8 @@ looked_of low limit count lead far at H L W U F R S = record {
     go : (i : ℕ) → i < count → (t : Bool) → (t ≡ true → i < lead) → (t ≡ false → lead ≤ i) → get_or at i 0 ≤ limit
     go i k true p q = let z = leb-false low (get_or at i 0) (F i (p refl)) in omega arith
     go i k false p q = let z = (R i (q refl) k).0 in omega arith
+
+-- what holds of a value where a test passes, of what `then_some` makes of them
+pub if-then_some : {A : Type 0} (P : A → Type 0) (t : Bool) (x : A) → (t ≡ true → P x) → IfSome (then_some t x) P
+if-then_some P true x h = h refl
+if-then_some P false x h = tt

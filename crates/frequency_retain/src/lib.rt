@@ -1,17 +1,10 @@
 // What `samples` forgets: readings and tunings of more than 60 s ago, taken out of the parallel slices in place.
 #![tactic(auto)]
 
-ghost use Rattle.std.specs.Prelude.{◌≡◌, cond, true, false, map, ℕ, ◌+◌, ◌-◌, ◌≤◌, ◌<◌, ◌^◌, length, take, get_or, eqb, leb};
+ghost use Rattle.std.specs.Prelude.{◌≡◌, IfSome, cond, true, false, map, ℕ, ◌+◌, ◌-◌, ◌≤◌, ◌<◌, ◌^◌, length, take, get_or, eqb, leb};
 ghost use Rattle.limits.specs.Limits.{longest_stream};
 ghost use Rattle.frequency_signal.specs.Seconds.{Rate, kept, oldest_of};
 ghost use Rattle.frequency_retain.specs.Retain.{moved, stays, KeptReading, Held, Leads, Looked, Moved, Compacted, KeptTuning, HeldTunings, CompactedTunings};
-
-// Whether a look at the readings has settled their order, and how many of them, in front, go.
-#[derive(Clone, Copy)]
-pub struct Look {
-    pub settled: bool,
-    pub lead: usize,
-}
 
 // No two indices in order are so far apart.
 const FAR: u64 = 0x8000_0000_0000_0000;
@@ -50,47 +43,19 @@ fn compact_readings(
     ensures { Compacted (map (kept rate n) (take count at.old)) at.old lo.old hz.old result at.new lo.new hz.new }
 {
     let mut w = 0usize;
-    let mut i = 0usize;
-    while i < count {
+    for i in 0..count {
         w = keep_reading(frequency_signal::is_kept(rate, n, at[i]), i, w, at, lo, hz);
-        i += 1;
     }
     w
 }
 
 // The places from k to count go to the front.
-fn shift_u64(a: &mut [u64], k: usize, count: usize)
+fn shift<T: Copy>(a: &mut [T], k: usize, count: usize)
     requires { (k ≤ count) × (count ≤ length a.old) }
     ensures { a.new ≡ moved k (count - k) a.old }
 {
-    let mut i = 0usize;
-    while i < count - k {
+    for i in 0..count - k {
         a[i] = a[i + k];
-        i += 1;
-    }
-}
-
-// The places from k to count go to the front.
-fn shift_u32(a: &mut [u32], k: usize, count: usize)
-    requires { (k ≤ count) × (count ≤ length a.old) }
-    ensures { a.new ≡ moved k (count - k) a.old }
-{
-    let mut i = 0usize;
-    while i < count - k {
-        a[i] = a[i + k];
-        i += 1;
-    }
-}
-
-// The places from k to count go to the front.
-fn shift_f64(a: &mut [f64], k: usize, count: usize)
-    requires { (k ≤ count) × (count ≤ length a.old) }
-    ensures { a.new ≡ moved k (count - k) a.old }
-{
-    let mut i = 0usize;
-    while i < count - k {
-        a[i] = a[i + k];
-        i += 1;
     }
 }
 
@@ -99,9 +64,9 @@ fn shift_readings(k: usize, count: usize, at: &mut [u64], lo: &mut [u32], hz: &m
     requires { (k ≤ count) × Held count at.old lo.old hz.old }
     ensures { Moved k count at.old lo.old hz.old at.new lo.new hz.new }
 {
-    shift_u64(at, k, count);
-    shift_u32(lo, k, count);
-    shift_f64(hz, k, count);
+    shift(at, k, count);
+    shift(lo, k, count);
+    shift(hz, k, count);
 }
 
 // The first `lead` readings go. A line of 8 samples mostly lets one go, and a shift by a number that is known is a block move.
@@ -124,35 +89,23 @@ pub fn leading(oldest: u64, count: usize, at: &[u64]) -> usize
     requires { count ≤ length at.now }
     ensures { (result ≤ count) × ((i : ℕ) → i < result → leb oldest (get_or at.now i 0) ≡ false) × (result < count → leb oldest (get_or at.now result 0) ≡ true) }
 {
-    let mut i = 0usize;
-    while i < count {
+    for i in 0..count {
         if oldest <= at[i] {
             return i;
         }
-        i += 1;
     }
-    i
+    count
 }
 
-// A look at the readings: those in front are before low, and all others lie between low and limit, or nothing is settled.
-pub fn look_at(low: u64, limit: u64, count: usize, at: &[u64]) -> Look
-    ensures { result.settled ≡ true → Looked low limit count result.lead at.now }
+// A look at the readings: how many in front are before low, where all others lie between low and limit; else nothing is settled.
+pub fn look_at(low: u64, limit: u64, count: usize, at: &[u64]) -> Option<usize>
+    ensures { IfSome result (λ lead. Looked low limit count lead at.now) }
 {
-    let none = Look {
-        settled: false,
-        lead: 0,
-    };
-    if at.len() < count {
-        return none;
-    }
-    if limit < low {
-        return none;
+    if at.len() < count || limit < low {
+        return None;
     }
     let lead = leading(low, count, at);
-    Look {
-        settled: frequency_lists::spread(at, lead, count, low) <= limit - low,
-        lead: lead,
-    }
+    (frequency_lists::spread(at, lead, count, low) <= limit - low).then_some(lead)
 }
 
 // The readings of the last 60 s stay (readings.retain). Readings come in the order of their indices, so that those that go
@@ -179,7 +132,7 @@ fn retain_readings(
 
 // The same after a look that may have settled which go.
 pub fn retain_looked(
-    look: Look,
+    look: Option<usize>,
     rate: u32,
     n: u64,
     count: usize,
@@ -187,15 +140,14 @@ pub fn retain_looked(
     lo: &mut [u32],
     hz: &mut [f64],
 ) -> usize
-    requires { Rate rate × (n ≤ longest_stream) × Held count at.old lo.old hz.old × (look.settled ≡ true → Leads (oldest_of rate n) count look.lead at.old) }
+    requires { Rate rate × (n ≤ longest_stream) × Held count at.old lo.old hz.old × IfSome look (λ lead. Leads (oldest_of rate n) count lead at.old) }
     ensures { Compacted (map (kept rate n) (take count at.old)) at.old lo.old hz.old result at.new lo.new hz.new }
 {
-    if look.settled {
-        let lead = look.lead;
-        forget(lead, count, at, lo, hz);
-        return count - lead;
-    }
-    retain_readings(rate, n, count, at, lo, hz)
+    let Some(lead) = look else {
+        return retain_readings(rate, n, count, at, lo, hz);
+    };
+    forget(lead, count, at, lo, hz);
+    count - lead
 }
 
 // A tuning stays while it is the last one or the next one is still kept.
@@ -228,11 +180,9 @@ pub fn retain_tunings(rate: u32, n: u64, count: usize, tuned: &mut [u64], freq: 
     ensures { CompactedTunings (stays rate n (take count tuned.old)) tuned.old freq.old result tuned.new freq.new }
 {
     let mut w = 0usize;
-    let mut i = 0usize;
-    while i < count {
+    for i in 0..count {
         let keep = tuning_stays(rate, n, i, count, tuned);
         w = keep_tuning(keep, i, w, tuned, freq);
-        i += 1;
     }
     w
 }

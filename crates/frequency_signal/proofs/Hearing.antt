@@ -1,22 +1,20 @@
 -- Laws of specs/Heard.antt. Assumes nothing.
-use Rattle.std.proofs.Common.{◌≡◌, ℕ, ◌+◌, ◌<◌, ◌≤◌, Bool, true, false, List, [], ◌∷◌, length, get_or, drop, refl, ◌∙◌, add-one, arith, drop_of_length-le, drop-cons}
+use Rattle.std.proofs.Common.{◌≡◌, ℕ, ◌+◌, ◌<◌, ◌≤◌, Bool, true, false, List, [], ◌∷◌, length, get_or, drop, refl, ◌∙◌, add-one, arith, drop_of_length-le, drop-cons, Option, None, Some, cond}
 use lib.Ieee.{Float, nan, binary64, lt, add}
-use Rattle.frequency_signal.specs.declared.Sample.{Sample}
-use Rattle.frequency_signal.specs.declared.Sample.TheVariants.{Never, At}
 use Rattle.frequency_signal.specs.declared.Signal.{Signal}
 use Rattle.frequency_signal.specs.Order.{Index}
-use Rattle.frequency_signal.specs.Heard.{above_db, known, pick_signal, loud, soft, hear, heard}
+use Rattle.frequency_signal.specs.Heard.{above_db, known, loud, soft, hear, heard}
 
-pub later : (n : ℕ) (s : Sample) → Index n s → Index (n + 1) s
-later n Never h = tt
-later n (At s) h = omega arith
+pub later : (n : ℕ) (s : Option ℕ) → Index n s → Index (n + 1) s
+later n None h = tt
+later n (Some s) h = omega arith
 
 module _ (rate : ℕ) (s : Signal) (v : Float) where
   pub hear-n : (hear rate s v).n ≡ s.n + 1
   unfolding hear loud soft
   hear-n = go (lt (add binary64 (known s.floor v) above_db) v)
     where
-      go : (t : Bool) → (pick_signal t (loud rate s (known s.floor v)) (soft rate s (known s.floor v) v)).n ≡ s.n + 1
+      go : (t : Bool) → (cond t (loud rate s (known s.floor v)) (soft rate s (known s.floor v) v)).n ≡ s.n + 1
       go true = refl
       go false = refl
 
@@ -24,7 +22,7 @@ module _ (rate : ℕ) (s : Signal) (v : Float) where
   unfolding hear loud soft
   hear-index h = go (lt (add binary64 (known s.floor v) above_db) v)
     where
-      go : (t : Bool) → Index (pick_signal t (loud rate s (known s.floor v)) (soft rate s (known s.floor v) v)).n (pick_signal t (loud rate s (known s.floor v)) (soft rate s (known s.floor v) v)).last_signal
+      go : (t : Bool) → Index (cond t (loud rate s (known s.floor v)) (soft rate s (known s.floor v) v)).n (cond t (loud rate s (known s.floor v)) (soft rate s (known s.floor v) v)).last_signal
       go true = omega arith
       go false = later s.n s.last_signal h
 

@@ -1,15 +1,13 @@
 -- What a line of samples keeps: the indices stay within the stream's count. Assumes nothing.
-use Rattle.std.proofs.Common.{ℕ, ◌+◌, Bool, true, false, List, [], ◌∷◌, arith}
+use Rattle.std.proofs.Common.{ℕ, ◌+◌, Bool, true, false, List, [], ◌∷◌, arith, Option, Some, cond}
 use lib.Ieee.{Float, binary64, lt, add}
-use Rattle.frequency_signal.specs.declared.Sample.{Sample}
-use Rattle.frequency_signal.specs.declared.Sample.TheVariants.{At}
 use Rattle.frequency_signal.specs.declared.Signal.{Signal}
 use Rattle.frequency_signal.specs.Seconds.{gap}
 use Rattle.frequency_signal.specs.Order.{Index}
-use Rattle.frequency_signal.specs.Heard.{above_db, known, pick_sample, pick_signal, loud, soft, hear, heard}
+use Rattle.frequency_signal.specs.Heard.{above_db, known, loud, soft, hear, heard}
 use Rattle.frequency_signal.proofs.Hearing.{later, hear-index}
 
-picked : (n : ℕ) (t : Bool) (from : Sample) → Index n from → Index (n + 1) (pick_sample t (At n) from)
+picked : (n : ℕ) (t : Bool) (from : Option ℕ) → Index n from → Index (n + 1) (cond t (Some n) from)
 picked n true from h = omega arith
 picked n false from h = later n from h
 
@@ -17,7 +15,7 @@ hear_from : (rate : ℕ) (s : Signal) (v : Float) → Index s.n s.frame_from →
 unfolding hear loud soft
 hear_from rate s v h = go (lt (add binary64 (known s.floor v) above_db) v)
   where
-    go : (t : Bool) → Index (pick_signal t (loud rate s (known s.floor v)) (soft rate s (known s.floor v) v)).n (pick_signal t (loud rate s (known s.floor v)) (soft rate s (known s.floor v) v)).frame_from
+    go : (t : Bool) → Index (cond t (loud rate s (known s.floor v)) (soft rate s (known s.floor v) v)).n (cond t (loud rate s (known s.floor v)) (soft rate s (known s.floor v) v)).frame_from
     go true = picked s.n (gap rate s.n s.last_signal) s.frame_from h
     go false = later s.n s.frame_from h
 

@@ -1,6 +1,6 @@
 -- A floor that follows a sample stays between -200 and 100 dBm. The step towards the sample, rounded twice, is no longer than the way to it, and rounding keeps the
 -- order of the sum and the ends of the range, which are floats. Assumes nothing.
-use Rattle.std.proofs.Common.{◌≡◌, ℕ, zero, suc, ◌+◌, ◌-◌, ◌*◌, ◌^◌, ◌<◌, ◌≤◌, Bool, true, false, cond, not, ◌&&◌, ◌||◌, T, eqb, ltb, List, [], ◌∷◌, ℤ, pos, sym, refl, ap, ◌∙◌, subst, true≢false, le_trans, le_of_eq, lt_of_lt_of_le, lt_of_le_of_lt, mul-le-mul_right, zero-lt-suc, mul_assoc, mul_comm, add-mul, mul-le-mul_left, mul-lt-mul_of_pos_right, mul-pos, mul-one, mul_right_comm, le_of_mul-le-mul_right, mul_left_comm, arith, lit≤, pow_pos, ltb-false, ltb-true, lt-ltb, eq-eqb, eqb-true, leb-true}
+use Rattle.std.proofs.Common.{◌≡◌, ℕ, zero, suc, ◌+◌, ◌-◌, ◌*◌, ◌^◌, ◌<◌, ◌≤◌, Bool, true, false, cond, not, ◌&&◌, ◌||◌, T, eqb, ltb, List, [], ◌∷◌, ℤ, pos, sym, refl, ap, ◌∙◌, subst, true≢false, le_trans, le_of_eq, lt_of_lt_of_le, lt_of_le_of_lt, mul-le-mul_right, zero-lt-suc, mul_assoc, mul_comm, add-mul, mul-le-mul_left, mul-lt-mul_of_pos_right, mul-pos, mul-one, mul_right_comm, le_of_mul-le-mul_right, mul_left_comm, arith, lit≤, pow_pos, ltb-false, ltb-true, lt-ltb, eq-eqb, eqb-true, leb-true, Option, None, Some}
 use lib.Dec.{eqb-suc-zero}
 use lib.Ieee.{Float, nan, inf, fin, binary64, unlike, up, down, round, sum, add, sub, div, neg, lt, le, eq, of_int}
 use lib.Ieee.Exact.{HasValue, units_val}
@@ -15,10 +15,8 @@ use Rattle.limits.specs.Samples.{is_dbm, all_dbm}
 use Rattle.limits.proofs.Samples.{and_left, and_right}
 use Rattle.rates.proofs.Near.{closest_near, grid_lt, int_value}
 use Rattle.rates.proofs.Values.{le-values, holds}
-use Rattle.frequency_signal.specs.declared.Floor.{Floor}
-use Rattle.frequency_signal.specs.declared.Floor.TheVariants.{Unknown, Dbm}
 use Rattle.frequency_signal.specs.declared.Signal.{Signal}
-use Rattle.frequency_signal.specs.Heard.{above_db, known, pick_signal, loud, soft, hear, heard}
+use Rattle.frequency_signal.specs.Heard.{above_db, known, loud, soft, hear, heard}
 use Rattle.frequency_signal.specs.Order.{floor_ok}
 
 -- ---- the range, by a float's size and sign
@@ -363,15 +361,15 @@ follows rate f v R M p q = valid (add binary64 f (div binary64 (sub binary64 v f
 
 -- ---- a line of samples
 module _ (rate : ℕ) (R : 4 ≤ rate) (M : rate ≤ 2 ^ 53) where
-  known-valid : (floor : Floor) (v : Float) → floor_ok floor ≡ true → is_dbm v ≡ true → is_dbm (known floor v) ≡ true
-  known-valid Unknown v p q = q
-  known-valid (Dbm f) v p q = p
+  known-valid : (floor : Option Float) (v : Float) → floor_ok floor ≡ true → is_dbm v ≡ true → is_dbm (known floor v) ≡ true
+  known-valid None v p q = q
+  known-valid (Some f) v p q = p
 
   hear-floor : (s : Signal) (v : Float) → floor_ok s.floor ≡ true → is_dbm v ≡ true → floor_ok (hear rate s v).floor ≡ true
   unfolding hear loud soft
   hear-floor s v p q = go (lt (add binary64 (known s.floor v) above_db) v)
     where
-      go : (t : Bool) → floor_ok (pick_signal t (loud rate s (known s.floor v)) (soft rate s (known s.floor v) v)).floor ≡ true
+      go : (t : Bool) → floor_ok (cond t (loud rate s (known s.floor v)) (soft rate s (known s.floor v) v)).floor ≡ true
       go true = known-valid s.floor v p q
       go false = follows rate (known s.floor v) v R M (known-valid s.floor v p q) q
 

@@ -1,47 +1,45 @@
 -- frequency.rs's comparisons of sample indices with seconds, as the Rust has them, in binary64; proofs/Indices.antt says what they are on whole numbers.
--- rates/specs/Numbers.antt has SETTLE_S, GAP_S, QUIET_S and KEEP_S. The Rust's i64 index that may be -1 or absent is a `Sample`. Assumes nothing.
-use Rattle.std.specs.Prelude.{ℕ, ◌+◌, ◌-◌, ◌*◌, ◌≤◌, Bool, false, negsuc, Float}
+-- rates/specs/Numbers.antt has SETTLE_S, GAP_S, QUIET_S and KEEP_S. The Rust's i64 index that may be -1 or absent is an `Option ℕ`. Assumes nothing.
+use Rattle.std.specs.Prelude.{ℕ, ◌+◌, ◌-◌, ◌*◌, ◌≤◌, Bool, false, negsuc, Float, Option, None, Some}
 use Rattle.std.specs.Float.{inf, binary64}
 use Rattle.std.specs.Float.Ieee.{add, sub, mul, lt, le, of_int}
 use Rattle.floats.specs.Number.{num}
 use Rattle.limits.specs.Limits.{lowest_rate, highest_rate}
 use Rattle.rates.specs.Numbers.{settle_s, gap_s, tracker_quiet_s, keep_s}
-use Rattle.frequency_signal.specs.declared.Sample.{Sample}
-use Rattle.frequency_signal.specs.declared.Sample.TheVariants.{Never, At}
 
 -- rate 200 to 4,000
 abbrev pub Rate : ℕ → Type 0
 Rate rate = (lowest_rate ≤ rate) × (rate ≤ highest_rate)
 
--- since_signal() > limit; last_signal None is `Never`, infinitely long ago
-abbrev pub since_over : Float → ℕ → Sample → Bool
-since_over limit n Never = lt limit (inf false)
-since_over limit n (At s) = lt limit (num (n - s))
+-- since_signal() > limit; None is infinitely long ago
+abbrev pub since_over : Float → ℕ → Option ℕ → Bool
+since_over limit n None = lt limit (inf false)
+since_over limit n (Some s) = lt limit (num (n - s))
 
 -- since_signal() > GAP_S * rate
-unfoldable pub gap : ℕ → ℕ → Sample → Bool
+unfoldable pub gap : ℕ → ℕ → Option ℕ → Bool
 gap rate n last = since_over (mul binary64 gap_s (num rate)) n last
 
 -- since_signal() > QUIET_S * rate
-unfoldable pub quiet : ℕ → ℕ → Sample → Bool
+unfoldable pub quiet : ℕ → ℕ → Option ℕ → Bool
 quiet rate n last = since_over (mul binary64 tracker_quiet_s (num rate)) n last
 
--- n - frame_from; frame_from -1 is `Never`
-abbrev pub since : ℕ → Sample → ℕ
-since n Never = n + 1
-since n (At s) = n - s
+-- n - frame_from; frame_from -1 is None
+abbrev pub since : ℕ → Option ℕ → ℕ
+since n None = n + 1
+since n (Some s) = n - s
 
 -- ((n - frame_from) as f64) < SETTLE_S * rate
-unfoldable pub young : ℕ → ℕ → Sample → Bool
+unfoldable pub young : ℕ → ℕ → Option ℕ → Bool
 young rate n from = lt (num (since n from)) (mul binary64 settle_s (num rate))
 
 -- frame_from as f64
-abbrev pub index : Sample → Float
-index Never = of_int binary64 (negsuc 0)
-index (At s) = num s
+abbrev pub index : Option ℕ → Float
+index None = of_int binary64 (negsuc 0)
+index (Some s) = num s
 
 -- at as f64 >= frame_from as f64 + rate * GAP_S
-unfoldable pub late : ℕ → Sample → ℕ → Bool
+unfoldable pub late : ℕ → Option ℕ → ℕ → Bool
 late rate from at = le (add binary64 (index from) (mul binary64 (num rate) gap_s)) (num at)
 
 -- (at as f64) < tuned_at as f64 + SETTLE_S * rate

@@ -1,26 +1,18 @@
--- The first of three spans that has a rank. Assumes nothing.
-use mathlib.Core.Path.{◌≡◌, refl}
-use mathlib.Core.List.{List, [], ◌∷◌}
-use Prim.Native.Nat.{ℕ}
-use borrow.Author.Tests.{eq-eqb, ne_eqb}
+-- The first span that has a rank, found by a loop. Assumes nothing.
+use Rattle.std.proofs.Common.{◌≡◌, ℕ, ◌+◌, ◌<◌, ◌≤◌, List, length, get_or, drop, None, refl, add-one, drop-cons, drop_of_length-le, eq-eqb, ne_eqb}
 use Rattle.frequency_lists.specs.Lists.{Reading}
 use Rattle.record.specs.declared.FrameSpan.{FrameSpan}
-use Rattle.frequency_measure.specs.declared.Measured.TheVariants.{Unmeasured}
 use Rattle.frequency_measure.specs.Measured.{frame_frequency, of_rank}
 
-module _ (rate : ℕ) (rs : List Reading) (a b c : FrameSpan) (k : ℕ) where
-  pub rank_a : a.rank ≡ k → of_rank rate rs (a ∷ b ∷ c ∷ []) k ≡ frame_frequency rate rs a.time a.end
+module _ (rate : ℕ) (rs : List Reading) (l : List FrameSpan) (k i : ℕ) (d : FrameSpan) where
+  pub rank_here : i < length l → (get_or l i d).rank ≡ k → of_rank rate rs (drop i l) k ≡ frame_frequency rate rs (get_or l i d).time (get_or l i d).end
   unfolding of_rank
-  rank_a e = rw (eq-eqb a.rank k e) refl
+  rank_here h e = rw (drop-cons l i d h, eq-eqb (get_or l i d).rank k e) refl
 
-  pub rank-b : (a.rank ≡ k → ⊥) → b.rank ≡ k → of_rank rate rs (a ∷ b ∷ c ∷ []) k ≡ frame_frequency rate rs b.time b.end
+  pub rank_later : i < length l → ((get_or l i d).rank ≡ k → ⊥) → of_rank rate rs (drop i l) k ≡ of_rank rate rs (drop (i + 1) l) k
   unfolding of_rank
-  rank-b d e = rw (ne_eqb a.rank k d, eq-eqb b.rank k e) refl
+  rank_later h e = rw (drop-cons l i d h, ne_eqb (get_or l i d).rank k e, add-one i) refl
 
-  pub rank-c : (a.rank ≡ k → ⊥) → (b.rank ≡ k → ⊥) → c.rank ≡ k → of_rank rate rs (a ∷ b ∷ c ∷ []) k ≡ frame_frequency rate rs c.time c.end
+  pub rank_none : length l ≤ i → of_rank rate rs (drop i l) k ≡ None
   unfolding of_rank
-  rank-c d f e = rw (ne_eqb a.rank k d, ne_eqb b.rank k f, eq-eqb c.rank k e) refl
-
-  pub rank_none : (a.rank ≡ k → ⊥) → (b.rank ≡ k → ⊥) → (c.rank ≡ k → ⊥) → of_rank rate rs (a ∷ b ∷ c ∷ []) k ≡ Unmeasured
-  unfolding of_rank
-  rank_none d f g = rw (ne_eqb a.rank k d, ne_eqb b.rank k f, ne_eqb c.rank k g) refl
+  rank_none h = rw (drop_of_length-le l {i = i} h) refl

@@ -9,6 +9,9 @@ ghost use Rattle.frequency_measure.specs.Measured.{of_rank, readings_of};
 ghost use Rattle.frequency_tuning.specs.Steps.{Steady, answered, waits, unless, target, asked, retunes};
 ghost use Rattle.frequency_tuning.specs.Ranges.{step_ok};
 
+use frequency_measure::FrameFrequency;
+use record::FrameSpan;
+
 // The Hz of a CFO step lie between 0 and this.
 const HIGHEST_STEP: f64 = 10_000.0;
 
@@ -50,18 +53,11 @@ pub fn no_room(due: bool, count: usize, tuned: &[u64], freq: &[u32]) -> bool
 }
 
 // The request is answered if the receiver is tuned to it.
-pub fn answer(requested: frequency_measure::Frequency, hz: u32) -> frequency_measure::Frequency
+pub fn answer(requested: Option<u32>, hz: u32) -> Option<u32>
     ensures { result ≡ answered requested hz }
 {
-    match requested {
-        frequency_measure::Frequency::Nothing => frequency_measure::Frequency::Nothing,
-        frequency_measure::Frequency::Hz(f) => {
-            if f == hz {
-                return frequency_measure::Frequency::Nothing;
-            }
-            frequency_measure::Frequency::Hz(f)
-        }
-    }
+    let f = requested?;
+    unless_at(f, hz)
 }
 
 // Whether a frame is heard whose frequency is not known yet.
@@ -69,46 +65,35 @@ pub fn is_waiting(rate: u32, s: frequency_signal::Signal) -> bool
     requires { Steady rate s }
     ensures { result ≡ waits rate s }
 {
-    let last = s.last_signal;
-    let from = s.frame_from;
     let a = !s.retuned;
-    let b = !frequency_signal::is_gap(rate, s.n, last);
-    let c = !frequency_signal::is_young(rate, s.n, from);
+    let b = !frequency_signal::is_gap(rate, s.n, s.last_signal);
+    let c = !frequency_signal::is_young(rate, s.n, s.frame_from);
     a & (b & c)
 }
 
 // f, unless the receiver is there already.
-pub fn unless_at(f: u32, now_hz: u32) -> frequency_measure::Frequency
+pub fn unless_at(f: u32, now_hz: u32) -> Option<u32>
     ensures { result ≡ unless f now_hz }
 {
-    if f == now_hz {
-        return frequency_measure::Frequency::Nothing;
-    }
-    frequency_measure::Frequency::Hz(f)
+    (f != now_hz).then_some(f)
 }
 
 // What a step tunes to.
-pub fn target_of(base: u32, now_hz: u32, step: Step) -> frequency_measure::Frequency
+pub fn target_of(base: u32, now_hz: u32, step: Step) -> Option<u32>
     ensures { result ≡ target base now_hz step }
 {
     match step {
-        Step::Stay => frequency_measure::Frequency::Nothing,
+        Step::Stay => None,
         Step::Base => unless_at(base, now_hz),
         Step::Settled(f) => unless_at(f, now_hz),
     }
 }
 
 // A request is remembered.
-pub fn remember(
-    tune: frequency_measure::Frequency,
-    old: frequency_measure::Frequency,
-) -> frequency_measure::Frequency
+pub fn remember(tune: Option<u32>, old: Option<u32>) -> Option<u32>
     ensures { result ≡ asked tune old }
 {
-    match tune {
-        frequency_measure::Frequency::Nothing => old,
-        frequency_measure::Frequency::Hz(f) => frequency_measure::Frequency::Hz(f),
-    }
+    tune.or(old)
 }
 
 // Whether the receiver is retuned for this message, after a step.
@@ -116,8 +101,7 @@ pub fn retuned_by(step: Step, old: bool) -> bool
     ensures { result ≡ retunes step old }
 {
     match step {
-        Step::Stay => old,
-        Step::Base => old,
+        Step::Stay | Step::Base => old,
         Step::Settled(_) => true,
     }
 }
@@ -126,33 +110,20 @@ pub fn retuned_by(step: Step, old: bool) -> bool
 pub fn of_rank(
     rate: u32,
     rank: u8,
-    a: record::FrameSpan,
-    b: record::FrameSpan,
-    c: record::FrameSpan,
+    spans: &[FrameSpan],
     count: usize,
     at: &[u64],
     lo: &[u32],
     hz: &[f64],
     out: &mut [f64],
-) -> frequency_measure::Measured
+) -> Option<FrameFrequency>
     requires { Free count at.now lo.now hz.now out.old }
-    ensures { (result ≡ of_rank rate (readings_of (take count at.now) (take count lo.now) (take count hz.now)) (a ∷ b ∷ c ∷ []) rank) × (length out.new ≡ length out.old) }
+    ensures { (result ≡ of_rank rate (readings_of (take count at.now) (take count lo.now) (take count hz.now)) spans.now rank) × (length out.new ≡ length out.old) }
 {
-    if a.rank == rank {
-        return frequency_measure::frame_of(rate, a.time, a.end, count, at, lo, hz, out);
+    for s in spans {
+        if s.rank == rank {
+            return frequency_measure::frame_of(rate, s.time, s.end, count, at, lo, hz, out);
+        }
     }
-    if b.rank == rank {
-        return frequency_measure::frame_of(rate, b.time, b.end, count, at, lo, hz, out);
-    }
-    if c.rank == rank {
-        return frequency_measure::frame_of(rate, c.time, c.end, count, at, lo, hz, out);
-    }
-    frequency_measure::Measured::Unmeasured
-}
-
-// One of two numbers by a test, so that the caller has no branch.
-pub fn pick_u8(t: bool, a: u8, b: u8) -> u8
-    ensures { result ≡ cond t a b }
-{
-    if t { a } else { b }
+    None
 }

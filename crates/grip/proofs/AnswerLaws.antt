@@ -2,28 +2,31 @@
 use mathlib.Core.Path.{◌≡◌, refl, ap, ◌∙◌}
 use mathlib.Core.Bool.{Bool, true, false, ◌&&◌}
 use mathlib.Core.List.{List, []}
-use Prim.Native.Nat.{ℕ, ◌%◌, ◌≤◌, ◌<◌}
+use Prim.Native.Nat.{ℕ, ◌≤◌, ◌<◌}
 use native.Mathlib.Omega.{arith}
 use borrow.Author.Tests.{lt-ltb, le-ltb}
-use lib.Dec.{ltb, eqb}
+use lib.Dec.{ltb}
 use lib.ListN.{length}
 use lib.Seq.{sets}
 use lib.Ieee.{Float}
-use Rattle.limits.specs.Limits.{record_size, most_record_bytes}
-use Rattle.limits.specs.Answer.{accepted, answer, number, leaves}
+use Rattle.std.specs.Prelude.{Option, Some, None, Result, Ok, Err}
+use Rattle.std.specs.Result.{IsErrAnd}
+use Rattle.limits.specs.declared.Refusal.{Refusal}
+use Rattle.limits.specs.declared.Refusal.TheVariants.{Short, Long, BadRecords, BadTime}
+use Rattle.limits.specs.Refusals.{number_of}
+use Rattle.limits.proofs.AnswerLaws.{said_at_exit}
+use Rattle.limits.specs.Limits.{bad_records, most_record_bytes}
+use Rattle.limits.specs.Answer.{said, said_by, accepted, answer, number, leaves}
 use Rattle.limits.proofs.Samples.{and_left, and_right}
-use Rattle.event_list.specs.Events.{wholes, events_of, all_ok, list_ok}
+use Rattle.event_list.specs.Events.{wholes, events_of, list_ok}
 use Rattle.grip.specs.declared.Best.{Best}
-use Rattle.grip.specs.declared.Nearest.{Nearest}
-use Rattle.grip.specs.declared.Nearest.TheVariants.{Refused, Record, Nothing}
-use Rattle.grip.specs.declared.Air.{Air}
-use Rattle.grip.specs.declared.Air.TheVariants as air
+use Rattle.grip.specs.declared.Match.{Match}
 use Rattle.grip.specs.Times.{is_finite, distance_ok}
-use Rattle.grip.specs.Nearest.{said, grip_cause, nearest_cause, none, Call}
-use Rattle.grip.specs.OnAir.{heard, air_numbers, air_cause}
-use Rattle.grip.specs.Reading.{tested, read_part, found_of}
+use Rattle.grip.specs.Nearest.{found_or_none, grip_cause, nearest_cause, none, Call}
+use Rattle.grip.specs.OnAir.{air_numbers, air_cause}
+use Rattle.grip.specs.Reading.{read_part, found_of}
 use Rattle.grip.proofs.OrderLaws.{cases}
-use Rattle.grip.proofs.NearLaws.{stands_none, part-adds, tells, looks_ok}
+use Rattle.grip.proofs.NearLaws.{stands_none, part-adds, tells}
 
 -- where nothing is refused the distance is finite
 within_finite : (ok : Bool) (grip within : Float) → grip_cause ok grip within ≡ 0 → is_finite within ≡ true
@@ -51,81 +54,83 @@ no_cause l grip within e =
 -- ---- the nearest message of what was read
 
 module _ (b : Best) (grip within : Float) where
-  abbrev Says : Nearest → Type 0
-  Says r = said r ≡ answer (grip_cause b.ok grip within) (found_of b)
+  abbrev Says : Result (Option ℕ) Refusal → Type 0
+  Says r = said_by found_or_none r ≡ answer (grip_cause true grip within) (found_of b)
 
-  pub says_bad : b.ok ≡ false → Says (Refused 12)
-  unfolding grip_cause answer
-  says_bad e = rw e refl
+  pub says-time : is_finite grip && distance_ok within ≡ false → Says (Err BadTime)
+  unfolding said_by grip_cause answer
+  says-time t = rw t refl
 
-  module _ (e : b.ok ≡ true) where
-    pub says-time : is_finite grip && distance_ok within ≡ false → Says (Refused 14)
-    unfolding grip_cause answer
-    says-time t = rw (e, t) refl
+  module _ (t : is_finite grip && distance_ok within ≡ true) where
+    pub says-record : (m : Match) → b.nearest ≡ Some m → Says (Ok (Some m.number))
+    unfolding said_by grip_cause answer
+    says-record m f = rw (t, f) refl
 
-    module _ (t : is_finite grip && distance_ok within ≡ true) where
-      pub says-record : b.found ≡ true → Says (Record b.number)
-      unfolding grip_cause answer
-      says-record f = rw (e, t, f) refl
-
-      pub says_nothing : b.found ≡ false → Says Nothing
-      unfolding grip_cause answer
-      says_nothing f = rw (e, t, f) refl
+    pub says_nothing : b.nearest ≡ None → Says (Ok None)
+    unfolding said_by grip_cause answer
+    says_nothing f = rw (t, f) refl
 
 -- ---- of a list
 
 module _ (l : List ℕ) (grip within : Float) where
-  pub call_long : most_record_bytes < length l → Call l grip within (Refused 3)
-  unfolding nearest_cause answer
+  pub call_long : most_record_bytes < length l → Call l grip within (Err Long)
+  unfolding said_by nearest_cause answer
   call_long h = record { value = none; answered = rw (lt-ltb most_record_bytes (length l) h) refl; told = λ e. absurd (never (rw (lt-ltb most_record_bytes (length l) h) at e)) }
     where
       never : ◌≡◌ {A = ℕ} 3 0 → ⊥
       never e = omega arith
 
-  -- b is what was read of nothing
-  module _ (b : Best) (n : b.count ≡ 0) (k : b.ok ≡ true) (f : b.found ≡ false) where
-    read_ok : (read_part grip within b l).ok ≡ list_ok l
-    read_ok = looks_ok grip within (events_of l) (tested b l) ∙ ap (λ (t : Bool). (t && eqb (length l % record_size) 0) && all_ok (events_of l)) k
+  module _ (h : length l ≤ most_record_bytes) where
+    -- the exit where 12 applies
+    pub call-bad : list_ok l ≡ false → (r : Result (Option ℕ) Refusal) (x : Refusal) → IsErrAnd r (λ y. y ≡ x) → x ≡ BadRecords → Call l grip within r
+    unfolding nearest_cause grip_cause
+    call-bad e r x i q =
+        let c : bad_records ≡ nearest_cause l grip within = rw (le-ltb most_record_bytes (length l) h, e) refl in
+        record { value = none; answered = said_at_exit r x _ found_or_none i (ap number_of q ∙ c) none; told = λ z. absurd (never (c ∙ z)) }
+      where
+        never : ◌≡◌ {A = ℕ} 12 0 → ⊥
+        never e = omega arith
 
-    pub call-read : length l ≤ most_record_bytes → (r : Nearest) → said r ≡ answer (grip_cause (read_part grip within b l).ok grip within) (found_of (read_part grip within b l))
-        → Call l grip within r
-    unfolding nearest_cause
-    call-read h r e =
-        let c : grip_cause (read_part grip within b l).ok grip within ≡ nearest_cause l grip within = rw (le-ltb most_record_bytes (length l) h, read_ok) refl in
-        record {
-          value = found_of (read_part grip within b l);
-          answered = e ∙ ap (λ (x : ℕ). answer x (found_of (read_part grip within b l))) c;
-          told = λ z. tells grip within (no_cause l grip within z) (events_of l) (read_part grip within b l)
-              ((part-adds grip within (no_cause l grip within z) b l).behind [] (stands_none grip within b n f));
-        }
+    -- b is what was read of nothing
+    module _ (ok : list_ok l ≡ true) (b : Best) (n : b.count ≡ 0) (f : b.nearest ≡ None) where
+      pub call-read : (r : Result (Option ℕ) Refusal) → said_by found_or_none r ≡ answer (grip_cause true grip within) (found_of (read_part grip within b l)) → Call l grip within r
+      unfolding nearest_cause
+      call-read r e =
+          let c : grip_cause true grip within ≡ nearest_cause l grip within = rw (le-ltb most_record_bytes (length l) h, ok) refl in
+          record {
+            value = found_of (read_part grip within b l);
+            answered = e ∙ ap (λ (x : ℕ). answer x (found_of (read_part grip within b l))) c;
+            told = λ z. tells grip within (no_cause l grip within z) (events_of l) (read_part grip within b l)
+                (part-adds grip within (no_cause l grip within z) b l [] (stands_none grip within b n f));
+          }
 
 -- ---- the messages on air
 
 module _ (l : List ℕ) (x : Float) (numbers : List ℕ) where
-  abbrev Hears : Air → List ℕ → Type 0
+  abbrev Hears : Result ℕ Refusal → List ℕ → Type 0
   Hears r after =
-      (heard r ≡ answer (air_cause l x (length numbers)) (length (air_numbers x l)))
-      × (after ≡ leaves (number (heard r)) (sets numbers 0 (air_numbers x l)) numbers)
+      (said r ≡ answer (air_cause l x (length numbers)) (length (air_numbers x l)))
+      × (after ≡ leaves (number (said r)) (sets numbers 0 (air_numbers x l)) numbers)
 
-  pub hears_short : length numbers < wholes l → Hears (air.Refused 2) numbers
-  unfolding air_cause answer number leaves
+  pub hears_short : length numbers < wholes l → Hears (Err Short) numbers
+  unfolding said_by air_cause answer number leaves
   hears_short h = rw (lt-ltb (length numbers) (wholes l) h) (refl, refl)
 
   module _ (a : wholes l ≤ length numbers) where
-    pub hears-long : most_record_bytes < length l → Hears (air.Refused 3) numbers
-    unfolding air_cause answer number leaves
+    pub hears-long : most_record_bytes < length l → Hears (Err Long) numbers
+    unfolding said_by air_cause answer number leaves
     hears-long h = rw (le-ltb (length numbers) (wholes l) a, lt-ltb most_record_bytes (length l) h) (refl, refl)
 
     module _ (b : length l ≤ most_record_bytes) where
-      pub hears-bad : list_ok l ≡ false → Hears (air.Refused 12) numbers
-      unfolding air_cause answer number leaves
+      pub hears-bad : list_ok l ≡ false → Hears (Err BadRecords) numbers
+      unfolding said_by air_cause answer number leaves
       hears-bad h = rw (le-ltb (length numbers) (wholes l) a, le-ltb most_record_bytes (length l) b, h) (refl, refl)
 
       module _ (c : list_ok l ≡ true) where
-        pub hears-time : is_finite x ≡ false → Hears (air.Refused 14) numbers
-        unfolding air_cause answer number leaves
+        pub hears-time : is_finite x ≡ false → Hears (Err BadTime) numbers
+        unfolding said_by air_cause answer number leaves
         hears-time h = rw (le-ltb (length numbers) (wholes l) a, le-ltb most_record_bytes (length l) b, c, h) (refl, refl)
 
-        pub hears-numbers : is_finite x ≡ true → (n : ℕ) (after : List ℕ) → n ≡ length (air_numbers x l) → after ≡ sets numbers 0 (air_numbers x l) → Hears (air.Numbers n) after
-        unfolding air_cause answer number leaves
+        pub hears-numbers : is_finite x ≡ true → (n : ℕ) (after : List ℕ) → n ≡ length (air_numbers x l) → after ≡ sets numbers 0 (air_numbers x l) → Hears (Ok n) after
+        unfolding said_by air_cause answer number leaves
         hears-numbers h n after e s = rw (le-ltb (length numbers) (wholes l) a, le-ltb most_record_bytes (length l) b, c, h) (ap accepted e, s)

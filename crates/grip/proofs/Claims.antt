@@ -9,11 +9,12 @@ use lib.Dec.{ltb}
 use lib.ListN.{length, get_or, drop, get_or-append}
 use lib.Seq.{sets, sets-eq}
 use lib.Ieee.{Float}
-use Rattle.limits.specs.Answer.{Answer, accepted, answer, number, leaves}
+use Rattle.limits.specs.Answer.{said_by, Answer, accepted, answer, number, leaves}
 use Rattle.event_list.specs.Events.{wholes, events_of}
 use Rattle.event_list.proofs.EventLaws.{length-records}
-use Rattle.grip.specs.declared.Nearest.{Nearest}
-use Rattle.grip.specs.Nearest.{said, Found, at, none, Tells, nearest_cause, Call}
+use Rattle.std.specs.Prelude.{Option, Result}
+use Rattle.limits.specs.declared.Refusal.{Refusal}
+use Rattle.grip.specs.Nearest.{found_or_none, Found, at, none, Tells, nearest_cause, Call}
 use Rattle.grip.specs.OnAir.{is_on_air, air_from, air_numbers, air_cause}
 use Rattle.grip.specs.Claims.{SameAnswer, NumberIsNearest, NoneIsTrue, PlaceOf, Listed, AllOnAir}
 use Rattle.grip.proofs.OrderLaws.{cases, clash}
@@ -35,7 +36,7 @@ pub same_answer : SameAnswer
 unfolding answer
 same_answer l grip within r r' c c' = go (nearest_cause l grip within) refl
   where
-    go : (k : ℕ) → nearest_cause l grip within ≡ k → said r ≡ said r'
+    go : (k : ℕ) → nearest_cause l grip within ≡ k → said_by found_or_none r ≡ said_by found_or_none r'
     go zero e =
         c.answered
         ∙ ap (answer (nearest_cause l grip within)) (only_one grip within (no_cause l grip within e) (events_of l) c.value c'.value (c.told e) (c'.told e))
@@ -43,7 +44,7 @@ same_answer l grip within r r' c c' = go (nearest_cause l grip within) refl
     go (suc k) e = c.answered ∙ ap (λ (x : ℕ). answer x c.value) e ∙ sym (ap (λ (x : ℕ). answer x c'.value) e) ∙ sym c'.answered
 
 -- what is said is right
-right_value : (l : List ℕ) (grip within : Float) (r : Nearest) (v : Found) → Call l grip within r → said r ≡ accepted v → Tells grip within (events_of l) v
+right_value : (l : List ℕ) (grip within : Float) (r : Result (Option ℕ) Refusal) (v : Found) → Call l grip within r → said_by found_or_none r ≡ accepted v → Tells grip within (events_of l) v
 right_value l grip within r v c e =
     let a = accepts (nearest_cause l grip within) c.value v (sym e ∙ c.answered) in
     subst (Tells grip within (events_of l)) a.1 (c.told a.0)

@@ -5,10 +5,9 @@ use contract.Lifetimes.{Lfts}
 use borrow.Fn.World.{ArgsD, ResD}
 use borrow.Fn.Kinds.{ended_of}
 use denote.Triple.Clauses.{AtExit}
-use Rattle.limits.specs.Answer.{accepted}
+use Rattle.limits.specs.Answer.{said, accepted}
 use Rattle.event_list.specs.Events.{events_of}
 use Rattle.grip.specs.Nearest.{Call}
-use Rattle.grip.specs.OnAir.{heard}
 use Rattle.grip.specs.Claims.{NoneExactly, Heard, Listed}
 use Rattle.grip.proofs.Claims.{none_is_true, all_on_air}
 use Rattle.grip.specs.contracts.nearest_message as nearest-fn
@@ -37,5 +36,5 @@ module _ (κs : Lfts 2) (a : ArgsD air-fn.signature κs) where
     pub is-heard : Heard a.0.now a.1.0 a.1.1.0.now s.1.1.0.now r
     is-heard = record { answered = p.0; left = p.1 }
 
-    pub listed : (n : ℕ) → heard r ≡ accepted n → Listed s.1.1.0.now n a.1.0 (events_of a.0.now)
+    pub listed : (n : ℕ) → said r ≡ accepted n → Listed s.1.1.0.now n a.1.0 (events_of a.0.now)
     listed n e = all_on_air a.0.now a.1.0 a.1.1.0.now s.1.1.0.now r n is-heard e

@@ -2,22 +2,24 @@
 use mathlib.Core.Path.{◌≡◌, refl, sym, ap, ◌∙◌, subst}
 use mathlib.Core.Bool.{Bool, true, false, ◌&&◌, ◌||◌}
 use mathlib.Core.List.{List, [], ◌∷◌, ◌++◌, append_assoc, append-nil}
-use Prim.Native.Nat.{ℕ, ◌+◌, ◌%◌, ◌≤◌, ◌<◌}
+use Prim.Native.Nat.{ℕ, ◌+◌, ◌≤◌, ◌<◌}
 use native.Mathlib.Omega.{arith}
-use native.Mathlib.Numerals.{add-one}
 use borrow.Author.Tests.{ltb-true, ltb-false, le-ltb}
-use lib.Dec.{ltb, eqb}
-use lib.ListN.{length, drop, get_or, length-append, get_or-append}
-use lib.Seq.{drop-cons, drop-length, get_or-append_seam}
+use lib.Dec.{ltb}
+use lib.ListN.{length, get_or, length-append, get_or-append}
+use lib.Seq.{get_or-append_seam}
 use lib.Ieee.{Float, lt, eq}
-use Rattle.limits.proofs.Samples.{and_left, and_assoc, and_true}
+use Rattle.limits.proofs.Samples.{and_left}
 use Rattle.record.specs.Readers.{time_of}
 use Rattle.limits.specs.Limits.{record_size}
-use Rattle.event_list.specs.Events.{events_of, record_ok, all_ok}
+use Rattle.event_list.specs.Events.{events_of}
+use Rattle.event_list.proofs.EventLaws.{event_next, event_end}
+use Rattle.std.specs.Prelude.{Option, Some, None}
+use Rattle.grip.specs.declared.Match.{Match}
 use Rattle.grip.specs.declared.Best.{Best}
 use Rattle.grip.specs.Times.{is_finite}
 use Rattle.grip.specs.Nearest.{distance, qualifies, better, IsNearest, NoneQualifies, Found, at, none, Tells}
-use Rattle.grip.specs.Reading.{takes, looked, looks, tested, read_part, Stands, Adds, found_of}
+use Rattle.grip.specs.Reading.{takes, looked, looks, read_part, Stands, Adds, found_of}
 use Rattle.grip.proofs.OrderLaws.{cases, clash}
 use Rattle.grip.proofs.BetterLaws.{better-trans, better-total, better-self}
 
@@ -58,37 +60,39 @@ module _ (grip within : Float) (W : is_finite within ≡ true) where
 
   module _ (es : List (List ℕ)) (r : List ℕ) (b : Best) (st : Stands grip within b es) where
     -- the test of the code, where something was found
-    over : b.found ≡ true → qualifies grip within r ≡ true → takes grip within b r ≡ better grip r (length es) (get_or es b.number []) b.number
-    over f q =
-        rw (q, f, st.far f, st.when f) (sym (later r (length es) (get_or es b.number []) b.number (less (st.nearest f).there)))
+    over : (m : Match) → b.nearest ≡ Some m → qualifies grip within r ≡ true → takes grip within b r ≡ better grip r (length es) (get_or es m.number []) m.number
+    over m f q =
+        rw (q, f, st.far m f, st.when m f) (sym (later r (length es) (get_or es m.number []) m.number (less (st.nearest m f).there)))
       where
         less : {i j : ℕ} → i < j → i ≤ j
         less h = omega arith
 
     -- r is the best from here on
     taken : takes grip within b r ≡ true → Top (es ++ (r ∷ [])) r (length es)
-    taken t =
-        let q = and_left (qualifies grip within r) _ t in
-        every es r (λ (j : ℕ) (s : List ℕ). qualifies grip within s ≡ true → better grip s j r (length es) ≡ false)
-        (λ j h p. cases b.found
-        (λ f. let top = get_or es b.number [] in
-        cases (better grip (get_or es j []) j r (length es))
-        (λ u. clash (better grip (get_or es j []) j top b.number)
-        (better-trans grip within W (get_or es j []) j p r (length es) q top b.number (st.nearest f).good u (sym (over f q) ∙ t))
-        ((st.nearest f).best j h p))
-        (λ u. u))
-        (λ f. clash (qualifies grip within (get_or es j [])) p (st.nothing f j h)))
-        (λ p. better-self grip within W r (length es) q)
+    taken t = every es r (λ (j : ℕ) (s : List ℕ). qualifies grip within s ≡ true → better grip s j r (length es) ≡ false) (before b.nearest refl) (λ p. better-self grip within W r (length es) q)
+      where
+        q : qualifies grip within r ≡ true
+        q = and_left (qualifies grip within r) _ t
+
+        before : (o : Option Match) → b.nearest ≡ o → (j : ℕ) → j < length es → qualifies grip within (get_or es j []) ≡ true → better grip (get_or es j []) j r (length es) ≡ false
+        before None f j h p = clash (qualifies grip within (get_or es j [])) p (st.nothing f j h)
+        before (Some m) f j h p =
+            let top = get_or es m.number [] in
+            cases (better grip (get_or es j []) j r (length es))
+            (λ u. clash (better grip (get_or es j []) j top m.number)
+            (better-trans grip within W (get_or es j []) j p r (length es) q top m.number (st.nearest m f).good u (sym (over m f q) ∙ t))
+            ((st.nearest m f).best j h p))
+            (λ u. u)
 
     -- it is not, and what was found stays
-    kept : takes grip within b r ≡ false → b.found ≡ true → Top (es ++ (r ∷ [])) (get_or es b.number []) b.number
-    kept t f =
-        every es r (λ (j : ℕ) (s : List ℕ). qualifies grip within s ≡ true → better grip s j (get_or es b.number []) b.number ≡ false)
-        (st.nearest f).best
-        (λ p. sym (over f p) ∙ t)
+    kept : takes grip within b r ≡ false → (m : Match) → b.nearest ≡ Some m → Top (es ++ (r ∷ [])) (get_or es m.number []) m.number
+    kept t m f =
+        every es r (λ (j : ℕ) (s : List ℕ). qualifies grip within s ≡ true → better grip s j (get_or es m.number []) m.number ≡ false)
+        (st.nearest m f).best
+        (λ p. sym (over m f p) ∙ t)
 
     -- it is not, and nothing was found
-    still : takes grip within b r ≡ false → b.found ≡ false → NoneQualifies grip within (es ++ (r ∷ []))
+    still : takes grip within b r ≡ false → b.nearest ≡ None → NoneQualifies grip within (es ++ (r ∷ []))
     still t f = every es r (λ (j : ℕ) (s : List ℕ). qualifies grip within s ≡ false) (st.nothing f) (cases (qualifies grip within r) (λ q. clash (takes grip within b r) (rw (q, f) refl) t) (λ q. q))
 
     more : b.count + 1 ≡ length (es ++ (r ∷ []))
@@ -98,8 +102,8 @@ module _ (grip within : Float) (W : is_finite within ≡ true) where
     last_is : get_or (es ++ (r ∷ [])) b.count [] ≡ r
     last_is = ap (λ (k : ℕ). get_or (es ++ (r ∷ [])) k []) st.counted ∙ get_or-append_seam es r [] []
 
-    stays : b.found ≡ true → get_or es b.number [] ≡ get_or (es ++ (r ∷ [])) b.number []
-    stays f = sym (get_or-append es (r ∷ []) [] b.number (st.nearest f).there)
+    stays : (m : Match) → b.nearest ≡ Some m → get_or es m.number [] ≡ get_or (es ++ (r ∷ [])) m.number []
+    stays m f = sym (get_or-append es (r ∷ []) [] m.number (st.nearest m f).there)
 
     pub stands-next : Stands grip within (looked grip within b r) (es ++ (r ∷ []))
     unfolding looked
@@ -107,18 +111,21 @@ module _ (grip within : Float) (W : is_finite within ≡ true) where
         cases (takes grip within b r)
         (λ t. rw t (record {
           counted = more;
-          nothing = λ f. clash true refl f;
-          nearest = λ f. subst (IsNearest grip within (es ++ (r ∷ []))) (sym st.counted) (made (es ++ (r ∷ [])) (length es) r (omega (arith, one_more es r)) (get_or-append_seam es r [] []) (and_left (qualifies grip within r) _ t) (taken t));
-          far = λ f. ap (distance grip) (sym last_is);
-          when = λ f. ap time_of (sym last_is);
+          nothing = λ f. absurd cc;
+          nearest = λ m f. subst (λ (x : Match). IsNearest grip within (es ++ (r ∷ [])) x.number) (is _ m f) (subst (IsNearest grip within (es ++ (r ∷ []))) (sym st.counted) (made (es ++ (r ∷ [])) (length es) r (omega (arith, one_more es r)) (get_or-append_seam es r [] []) (and_left (qualifies grip within r) _ t) (taken t)));
+          far = λ m f. subst (λ (x : Match). x.distance ≡ distance grip (get_or (es ++ (r ∷ [])) x.number [])) (is _ m f) (ap (distance grip) (sym last_is));
+          when = λ m f. subst (λ (x : Match). x.time ≡ time_of (get_or (es ++ (r ∷ [])) x.number [])) (is _ m f) (ap time_of (sym last_is));
         }))
         (λ t. rw t (record {
           counted = more;
           nothing = still t;
-          nearest = λ f. made (es ++ (r ∷ [])) b.number (get_or es b.number []) (omega (arith, one_more es r, (st.nearest f).there)) (sym (stays f)) (st.nearest f).good (kept t f);
-          far = λ f. st.far f ∙ ap (distance grip) (stays f);
-          when = λ f. st.when f ∙ ap time_of (stays f);
+          nearest = λ m f. made (es ++ (r ∷ [])) m.number (get_or es m.number []) (omega (arith, one_more es r, (st.nearest m f).there)) (sym (stays m f)) (st.nearest m f).good (kept t m f);
+          far = λ m f. st.far m f ∙ ap (distance grip) (stays m f);
+          when = λ m f. st.when m f ∙ ap time_of (stays m f);
         }))
+      where
+        is : (n m : Match) → Some n ≡ Some m → n ≡ m
+        is n m f = cc
 
   -- records behind those that were read
   pub stands_all : (rs es : List (List ℕ)) (b : Best) → Stands grip within b es → Stands grip within (looks grip within b rs) (es ++ rs)
@@ -129,7 +136,11 @@ module _ (grip within : Float) (W : is_finite within ≡ true) where
 
   -- what was found is right
   pub tells : (es : List (List ℕ)) (b : Best) → Stands grip within b es → Tells grip within es (found_of b)
-  tells es b st = cases b.found (λ f. rw f (st.nearest f)) (λ f. rw f (st.nothing f))
+  tells es b st = go b.nearest refl
+    where
+      go : (o : Option Match) → b.nearest ≡ o → Tells grip within es (found_of b)
+      go None f = rw f (st.nothing f)
+      go (Some m) f = rw f (st.nearest m f)
 
   -- and nothing else is
   pub only_one : (es : List (List ℕ)) (v w : Found) → Tells grip within es v → Tells grip within es w → v ≡ w
@@ -140,37 +151,30 @@ module _ (grip within : Float) (W : is_finite within ≡ true) where
   only_one es none none v w = refl
 
 -- nothing is read
-pub stands_none : (grip within : Float) (b : Best) → b.count ≡ 0 → b.found ≡ false → Stands grip within b []
-stands_none grip within b n f = record { counted = n; nothing = λ g j h. absurd (omega arith); nearest = λ g. clash b.found g f; far = λ g. clash b.found g f; when = λ g. clash b.found g f }
+pub stands_none : (grip within : Float) (b : Best) → b.count ≡ 0 → b.nearest ≡ None → Stands grip within b []
+stands_none grip within b n f =
+    record { counted = n; nothing = λ g j h. absurd (omega arith); nearest = λ m g. absurd (none m g); far = λ m g. absurd (none m g); when = λ m g. absurd (none m g) }
+  where
+    none : (m : Match) → b.nearest ≡ Some m → ⊥
+    none m g = let e = sym f ∙ g in cc
 
 -- ---- the loop, and parts
 
 module _ (grip within : Float) where
-  pub looks-turn : (b : Best) (es : List (List ℕ)) (i : ℕ) → i < length es
-      → looks grip within b (drop i es) ≡ looks grip within (looked grip within b (get_or es i [])) (drop (i + 1) es)
+  -- l is left of a list, record r comes, and k is left then
+  pub looks-next : (l r k : List ℕ) → l ≡ r ++ k → length r ≡ record_size → (b : Best) → looks grip within b (events_of l) ≡ looks grip within (looked grip within b r) (events_of k)
   unfolding looks
-  looks-turn b es i h = ap (looks grip within b) (drop-cons es i [] h) ∙ ap (λ (k : ℕ). looks grip within (looked grip within b (get_or es i [])) (drop k es)) (sym (add-one i))
+  looks-next l r k s n b = ap (looks grip within b) (event_next l r k s n)
 
-  pub looks_end : (b : Best) (es : List (List ℕ)) (i : ℕ) → i ≡ length es → looks grip within b (drop i es) ≡ b
+  -- none is left
+  pub looks-last : (l : List ℕ) → length l < record_size → (b : Best) → looks grip within b (events_of l) ≡ b
   unfolding looks
-  looks_end b es i e = ap (looks grip within b) (ap (λ (k : ℕ). drop k es) e ∙ drop-length es)
-
-  -- whether refusal 12 does not apply
-  pub looks_ok : (rs : List (List ℕ)) (b : Best) → (looks grip within b rs).ok ≡ b.ok && all_ok rs
-  unfolding looks looked all_ok
-  looks_ok [] b = sym (and_true b.ok)
-  looks_ok (r ∷ rs) b = looks_ok rs (looked grip within b r) ∙ ap (λ (t : Bool). t && all_ok rs) (one b r) ∙ and_assoc b.ok (record_ok r) (all_ok rs)
-    where
-      one : (b : Best) (r : List ℕ) → (looked grip within b r).ok ≡ b.ok && record_ok r
-      one b r = cases (takes grip within b r) (λ t. rw t refl) (λ t. rw t refl)
+  looks-last l h b = ap (looks grip within b) (event_end l h)
 
   pub looked-count : (b : Best) (r : List ℕ) → (looked grip within b r).count ≡ b.count + 1
   unfolding looked
-  looked-count b r = cases (takes grip within b r) (λ t. rw t refl) (λ t. rw t refl)
+  looked-count b r = refl
 
 -- a part that is read adds up
 pub part-adds : (grip within : Float) → is_finite within ≡ true → (b : Best) (l : List ℕ) → Adds grip within b l (read_part grip within b l)
-part-adds grip within W b l = record {
-  fine = looks_ok grip within (events_of l) (tested b l) ∙ and_assoc b.ok (eqb (length l % record_size) 0) (all_ok (events_of l));
-  behind = λ es st. stands_all grip within W (events_of l) es (tested b l) (record { counted = st.counted; nothing = st.nothing; nearest = st.nearest; far = st.far; when = st.when });
-}
+part-adds grip within W b l = λ es st. stands_all grip within W (events_of l) es b st

@@ -1,14 +1,13 @@
 -- The message that goes with a grip (02, request 11; causes 3, 12 and 14): what `nearest_message` answers, told by what holds of the answer. Assumes nothing.
-use Rattle.std.specs.Prelude.{ℕ, ◌<◌, ◌≡◌, Bool, true, false, cond, ◌&&◌, ◌||◌, List, [], ltb, length, get_or, Float}
+use Rattle.std.specs.Prelude.{ℕ, ◌<◌, ◌≡◌, Bool, true, false, cond, ◌&&◌, ◌||◌, Option, Some, None, Result, List, [], ltb, length, get_or, Float}
 use Rattle.std.specs.Float.{binary64}
 use Rattle.std.specs.Float.Ieee.{sub, lt, eq, le}
 use Rattle.floats.specs.Trig.{magnitude}
 use Rattle.limits.specs.Limits.{long, bad_records, bad_time, most_record_bytes}
-use Rattle.limits.specs.Answer.{Answer, refused, accepted, answer}
+use Rattle.limits.specs.Answer.{said_by, answer}
 use Rattle.record.specs.Readers.{time_of}
 use Rattle.event_list.specs.Events.{events_of, is_message, list_ok}
-use Rattle.grip.specs.declared.Nearest.{Nearest}
-use Rattle.grip.specs.declared.Nearest.TheVariants.{Refused, Record, Nothing}
+use Rattle.limits.specs.declared.Refusal.{Refusal}
 use Rattle.grip.specs.Times.{is_finite, distance_ok}
 
 -- ---- which message
@@ -44,11 +43,10 @@ pub data Found : Type 0 where
   at : ℕ → Found
   none : Found
 
--- `Nearest` in 02's words
-abbrev pub said : Nearest → Answer Found
-said (Refused n) = refused n
-said (Record n) = accepted (at n)
-said Nothing = accepted none
+-- an Ok in 02's words
+abbrev pub found_or_none : Option ℕ → Found
+found_or_none (Some n) = at n
+found_or_none None = none
 
 -- 'if nothing qualifies, the answer is none, and then truly no record does'
 abbrev pub Tells : Float → Float → List (List ℕ) → Found → Type 0
@@ -66,7 +64,7 @@ unfolding grip_cause
 nearest_cause l grip within = cond (ltb most_record_bytes (length l)) long (grip_cause (list_ok l) grip within)
 
 -- a call on a list of bytes: its number is that of its cause; where it is accepted, its value is the right one, of which there is one alone (`same_answer` of the claims)
-pub record Call (l : List ℕ) (grip within : Float) (r : Nearest) : Type 0 where
+pub record Call (l : List ℕ) (grip within : Float) (r : Result (Option ℕ) Refusal) : Type 0 where
   pub value : Found
-  pub answered : said r ≡ answer (nearest_cause l grip within) value
+  pub answered : said_by found_or_none r ≡ answer (nearest_cause l grip within) value
   pub told : nearest_cause l grip within ≡ 0 → Tells grip within (events_of l) value

@@ -1,13 +1,10 @@
--- The messages on air across an instant (02, request 11; causes 2, 3, 12 and 14): what `on_air` answers and leaves in the lent list. Assumes nothing.
+-- The messages on air across an instant (02, request 11; causes 2, 3, 12 and 14): what `on_air` answers, a refusal's number or how many record numbers there are ('none' is 0), and leaves in the lent list. Assumes nothing.
 use Rattle.std.specs.Prelude.{ℕ, suc, Bool, cond, ◌&&◌, ◌||◌, not, List, [], ◌∷◌, ltb, eqb, length, Float}
 use Rattle.std.specs.Float.Ieee.{le, lt}
 use Rattle.limits.specs.Limits.{short, long, bad_records, bad_time, most_record_bytes}
-use Rattle.limits.specs.Answer.{Answer, refused, accepted}
 use Rattle.record.specs.Record.{no_rank}
 use Rattle.record.specs.Readers.{span_rank_of, span_time_of, span_end_of}
 use Rattle.event_list.specs.Events.{wholes, events_of, is_message, list_ok}
-use Rattle.grip.specs.declared.Air.{Air}
-use Rattle.grip.specs.declared.Air.TheVariants.{Refused, Numbers}
 use Rattle.grip.specs.Times.{is_finite}
 
 -- 'some span whose rank byte isn't 255 begins at or before it and ends after it': span i; a comparison with a NaN is false
@@ -25,11 +22,6 @@ air_from k x (r ∷ rs) = cond (is_on_air x r) (k ∷ air_from (suc k) x rs) (ai
 
 abbrev pub air_numbers : Float → List ℕ → List ℕ
 air_numbers x l = air_from 0 x (events_of l)
-
--- `Air` in 02's words: a refusal's number, or how many record numbers there are; 'none' is 0
-abbrev pub heard : Air → Answer ℕ
-heard (Refused n) = refused n
-heard (Numbers n) = accepted n
 
 -- the first cause that applies, 0 where none does: 'one with fewer places than there are whole records is refusal 2'
 unfoldable pub air_cause : List ℕ → Float → ℕ → ℕ

@@ -5,154 +5,114 @@ mod looking; // one more record for a grip
 mod marks; // a bit for each record
 mod spans; // the spans across an instant
 
-ghost use Rattle.std.specs.Prelude.{◌≡◌, true, false, ◌+◌, ◌≤◌, length};
+ghost use Rattle.std.specs.Prelude.{◌≡◌, cond, true, ◌+◌, ◌≤◌, length, Some, None, Ok, Err, IfOk};
 ghost use Rattle.std.proofs.lemmas.List.Edits.{sets};
-ghost use Rattle.limits.specs.Answer.{answer, number, leaves};
-ghost use Rattle.event_list.specs.Events.{wholes, most_records};
-ghost use Rattle.grip.specs.Times.{is_finite, distance_ok};
-ghost use Rattle.grip.specs.Nearest.{said, grip_cause, Call};
-ghost use Rattle.grip.specs.OnAir.{heard, air_numbers, air_cause};
+ghost use Rattle.limits.specs.Answer.{said, said_by, answer, number, leaves};
+ghost use Rattle.limits.specs.declared.Refusal.TheVariants.{BadRecords};
+ghost use Rattle.event_list.specs.Events.{wholes, most_records, list_ok};
+ghost use Rattle.grip.specs.Times.{distance_ok};
+ghost use Rattle.grip.specs.Nearest.{found_or_none, grip_cause, Call};
+ghost use Rattle.grip.specs.OnAir.{air_numbers, air_cause};
 ghost use Rattle.grip.specs.Reading.{read_part, found_of};
 
-// The pattern of the infinity.
-const INFINITY: u64 = 0x7ff0_0000_0000_0000;
+use limits::Refusal;
 
 // Bytes of marks for as many records as a call reads at most.
 const MARKS: usize = 125_000;
 
-// What `nearest_message` answers.
+// A message that goes with a grip: its record's number, from 0, frames counted, its distance and its time.
 #[derive(Clone, Copy)]
-pub enum Nearest {
-    // A refusal's number.
-    Refused(u8),
-    // The number of the record, from 0, frames counted.
-    Record(usize),
-    // No record qualifies.
-    Nothing,
-}
-
-// What `on_air` answers.
-#[derive(Clone, Copy)]
-pub enum Air {
-    // A refusal's number.
-    Refused(u8),
-    // How many record numbers stand in the lent list.
-    Numbers(usize),
-}
-
-// What was read: how many records, whether refusal 12 does not apply to them, and the nearest message among them, if one qualifies.
-#[derive(Clone, Copy)]
-pub struct Best {
-    pub count: usize,
-    pub ok: bool,
-    pub found: bool,
+pub struct Match {
     pub number: usize,
     pub distance: f64,
     pub time: f64,
 }
 
-fn is_finite(x: f64) -> bool
-    ensures { result ≡ is_finite x }
-{
-    let infinity = endian::f64_of_bits(INFINITY);
-    let low = -infinity < x;
-    let high = x < infinity;
-    low & high
+// What was read: how many records, and the nearest message among them, if one qualifies.
+#[derive(Clone, Copy)]
+pub struct Best {
+    pub count: usize,
+    pub nearest: Option<Match>,
 }
 
 fn distance_ok(x: f64) -> bool
     ensures { result ≡ distance_ok x }
 {
-    let finite = is_finite(x);
     let positive = 0.0 <= x;
-    finite & positive
+    x.is_finite() & positive
 }
 
 // Nothing is read.
 pub fn no_records() -> Best
-    ensures { (result.count ≡ 0) × (result.ok ≡ true) × (result.found ≡ false) }
+    ensures { (result.count ≡ 0) × (result.nearest ≡ None) }
 {
     Best {
         count: 0,
-        ok: true,
-        found: false,
-        number: 0,
-        distance: 0.0,
-        time: 0.0,
+        nearest: None,
     }
 }
 
-// More records are read, in one pass.
-pub fn read_records(b: Best, records: &[u8], grip: f64, within: f64) -> Best
+// More records are read, in one pass: each is tested for refusal 12, and looked at.
+pub fn read_records(b: Best, records: &[u8], grip: f64, within: f64) -> Result<Best, Refusal>
     requires { b.count + wholes records.now ≤ most_records }
-    ensures { (result ≡ read_part grip within b records.now) × (result.count ≡ b.count + wholes records.now) }
+    ensures { (result ≡ cond (list_ok records.now) (Ok (read_part grip within b records.now)) (Err BadRecords))
+        × IfOk result (λ read. read.count ≡ b.count + wholes records.now) }
 {
-    let count = records.len() / limits::RECORD;
-    let whole = records.len() % limits::RECORD == 0;
-    let mut best = Best {
-        count: b.count,
-        ok: b.ok & whole,
-        found: b.found,
-        number: b.number,
-        distance: b.distance,
-        time: b.time,
-    };
-    let mut i: usize = 0;
-    while i < count {
-        let from = limits::RECORD * i;
-        let to = from + limits::RECORD;
-        best = looking::looked_at(best, &records[from..to], grip, within);
-        i += 1;
+    let mut ok = records.len() % limits::RECORD == 0;
+    let mut best = b;
+    for r in records.chunks_exact(limits::RECORD) {
+        ok &= event_list::record_ok(r);
+        best = looking::looked_at(best, r, grip, within);
     }
-    best
+    if !ok {
+        return Err(Refusal::BadRecords);
+    }
+    Ok(best)
 }
 
-// The nearest message of what was read, or refusal 12 or 14.
-pub fn found(b: Best, grip: f64, within: f64) -> Nearest
-    ensures { said result ≡ answer (grip_cause b.ok grip within) (found_of b) }
+// The record number of the nearest message of what was read, or none, or refusal 14.
+pub fn found(b: Best, grip: f64, within: f64) -> Result<Option<usize>, Refusal>
+    ensures { said_by found_or_none result ≡ answer (grip_cause true grip within) (found_of b) }
 {
-    if !b.ok {
-        return Nearest::Refused(limits::BAD_RECORDS);
-    }
-    let times = is_finite(grip) & distance_ok(within);
+    let times = grip.is_finite() & distance_ok(within);
     if !times {
-        return Nearest::Refused(limits::BAD_TIME);
+        return Err(Refusal::BadTime);
     }
-    if b.found {
-        return Nearest::Record(b.number);
+    match b.nearest {
+        Some(nearest) => Ok(Some(nearest.number)),
+        None => Ok(None),
     }
-    Nearest::Nothing
 }
 
-// The record number of the message whose time is nearest to the grip's, not over `within` seconds away, or none, or a refusal.
-pub fn nearest_message(records: &[u8], grip: f64, within: f64) -> Nearest
+// The record number, from 0, frames counted, of the message whose time is nearest to the grip's, not over `within` seconds away, or none, or a refusal.
+pub fn nearest_message(records: &[u8], grip: f64, within: f64) -> Result<Option<usize>, Refusal>
     ensures { Call records.now grip within result }
 {
     if limits::MOST_RECORD_BYTES < records.len() {
-        return Nearest::Refused(limits::LONG);
+        return Err(Refusal::Long);
     }
-    let b = read_records(no_records(), records, grip, within);
-    found(b, grip, within)
+    let best = read_records(no_records(), records, grip, within)?;
+    found(best, grip, within)
 }
 
-// The record numbers of the messages on air at x, rising, in the lent list; or a refusal, which changes nothing.
-pub fn on_air(records: &[u8], x: f64, numbers: &mut [u32]) -> Air
-    ensures { (heard result ≡ answer (air_cause records.now x (length numbers.old)) (length (air_numbers x records.now)))
-        × (numbers.new ≡ leaves (number (heard result)) (sets numbers.old 0 (air_numbers x records.now)) numbers.old) }
+// How many record numbers stand in the lent list, those of the messages on air at x, rising; or a refusal, which changes nothing.
+pub fn on_air(records: &[u8], x: f64, numbers: &mut [u32]) -> Result<usize, Refusal>
+    ensures { (said result ≡ answer (air_cause records.now x (length numbers.old)) (length (air_numbers x records.now)))
+        × (numbers.new ≡ leaves (number (said result)) (sets numbers.old 0 (air_numbers x records.now)) numbers.old) }
 {
     if numbers.len() < records.len() / limits::RECORD {
-        return Air::Refused(limits::SHORT);
+        return Err(Refusal::Short);
     }
     if limits::MOST_RECORD_BYTES < records.len() {
-        return Air::Refused(limits::LONG);
+        return Err(Refusal::Long);
     }
     let mut marks = [0u8; MARKS];
     if !spans::mark_all(records, x, &mut marks) {
-        return Air::Refused(limits::BAD_RECORDS);
+        return Err(Refusal::BadRecords);
     }
-    if !is_finite(x) {
-        return Air::Refused(limits::BAD_TIME);
+    if !x.is_finite() {
+        return Err(Refusal::BadTime);
     }
     let count = records.len() / limits::RECORD;
-    Air::Numbers(spans::note_all(&marks, count, numbers))
+    Ok(spans::note_all(&marks, count, numbers))
 }

@@ -36,17 +36,10 @@ pub fn mark_all(records: &[u8], x: f64, marks: &mut [u8]) -> bool
     requires { (wholes records.now ≤ 8 * length marks.old) × Unmarked marks.old }
     ensures { (result ≡ list_ok records.now) × (marked_of (wholes records.now) marks.new ≡ air_numbers x records.now) }
 {
-    let count = records.len() / limits::RECORD;
     let mut ok = records.len() % limits::RECORD == 0;
-    let mut i: usize = 0;
-    while i < count {
-        let from = limits::RECORD * i;
-        let to = from + limits::RECORD;
-        let right = event_list::record_ok(&records[from..to]);
-        let on = is_on_air(x, &records[from..to]);
-        marks::mark(marks, i, on);
-        ok = ok & right;
-        i += 1;
+    for (i, r) in records.chunks_exact(limits::RECORD).enumerate() {
+        ok &= event_list::record_ok(r);
+        marks::mark(marks, i, is_on_air(x, r));
     }
     ok
 }
@@ -69,11 +62,9 @@ pub fn note_all(marks: &[u8], count: usize, numbers: &mut [u32]) -> usize
     ensures { (result ≡ length (marked_of count marks.now)) × (numbers.new ≡ sets numbers.old 0 (marked_of count marks.now)) }
 {
     let mut n: usize = 0;
-    let mut i: usize = 0;
-    while i < count {
+    for i in 0..count {
         let marked = marks::is_marked(marks, i);
         n = note(numbers, n, i as u32, marked);
-        i += 1;
     }
     n
 }

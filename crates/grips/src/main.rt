@@ -3,8 +3,8 @@
 
 mod seconds; // a number of seconds in text
 
-use grip::Nearest;
-use reading::{Fetched, Line};
+use grip::Best;
+use limits::Refusal;
 use std::fs;
 use std::io::{Error, ErrorKind, Read, Seek, SeekFrom};
 use std::os::fd::AsRawFd;
@@ -43,14 +43,14 @@ fn say_why(rt: &(impl Eprint + Alloc), error: Error) {
     let _ = eprintln!(rt; "grips: the file of records: {words}");
 }
 
-fn print_nearest(rt: &impl Print, answer: Nearest) -> bool {
+fn print_nearest(rt: &impl Print, answer: Result<Option<usize>, Refusal>) -> bool {
     match answer {
-        Nearest::Refused(n) => replay::print_refusal(rt, n),
-        Nearest::Record(n) => {
+        Ok(Some(n)) => {
             replay::print_number(rt, n as u64);
             replay::print_end(rt)
         }
-        Nearest::Nothing => replay::print_none(rt),
+        Ok(None) => replay::print_none(rt),
+        Err(refusal) => replay::print_refusal(rt, refusal),
     }
 }
 
@@ -61,27 +61,30 @@ fn print_unknown(rt: &impl Print, number: u64) -> bool {
     replay::print_end(rt)
 }
 
+// The record number for a grip of what was read.
+fn found(best: Result<Best, Refusal>, grip: f64, within: f64) -> Result<Option<usize>, Refusal> {
+    grip::found(best?, grip, within)
+}
+
 // The line of a grip, or why the records can't be read. They are read in parts of 512, so that they need not stand in memory.
 fn read_for(rt: &impl Print, file: &mut impl Read, grip: f64, within: f64) -> Result<(), Error> {
     let mut part = [0u8; 61440];
-    let mut best = grip::no_records();
+    let mut best = Ok(grip::no_records());
     let mut bytes: usize = 0;
     while bytes <= limits::MOST_RECORD_BYTES {
-        let fetched = reading::fill_from(file, &mut part);
-        let n = match fetched {
-            Fetched::Bytes(n) => n,
-            Fetched::Failed(e) => return Err(e),
-        };
+        let n = reading::fill(file, &mut part)?;
         if n == 0 {
-            print_nearest(rt, grip::found(best, grip, within));
+            print_nearest(rt, found(best, grip, within));
             return Ok(());
         }
         bytes += n;
         if limits::MOST_RECORD_BYTES < bytes {
-            replay::print_refusal(rt, limits::LONG);
+            replay::print_refusal(rt, Refusal::Long);
             return Ok(());
         }
-        best = grip::read_records(best, &part[..n], grip, within);
+        if let Ok(so_far) = best {
+            best = grip::read_records(so_far, &part[..n], grip, within);
+        }
     }
     Ok(())
 }
@@ -112,11 +115,10 @@ fn print_line(
     file: &mut (impl Read + Seek),
     within: f64,
 ) -> bool {
-    let grip = seconds::parse(text);
-    if grip.is_number {
-        return answer(rt, file, grip.value, within);
+    match seconds::parse(text) {
+        Some(grip) => answer(rt, file, grip, within),
+        None => print_unknown(rt, number),
     }
-    print_unknown(rt, number)
 }
 
 // A line of the log and what it prints; false where nothing follows.
@@ -128,9 +130,9 @@ fn turn(
 ) -> bool {
     let mut line = [0u8; 64];
     match reading::next_line(rt, &mut line) {
-        Line::End => false,
-        Line::Failed => say_no_input(rt),
-        Line::Bytes(n) => {
+        Ok(None) => false,
+        Err(_) => say_no_input(rt),
+        Ok(Some(n)) => {
             if n <= MOST_LINE {
                 return print_line(rt, &line[..n], number, file, within);
             }
@@ -144,12 +146,10 @@ fn read_log(
     file: &mut (impl Read + Seek),
     within: f64,
 ) {
-    let mut number: u64 = 1;
-    while number < replay::MOST_CASES {
+    for number in 1..replay::MOST_CASES {
         if !turn(rt, number, file, within) {
             return;
         }
-        number += 1;
     }
 }
 
@@ -166,14 +166,13 @@ fn open_records<R: Env + Files>(rt: &R) -> Result<R::File, Error> {
 fn main(rt: HostRuntime) {
     let mut text = [0u8; 64];
     let n = command_line::arg(&rt, 2, &mut text);
-    let within = seconds::parse(&text[..n]);
-    if (command_line::arg_count(&rt) != 3) | !within.is_number {
+    let (3, Some(within)) = (command_line::arg_count(&rt), seconds::parse(&text[..n])) else {
         say(
             &rt,
             "grips: a file of event records and a number of seconds are wanted: grips RECORDS SECONDS < LOG\n",
         );
         return;
-    }
+    };
     let mut file = match open_records(&rt) {
         Ok(file) => file,
         Err(e) => {
@@ -186,5 +185,5 @@ fn main(rt: HostRuntime) {
         say_no_input(&rt);
         return;
     }
-    read_log(&rt, &mut file, within.value);
+    read_log(&rt, &mut file, within);
 }

@@ -110,7 +110,7 @@ four_turns =
     ∷ record { call = push_raw (200 ∷ []); refusal = 11; records = [] } ∷ record { call = flush; refusal = 0; records = [] } ∷ []
 
 computed : run_of 200 (demod_of 200) (map (attempt_with places) four_calls) ≡ four_turns
-unfolding history call_of see all_dbm le lt eq neg of_int sub add mul div is_nan round causes.cause causes.call_cause causes.orderly causes.below causes.since causes.unlike causes.all_fit causes.any_nan causes.first_of shifts.shifts_cause shifts.shifts_ok shifts.start_ok shifts.all shifts.rising shifts.rising_from causes.call_events causes.after_call ledger.fresh ledger.dbm_of ledger.scans ledger.start_call ledger.fills ledger.fill ledger.halve ledger.amount ledger.add ledger.due ledger.scanned ledger.scan ledger.take_each ledger.forget ledger.starts_from ledger.spaced ledger.closed ledger.messages ledger.now ledger.seconds ledger.ready ledger.chosen ledger.others bursts_of bursts_in clusters noise_floor quantile kth sorted floor to_unsigned
+unfolding history call_of see all_dbm le lt eq neg of_int sub add mul div is_nan round causes.cause causes.call_cause causes.orderly causes.below causes.since causes.unlike causes.all_fit causes.any_nan causes.first_of shifts.shifts_cause shifts.shifts_ok shifts.start_ok shifts.rising shifts.rising_from causes.call_events causes.after_call ledger.fresh ledger.dbm_of ledger.scans ledger.start_call ledger.fills ledger.fill ledger.halve ledger.amount ledger.add ledger.due ledger.scanned ledger.scan ledger.take_each ledger.forget ledger.starts_from ledger.spaced ledger.closed ledger.messages ledger.now ledger.seconds ledger.ready ledger.chosen ledger.others bursts_of bursts_in clusters noise_floor quantile kth sorted floor to_unsigned
 computed = refl
 
 pub worked_out : (xs : List Exchange) → Run (fresh_port 200 places) xs → map (λ x. x.asked) xs ≡ four_calls → map turn_from xs ≡ four_turns

@@ -17,9 +17,8 @@ use Rattle.ledger.proofs.Basics.{map-join}
 use Rattle.ledger.proofs.EitherOrder.{frames-either, entries-either}
 use Rattle.receiver_waiting.specs.Waiting.{waiting_of, over}
 use Rattle.receiver.specs.State.{ledger_of, state_over}
-use Rattle.receiver.specs.Calls.{Memory, refusal_of, records_of, state_after, Answered}
+use Rattle.receiver.specs.Calls.{Memory, Received, refusal_of, records_of, state_after, Answered}
 use Rattle.receiver.specs.declared.SigfoxReceiver.{SigfoxReceiver}
-use Rattle.receiver.specs.declared.Received.{Received}
 use Rattle.receiver.proofs.RunLaws.{frames_are}
 use Rattle.receiver.proofs.Contracts.{contracts}
 use Rattle.history.specs.TwoArms.{heard_in, EndsAlike, TwoArms}

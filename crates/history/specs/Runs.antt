@@ -9,9 +9,8 @@ use Rattle.ledger.specs.Causes.{Attempt}
 use Rattle.ledger.specs.Records.{records_in, seen_in}
 use Rattle.ledger.specs.Demand3.{Turn}
 use Rattle.receiver.specs.State.{new_state}
-use Rattle.receiver.specs.Calls.{Memory, lengths_of, Answered}
+use Rattle.receiver.specs.Calls.{Memory, Received, lengths_of, Answered}
 use Rattle.receiver.specs.declared.SigfoxReceiver.{SigfoxReceiver}
-use Rattle.receiver.specs.declared.Received.{Received}
 
 -- ---- a call
 

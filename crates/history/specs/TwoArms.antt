@@ -11,9 +11,8 @@ use Rattle.ledger.specs.Records.{frame_bytes, record_of, with_records}
 use Rattle.ledger.specs.EitherOrder.{joining, scans_in, EitherOrder}
 use Rattle.receiver_waiting.specs.Waiting.{waiting_of}
 use Rattle.receiver.specs.State.{ledger_of}
-use Rattle.receiver.specs.Calls.{Memory, Answered}
+use Rattle.receiver.specs.Calls.{Memory, Received, Answered}
 use Rattle.receiver.specs.declared.SigfoxReceiver.{SigfoxReceiver}
-use Rattle.receiver.specs.declared.Received.{Received}
 use Rattle.receiver.proofs.Contracts.{Contracts}
 
 -- the frames of a call, in the order in which it hears them

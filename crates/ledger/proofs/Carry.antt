@@ -1,9 +1,9 @@
 -- A call does the same by lists of frames and by the entries that the Rust merges of them.
+use Rattle.std.proofs.Common.{Option, None, Some}
 use mathlib.Core.Path.{◌≡◌, refl, sym, ap, ◌∙◌}
 use mathlib.Core.Logic.{⊎_elim}
 use mathlib.Core.List.{List, [], ◌∷◌, ◌++◌, map, map-map}
 use mathlib.Core.Bool.{Bool, true, false, cond}
-use mathlib.Core.Option.{Option, none, some}
 use Prim.Native.Nat.{ℕ, zero, suc, ◌+◌, ◌*◌}
 use lib.ListN.{length, drop, length-map}
 use lib.Dec.{leb, eqb}
@@ -73,8 +73,8 @@ waiting-carry f false l = refl
 
 hear-carry : (l : Ledger by_frames) (s : ℕ) (o : Option DecodedFrame) → carry (hear (remember l s) s o) ≡ hear (remember (carry l) s) s o
 unfolding hear remember
-hear-carry l s none = refl
-hear-carry l s (some x) = rw (waiting-carry (frame_at s x) (right_crc (frame_at s x)) l.waiting) refl
+hear-carry l s None = refl
+hear-carry l s (Some x) = rw (waiting-carry (frame_at s x) (right_crc (frame_at s x)) l.waiting) refl
 
 module _ (rate : ℕ) (d : Demod) where
   one_carry : (wait : ℕ) (l : Ledger by_frames) (b : Burst) → carry (take_one rate d wait l b) ≡ take_one rate d wait (carry l) b

@@ -1,9 +1,9 @@
 -- How many frames and open messages a call can have, from any state that is in order.
+use Rattle.std.proofs.Common.{Option, None, Some}
 use mathlib.Core.Path.{◌≡◌, refl}
 use mathlib.Core.Logic.{⊎_elim}
 use mathlib.Core.List.{List, [], ◌∷◌, ◌++◌}
 use mathlib.Core.Bool.{Bool, true, false, cond}
-use mathlib.Core.Option.{Option, none, some}
 use Prim.Native.Nat.{ℕ, zero, suc, ◌+◌, ◌-◌, ◌*◌, ◌≤◌, ◌<◌}
 use native.Mathlib.Omega.{arith}
 use lib.ListN.{length, drop, length-append, length-map, length-drop}
@@ -35,7 +35,7 @@ window_more lo a b [] h w = tt
 window_more lo a b (s ∷ l) h w = (w.0, omega (arith, w.1), window_more lo a b l h w.2)
 
 -- what is decoded fits
-decoded-fits : (rate : ℕ) (d : Demod) → Fair rate d → (held : List Float) (t : Float) (b : Burst) (x : DecodedFrame) (s : ℕ) → d.decode held t b ≡ some x → FrameFits (frame_at s x)
+decoded-fits : (rate : ℕ) (d : Demod) → Fair rate d → (held : List Float) (t : Float) (b : Burst) (x : DecodedFrame) (s : ℕ) → d.decode held t b ≡ Some x → FrameFits (frame_at s x)
 unfolding rank_of
 decoded-fits rate d fair held t b x s e =
     record { rank = d.ranks held t b x e; payload = fair.payload held t b x e; auth = fair.auth held t b x e }
@@ -49,8 +49,8 @@ module _ {K : Kind} where
 
   hear_grew : (l : Ledger K) (s : ℕ) (o : Option DecodedFrame) → Grew l (hear (remember l s) s o)
   unfolding hear remember
-  hear_grew l s none = record { heard = omega arith; waiting = omega arith }
-  hear_grew l s (some x) =
+  hear_grew l s None = record { heard = omega arith; waiting = omega arith }
+  hear_grew l s (Some x) =
       let n : length (l.heard ++ (frame_at s x ∷ [])) ≡ length l.heard + 1 = length-append l.heard (frame_at s x ∷ []) in
       record { heard = omega (arith, n); waiting = omega (arith, n, waiting_one K (frame_at s x) (right_crc (frame_at s x)) l.waiting) }
 
@@ -104,8 +104,8 @@ module _ {K : Kind} where
         → Window (suc base₀) (l.base + length l.held - (third rate + tail rate)) (heard_starts (hear (remember l (l.base + b.start)) (l.base + b.start) o))
         × Tidy K (hear (remember l (l.base + b.start)) (l.base + b.start) o).waiting
     unfolding hear remember start_of
-    hear-place l b none e h t r = (r.place, r.tidy)
-    hear-place l b (some x) e h t r =
+    hear-place l b None e h t r = (r.place, r.tidy)
+    hear-place l b (Some x) e h t r =
         let s = l.base + b.start in (
           rw (map-join start_of l.heard (frame_at s x ∷ []))
               (window_snoc (suc base₀) (l.base + length l.held - (third rate + tail rate)) (heard_starts l) s r.place (omega (arith, r.onward)) (omega arith)),

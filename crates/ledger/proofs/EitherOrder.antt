@@ -1,10 +1,10 @@
 -- Frames of two messages join in either order: the claim of specs/EitherOrder, from any ledger.
+use Rattle.std.proofs.Common.{Option, None, Some}
 use mathlib.Core.Path.{◌≡◌, refl, ap, ◌∙◌}
 use mathlib.Core.Logic.{⊎_elim}
 use mathlib.Core.List.Perm
 use mathlib.Core.List.{List, [], ◌∷◌, ◌++◌}
 use mathlib.Core.Bool.{Bool, true, false, cond}
-use mathlib.Core.Option.{Option, none, some}
 use Prim.Native.Nat.{ℕ, zero, suc, ◌+◌, ◌*◌}
 use lib.ListN.{length, drop}
 use lib.Dec.{leb, eqb}
@@ -44,8 +44,8 @@ module _ {K : Kind} (w : List K.Open) where
 
   hear_from : (l : Ledger K) (s : ℕ) (o : Option DecodedFrame) → hear (remember (from l) s) s o ≡ from (hear (remember l s) s o)
   unfolding hear remember
-  hear_from l s none = refl
-  hear_from l s (some x) =
+  hear_from l s None = refl
+  hear_from l s (Some x) =
       rw (joining_snoc l.heard (frame_at s x), joins_snoc K (joining l.heard) (frame_at s x) (right_crc (frame_at s x)) w) refl
 
   module _ (rate : ℕ) (d : Demod) where

@@ -1,9 +1,9 @@
 -- A ledger that grew from a fresh one: at most 34 messages wait, and it is in order.
+use Rattle.std.proofs.Common.{Option, None, Some, ℤ}
 use mathlib.Core.Path.{◌≡◌, refl, sym, ap}
 use mathlib.Core.Logic.{⊎_elim}
 use mathlib.Core.List.{List, [], ◌∷◌, ◌++◌, map}
 use mathlib.Core.Bool.{false, ◌&&◌}
-use mathlib.Core.Option.{none, some}
 use Prim.Native.Nat.{ℕ, zero, suc, ◌+◌, ◌-◌, ◌*◌, ◌≤◌, ◌<◌}
 use native.Mathlib.Omega.{arith}
 use lib.ListN.{length, length-map}
@@ -17,9 +17,8 @@ use Rattle.rates.proofs.Values.{holds}
 use Rattle.clock.specs.Bits as bits
 use Rattle.coding.specs.Bits.{odd}
 use Rattle.frame.specs.Decode.{decode_uplink}
-use Rattle.frame.specs.declared.Outcome.{Outcome}
-use Rattle.frame.specs.declared.Outcome.TheVariants.{Refused, Nothing, Frame}
-use Rattle.demod.specs.Decode.{segment_of, time_at, heard_as, with_burst, heard_in, decode_burst}
+use Rattle.frame.specs.declared.UplinkFrame.{UplinkFrame}
+use Rattle.demod.specs.Decode.{segment_of, time_at, with_burst, heard_in, decode_burst}
 use Rattle.ledger.specs.Types.{DecodedFrame}
 use Rattle.ledger.specs.Frames.{time_of, start_of}
 use Rattle.ledger.specs.Merge.{quiet_s}
@@ -41,16 +40,18 @@ use Rattle.ledger.proofs.Lasts.{last_of, lasts, Timed, OnTime, Lasts, spaced_of,
 
 -- ---- demand 2's frames have the time of their burst's start
 
-heard-time : (o : Outcome) (d x : DecodedFrame) → heard_as o d ≡ some x → x.time ≡ d.time
-unfolding heard_as
-heard-time (Refused n) d x e = absurd (let z : ◌≡◌ {A = ℕ} 0 1 = cc in omega arith)
-heard-time Nothing d x e = absurd (let z : ◌≡◌ {A = ℕ} 0 1 = cc in omega arith)
-heard-time Frame d x e = let q : d ≡ x = cc in ap (λ (y : DecodedFrame). y.time) (sym q)
+heard-time : (t e r : Float) (ppm : ℤ) (depth : ℕ) (f : Option UplinkFrame) (x : DecodedFrame) → with_burst t e r ppm depth f ≡ Some x → x.time ≡ t
+unfolding with_burst
+heard-time t e r ppm depth None x q = absurd (let z : ◌≡◌ {A = ℕ} 0 1 = cc in omega arith)
+heard-time t e r ppm depth (Some f) x q =
+    let d : DecodedFrame = record { frame = f; time = t; end = e; rssi = r; clock_error_ppm = ppm; depth = depth } in
+    let z : d ≡ x = cc in
+    ap (λ (y : DecodedFrame). y.time) (sym z)
 
-bits-time : (t e r : Float) (o : bits.Outcome) (x : DecodedFrame) → heard_in t e r o ≡ some x → x.time ≡ t
-unfolding heard_in with_burst
-bits-time t e r none x q = absurd (let z : ◌≡◌ {A = ℕ} 0 1 = cc in omega arith)
-bits-time t e r (some b) x q = heard-time (decode_uplink (map odd b.bits)).outcome _ x q
+bits-time : (t e r : Float) (o : bits.Outcome) (x : DecodedFrame) → heard_in t e r o ≡ Some x → x.time ≡ t
+unfolding heard_in
+bits-time t e r None x q = absurd (let z : ◌≡◌ {A = ℕ} 0 1 = cc in omega arith)
+bits-time t e r (Some b) x q = heard-time t e r _ _ _ x q
 
 on_time : (rate : ℕ) → OnTime rate (demod_of rate)
 unfolding decode_burst

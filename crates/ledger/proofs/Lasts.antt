@@ -1,9 +1,9 @@
 -- The frames that joined last: those of two open messages start at least 0.3 s apart, and each has its time by its start.
+use Rattle.std.proofs.Common.{Option, None, Some}
 use mathlib.Core.Path.{◌≡◌, refl}
 use mathlib.Core.Logic.{⊎_elim}
 use mathlib.Core.List.{List, [], ◌∷◌, ◌++◌, map}
 use mathlib.Core.Bool.{Bool, true, false, cond}
-use mathlib.Core.Option.{Option, none, some}
 use Prim.Native.Nat.{ℕ, zero, suc, ◌+◌, ◌*◌, ◌≤◌, ◌<◌}
 use native.Mathlib.Omega.{arith}
 use lib.ListN.{length, drop}
@@ -83,7 +83,7 @@ Timed rate f = (base : ℕ) × (at : ℕ) × (start_of f ≡ base + at) × (time
 
 -- the demodulation times a frame so
 abbrev pub OnTime : ℕ → Demod → Type 0
-OnTime rate d = (held : List Float) (t : Float) (b : Burst) (x : DecodedFrame) → d.decode held t b ≡ some x
+OnTime rate d = (held : List Float) (t : Float) (b : Burst) (x : DecodedFrame) → d.decode held t b ≡ Some x
     → x.time ≡ add binary64 t (div binary64 (num b.start) (num rate))
 
 -- what is kept of the open messages: their last frames are apart, before hi, and timed
@@ -163,9 +163,9 @@ module _ (rate : ℕ) (d : Demod) (time : OnTime rate d) where
       → 0 < b.start → b.start < length l.held → near rate l.starts (l.base + b.start) ≡ false
       → Lasts rate l → Lasts rate (hear (remember l (l.base + b.start)) (l.base + b.start) o)
   unfolding hear remember start_of time_of
-  hear-lasts l b none e p q n w =
+  hear-lasts l b None e p q n w =
       record { kept = w.kept; far = λ x h g. (far_more rate (lasts l.waiting) l (l.base + b.start) w.far x h g).0 }
-  hear-lasts l b (some y) e p q n w =
+  hear-lasts l b (Some y) e p q n w =
       let s = l.base + b.start in
       let f = frame_at s y in
       record { kept = one_kept (right_crc f); far = λ x h g. let i = far_more rate (lasts l.waiting) l s w.far x h g in one-far (right_crc f) x i.0 i.1 }

@@ -1,9 +1,9 @@
 -- Where the remembered starts stand: after every step of a call, from any state that is in order.
+use Rattle.std.proofs.Common.{Option, None, Some}
 use mathlib.Core.Path.{◌≡◌, refl, ◌∙◌}
 use mathlib.Core.Logic.{◌⊎◌, inl, inr, ⊎_elim}
 use mathlib.Core.List.{List, [], ◌∷◌, ◌++◌}
 use mathlib.Core.Bool.{true, false}
-use mathlib.Core.Option.{Option, none, some}
 use Prim.Native.Nat.{ℕ, ◌+◌, ◌-◌, ◌*◌, ◌≤◌, ◌<◌}
 use native.Mathlib.Omega.{arith}
 use lib.ListN.{length, take, drop, length-drop}
@@ -81,14 +81,14 @@ module _ {K : Kind} where
   hear-loose : (rate back : ℕ) (l : Ledger K) (b : Burst) (o : Option DecodedFrame) → b.start < length l.held → near rate l.starts (l.base + b.start) ≡ false
       → Loose rate back l → Loose rate back (hear (remember l (l.base + b.start)) (l.base + b.start) o)
   unfolding hear remember
-  hear-loose rate back l b none h n w =
+  hear-loose rate back l b None h n w =
       record {
         small = w.small;
         below = below_snoc (l.base + length l.held) l.starts (l.base + b.start) w.below (omega arith);
         apart = spaced_snoc rate [] l.starts (l.base + b.start) w.apart n;
         recent = since_snoc l.base back l.starts (l.base + b.start) w.recent (omega arith);
       }
-  hear-loose rate back l b (some f) h n w =
+  hear-loose rate back l b (Some f) h n w =
       record {
         small = w.small;
         below = below_snoc (l.base + length l.held) l.starts (l.base + b.start) w.below (omega arith);

@@ -1,4 +1,5 @@
 -- A record of a run has 120 bytes, and a client reads off them what the ledger's record says.
+use Rattle.std.proofs.Common.{Option, None, Some}
 use mathlib.Core.Path.{◌≡◌, refl, ap, ◌∙◌}
 use mathlib.Core.Logic.{⊎_elim}
 use mathlib.Core.List.{List, [], ◌∷◌, ◌++◌, map, append_assoc}
@@ -13,8 +14,6 @@ use lib.Ieee.{Float, binary32, binary64, lt, fits}
 use lib.Ieee.Fits.{cond-fits}
 use borrow.Author.Tests.{leb-true, eq-eqb, ne_eqb}
 use Rattle.limits.specs.Limits.{record_size}
-use Rattle.frame.specs.declared.SingleBit.{SingleBit}
-use Rattle.frame.specs.declared.SingleBit.TheVariants.{Absent, Is}
 use Rattle.record.specs.Record.{frame_kind, message_kind, flag, bit_flags, frame_flags, rank_bit, blank_span, head_bytes, frame_record, message_record}
 use Rattle.record.specs.Readers.{kind_of, flags_of, device_of, counter_of}
 use Rattle.record.specs.Readers as read
@@ -44,10 +43,10 @@ low-flags true false = omega arith
 low-flags false true = omega arith
 low-flags false false = omega arith
 
-high_flags : (s : SingleBit) → bit_flags s % 8 ≡ 0
-high_flags Absent = refl
-high_flags (Is true) = refl
-high_flags (Is false) = refl
+high_flags : (s : (Option Bool)) → bit_flags s % 8 ≡ 0
+high_flags None = refl
+high_flags (Some true) = refl
+high_flags (Some false) = refl
 
 -- "4 CRC right"
 crc-flag : (f : UplinkFrame) → eqb (frame_flags f / 4 % 2) 1 ≡ f.crc_ok

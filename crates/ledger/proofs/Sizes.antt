@@ -1,8 +1,8 @@
 -- How many samples the ledger holds, and where they stand in the stream.
+use Rattle.std.proofs.Common.{Option, None, Some}
 use mathlib.Core.Path.{◌≡◌, refl, ap, ◌∙◌}
 use mathlib.Core.Logic.{⊎_elim}
 use mathlib.Core.List.{List, [], ◌∷◌}
-use mathlib.Core.Option.{Option, none, some}
 use Prim.Native.Nat.{ℕ, zero, suc, ◌+◌, ◌-◌, ◌*◌, ◌≤◌, ◌<◌, min}
 use native.Mathlib.Omega.{arith}
 use native.Mathlib.Nat.{min-le_left, min-le_right, le_refl}
@@ -32,8 +32,8 @@ module _ {K : Kind} where
 
   hear-still : (l : Ledger K) (s : ℕ) (o : Option DecodedFrame) → Still l (hear (remember l s) s o)
   unfolding hear remember
-  hear-still l s none = record { held = refl; base = refl; unscanned = refl }
-  hear-still l s (some f) = record { held = refl; base = refl; unscanned = refl }
+  hear-still l s None = record { held = refl; base = refl; unscanned = refl }
+  hear-still l s (Some f) = record { held = refl; base = refl; unscanned = refl }
 
   pub one_still : (rate : ℕ) (d : Demod) (wait : ℕ) (l : Ledger K) (b : Burst) → Still l (take_one rate d wait l b)
   unfolding take_one

@@ -1,9 +1,9 @@
 -- No two frames start under 0.3 s apart: a start that is forgotten is too far back to matter.
+use Rattle.std.proofs.Common.{Option, None, Some}
 use mathlib.Core.Path.{◌≡◌, refl, sym, ◌∙◌}
 use mathlib.Core.Logic.{⊎_elim}
 use mathlib.Core.List.{List, [], ◌∷◌, ◌++◌, map, append_assoc, append-nil}
 use mathlib.Core.Bool.{true, false, not, ◌&&◌, ◌||◌, or_assoc}
-use mathlib.Core.Option.{Option, none, some}
 use Prim.Native.Nat.{ℕ, zero, suc, ◌+◌, ◌-◌, ◌*◌, ◌≤◌, ◌<◌}
 use native.Mathlib.Omega.{arith}
 use lib.ListN.{length, drop}
@@ -94,9 +94,9 @@ module _ {K : Kind} where
     hear-spread : (l : Ledger K) (b : Burst) (o : Option DecodedFrame) → 0 < b.start → near rate l.starts (l.base + b.start) ≡ false
         → Spread rate seen l → Spread rate seen (hear (remember l (l.base + b.start)) (l.base + b.start) o)
     unfolding hear remember near start_of
-    hear-spread l b none h n w =
+    hear-spread l b None h n w =
         record { apart = w.apart; far = λ x p q. (far_more rate (seen ++ heard_starts l) l (l.base + b.start) w.far x p q).0 }
-    hear-spread l b (some y) h n w =
+    hear-spread l b (Some y) h n w =
         let s = l.base + b.start in
         let g : near rate (seen ++ heard_starts l) s ≡ false = w.far s (omega arith) n in
         let a : map start_of (l.heard ++ (frame_at s y ∷ [])) ≡ heard_starts l ++ (s ∷ []) = map-join start_of l.heard (frame_at s y ∷ []) in

@@ -1,9 +1,9 @@
 -- What holds of every frame that a scan decodes holds of all frames of the ledger: those of the call and those of its open messages.
+use Rattle.std.proofs.Common.{Option, None, Some}
 use mathlib.Core.Path.{◌≡◌, refl}
 use mathlib.Core.Logic.{⊎_elim}
 use mathlib.Core.List.{List, [], ◌∷◌}
 use mathlib.Core.Bool.{Bool, true, false, not, ◌&&◌, cond}
-use mathlib.Core.Option.{Option, none, some}
 use Prim.Native.Nat.{ℕ, zero, suc, ◌+◌, ◌*◌, ◌≤◌}
 use native.Mathlib.Omega.{arith}
 use lib.ListN.{length, drop}
@@ -59,10 +59,10 @@ module _ (P : Frame → Type 0) where
       (λ e. rw (join_past by_frames f m l e) (w.0, join-every f l h w.1))
       (either (same (message_key m) (key_of f)))
 
-  hear-holds : (l : Ledger by_frames) (s : ℕ) (o : Option DecodedFrame) → ((x : DecodedFrame) → o ≡ some x → P (frame_at s x)) → Holds l → Holds (hear (remember l s) s o)
+  hear-holds : (l : Ledger by_frames) (s : ℕ) (o : Option DecodedFrame) → ((x : DecodedFrame) → o ≡ Some x → P (frame_at s x)) → Holds l → Holds (hear (remember l s) s o)
   unfolding hear remember
-  hear-holds l s none h w = record { heard = w.heard; waiting = w.waiting }
-  hear-holds l s (some x) h w =
+  hear-holds l s None h w = record { heard = w.heard; waiting = w.waiting }
+  hear-holds l s (Some x) h w =
       record { heard = every-join P l.heard (frame_at s x ∷ []) w.heard (h x refl, tt); waiting = one_more (right_crc (frame_at s x)) }
     where
       one_more : (c : Bool) → EveryOpen (cond c (join by_frames (frame_at s x) l.waiting) l.waiting)
@@ -72,7 +72,7 @@ module _ (P : Frame → Type 0) where
 module _ (rate : ℕ) (d : Demod) (P : Frame → Type 0) where
   -- what a burst that is inside the held samples gives
   abbrev pub Gives : List Float → ℕ → Burst → Type 0
-  Gives held base b = (x : DecodedFrame) → b.end ≤ length held → d.decode held (seconds rate base) b ≡ some x → P (frame_at (base + b.start) x)
+  Gives held base b = (x : DecodedFrame) → b.end ≤ length held → d.decode held (seconds rate base) b ≡ Some x → P (frame_at (base + b.start) x)
 
   inside : (wait : ℕ) (l : Ledger by_frames) (b : Burst) → takes rate wait l b ≡ true → b.end ≤ length l.held
   unfolding takes

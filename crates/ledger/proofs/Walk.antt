@@ -1,10 +1,10 @@
 -- What the ledger keeps true of the records so far: every message is made of what belongs to it, and what waits under a key is what the next message with that
 -- key would have.
+use Rattle.std.proofs.Common.{Option, None, Some}
 use mathlib.Core.Path.{◌≡◌, refl, sym, ap, ◌∙◌}
 use mathlib.Core.Logic.{⊎_elim}
 use mathlib.Core.List.{List, [], ◌∷◌, ◌++◌, append_assoc, append-nil}
 use mathlib.Core.Bool.{Bool, true, false, ◌&&◌, cond}
-use mathlib.Core.Option.{Option, none, some}
 use Prim.Native.Nat.{ℕ, zero, suc, ◌+◌, ◌*◌}
 use lib.ListN.{length, drop}
 use lib.Dec.{leb, eqb}
@@ -78,8 +78,8 @@ once_one f true l h = distinct-join f l h
 
 hear-within : (rs : List Seen) (l : Ledger by_frames) (s : ℕ) (o : Option DecodedFrame) → Within rs l → Within rs (hear (remember l s) s o)
 unfolding hear remember
-hear-within rs l s none w = record { views = w.views; once = w.once }
-hear-within rs l s (some x) w =
+hear-within rs l s None w = record { views = w.views; once = w.once }
+hear-within rs l s (Some x) w =
     let f = frame_at s x in
     let h = rs ++ heard_seen l.heard in
     let z : rs ++ heard_seen (l.heard ++ (f ∷ [])) ≡ h ++ (frame (see_frame f) ∷ []) =

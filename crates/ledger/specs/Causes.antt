@@ -1,11 +1,11 @@
 -- Which calls are refused, and with which number: 01's table of causes, in its order, and its rules for a state in order. Assumes nothing.
-use Rattle.std.specs.Prelude.{List, [], ◌∷◌, Bool, true, false, not, ◌&&◌, ◌||◌, cond, ℕ, zero, suc, ◌+◌, ◌*◌, length, leb, ltb, eqb}
+use Rattle.std.specs.Prelude.{List, [], ◌∷◌, Bool, true, false, not, ◌&&◌, ◌||◌, cond, ℕ, zero, suc, ◌+◌, ◌*◌, length, leb, ltb, eqb, Option, None, Some, Float}
 use Rattle.std.specs.Float.Ieee.{is_nan}
 use Rattle.limits.specs.Limits.{bad_rate, short, long, bad_sample, bad_state, stream, bad_number, events_size, scratch64, longest_stream}
 use Rattle.limits.specs.Samples.{rate_ok, all_dbm}
 use Rattle.shifts.specs.Shifts.{Schedule, schedule_cause}
 use Rattle.frame.specs.Sizes.{most_payload, most_auth}
-use Rattle.ledger.specs.Types.{FrameSpan, FirstFrameEnd, Known, Unknown, Pending}
+use Rattle.ledger.specs.Types.{FrameSpan, Pending}
 use Rattle.ledger.specs.Frames.{Key, same}
 use Rattle.ledger.specs.Merge.{no_span, has}
 use Rattle.ledger.specs.Ledger.{Kind, Demod, capacity, spaced, Ledger, Call, push, flush, scans, closed, Event, events}
@@ -103,9 +103,9 @@ unfoldable pub span_nan : List FrameSpan → Bool
 span_nan [] = false
 span_nan (s ∷ l) = (not (eqb s.rank no_span) && (is_nan s.time || is_nan s.end)) || span_nan l
 
-unfoldable pub end_nan : FirstFrameEnd → Bool
-end_nan (Known t) = is_nan t
-end_nan Unknown = false
+unfoldable pub end_nan : Option Float → Bool
+end_nan (Some t) = is_nan t
+end_nan None = false
 
 unfoldable pub entry_nan : Pending → Bool
 entry_nan e =

@@ -1,6 +1,5 @@
 -- Demand 2's demodulation as the ledger uses it: the bursts of a scan, and demod.rs `decode_burst` of one. No word of the port. Assumes nothing.
-use Rattle.std.proofs.Math.Option.{Option}
-use Rattle.std.specs.Prelude.{List, ℕ, Float}
+use Rattle.std.specs.Prelude.{List, ℕ, Float, Option}
 use Rattle.demod.specs.Decode.{decode_burst}
 use Rattle.demod.proofs.DecodedFacts.{burst_lawful}
 use Rattle.ledger.specs.Types.{DecodedFrame, Burst}

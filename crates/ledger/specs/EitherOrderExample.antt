@@ -1,11 +1,10 @@
 -- `EitherOrder` worked out, so that nobody can call it empty: a push in which one arm's frame opens a message and another arm's completes one, in both orders; a pair
 -- whose order shows in the list; and two frames of one message, which may not change places.
-use Rattle.std.specs.Prelude.{◌≡◌, refl, List, [], ◌∷◌, map, Bool, true, false, cond, ℕ, ◌+◌, ◌*◌, ◌≤◌, replicate, eqb, pos, Float}
+use Rattle.std.specs.Prelude.{◌≡◌, refl, List, [], ◌∷◌, map, Bool, true, false, cond, ℕ, ◌+◌, ◌*◌, ◌≤◌, replicate, eqb, pos, Float, None, Some}
 use Rattle.std.proofs.Common.{sym, ap, arith}
-use Rattle.std.proofs.Math.Option.{some}
 use Rattle.std.specs.Float.Ieee.{neg, of_int, lt, sub, add, mul, div, le, round}
 use Rattle.floats.specs.Number.{num}
-use Rattle.ledger.specs.Types.{Unchanged, Absent, DecodedFrame, Burst, Pending}
+use Rattle.ledger.specs.Types.{DecodedFrame, Burst, Pending}
 use Rattle.ledger.specs.Frames.{Frame, frame_at, key_of, rank_of, right_crc, time_of}
 use Rattle.ledger.specs.Merge as merge
 use Rattle.ledger.specs.Ledger as ledger
@@ -23,13 +22,13 @@ heard device rank second =
             counter = 1;
             payload = replicate 12 0;
             payload_len = 0;
-            bit = Absent;
+            bit = None;
             downlink = false;
             control = false;
             auth = replicate 5 0;
             auth_len = 2;
             crc_ok = true;
-            repaired = Unchanged;
+            repaired = None;
           };
       time = num second;
       end = num (second + 1);
@@ -55,7 +54,7 @@ completes = heard 7 2 5
 abbrev decoded : Bool → DecodedFrame
 decoded first = cond first opens completes
 
-pub two_ranks : (first : Bool) (x : DecodedFrame) → some (decoded first) ≡ some x → x.frame.rank ≤ 2
+pub two_ranks : (first : Bool) (x : DecodedFrame) → Some (decoded first) ≡ Some x → x.frame.rank ≤ 2
 two_ranks true x e =
     let q : opens ≡ x = cc in
     let r : x.frame.rank ≡ 0 = ap (λ (y : DecodedFrame). y.frame.rank) (sym q) in
@@ -69,7 +68,7 @@ abbrev demo : Demod
 demo =
     record {
       bursts = λ held. burst_at 200 ∷ burst_at 1000 ∷ [];
-      decode = λ held t b. some (decoded (eqb b.start 200));
+      decode = λ held t b. Some (decoded (eqb b.start 200));
       ranks = λ held t b x e. two_ranks (eqb b.start 200) x e;
     }
 

@@ -1,15 +1,14 @@
 -- `Grown` worked out, so that nobody can call it empty: a push of 12 s with a frame of another device every 0.35 s, after which 27 messages wait; and what the causes
 -- say of a state that is given with 40 and with 41 messages.
-use Rattle.std.specs.Prelude.{◌≡◌, refl, List, [], ◌∷◌, true, false, ℕ, zero, suc, ◌+◌, ◌≤◌, length, replicate, pos, Float}
+use Rattle.std.specs.Prelude.{◌≡◌, refl, List, [], ◌∷◌, true, false, ℕ, zero, suc, ◌+◌, ◌≤◌, length, replicate, pos, Float, None, Some}
 use Rattle.std.proofs.Common.{sym, ap, arith}
-use Rattle.std.proofs.Math.Option.{some}
 use Rattle.std.specs.Float.{binary64}
 use Rattle.std.specs.Float.Ieee.{neg, of_int, lt, sub, add, mul, div, le, eq, is_nan, round}
 use Rattle.floats.specs.Number.{num}
 use Rattle.limits.specs.Samples.{all_dbm}
 use Rattle.shifts.specs.Shifts as shifts
 use Rattle.shifts.specs.Shifts.{no_schedule}
-use Rattle.ledger.specs.Types.{Unchanged, Absent, DecodedFrame, Burst}
+use Rattle.ledger.specs.Types.{DecodedFrame, Burst}
 use Rattle.ledger.specs.Frames.{frame_at, key_of, rank_of, right_crc, rssi_of, time_of, start_of}
 use Rattle.ledger.specs.Merge as merge
 use Rattle.ledger.specs.Ledger as ledger
@@ -28,13 +27,13 @@ heard device time =
             counter = 1;
             payload = replicate 12 0;
             payload_len = 0;
-            bit = Absent;
+            bit = None;
             downlink = false;
             control = false;
             auth = replicate 5 0;
             auth_len = 2;
             crc_ok = true;
-            repaired = Unchanged;
+            repaired = None;
           };
       time = time;
       end = time;
@@ -58,14 +57,14 @@ row (suc n) start = record { start = start; end = start + 61; peak_dbm = neg (nu
 abbrev frame_of : Float → ℕ → DecodedFrame
 frame_of t start = heard start (add binary64 t (div binary64 (num start) (num 200)))
 
-pub rank_is : (t : Float) (start : ℕ) (x : DecodedFrame) → some (frame_of t start) ≡ some x → x.frame.rank ≤ 2
+pub rank_is : (t : Float) (start : ℕ) (x : DecodedFrame) → Some (frame_of t start) ≡ Some x → x.frame.rank ≤ 2
 rank_is t start x e =
     let q : frame_of t start ≡ x = cc in
     let r : x.frame.rank ≡ 0 = ap (λ (y : DecodedFrame). y.frame.rank) (sym q) in
     omega arith
 
 abbrev demo : Demod
-demo = record { bursts = λ held. row 33 10; decode = λ held t b. some (frame_of t b.start); ranks = λ held t b x e. rank_is t b.start x e }
+demo = record { bursts = λ held. row 33 10; decode = λ held t b. Some (frame_of t b.start); ranks = λ held t b x e. rank_is t b.start x e }
 
 -- 12 s of -110 dBm
 abbrev twelve : Call
@@ -76,7 +75,7 @@ pub worked_out : (length (scans 200 demo (fresh {K = by_frames}) twelve).heard �
     × (length (messages 200 twelve (scans 200 demo (fresh {K = by_frames}) twelve)) ≡ 6)
     × (length (after 200 demo (fresh {K = by_frames}) (ok twelve ∷ [])).waiting ≡ 27)
     × (length (after 200 demo (fresh {K = by_frames}) (ok twelve ∷ ok flush ∷ [])).waiting ≡ 0)
-unfolding row key_of rank_of right_crc rssi_of time_of start_of all_dbm le lt eq neg of_int sub add mul div is_nan round causes.after causes.cause causes.call_cause causes.orderly causes.below causes.since causes.unlike causes.waits causes.all_fit causes.entry_fits causes.spans_fit causes.in_front causes.any_nan causes.entry_nan causes.end_nan causes.span_nan causes.first_of shifts.shifts_cause shifts.shifts_ok shifts.start_ok shifts.all shifts.rising causes.after_call ledger.fresh ledger.scans ledger.start_call ledger.fills ledger.fill ledger.halve ledger.amount ledger.add ledger.due ledger.scanned ledger.scan ledger.take_each ledger.take_one ledger.takes ledger.near ledger.spaced ledger.hear ledger.remember ledger.join ledger.forget ledger.starts_from ledger.closed ledger.messages ledger.now ledger.seconds ledger.ready ledger.complete ledger.ranked ledger.latest ledger.chosen ledger.others merge.open_entry merge.merge_all merge.merge merge.meet merge.has merge.span_of merge.end_after merge.finished merge.or_else merge.lowest_later merge.known_of merge.entry_key
+unfolding row key_of rank_of right_crc rssi_of time_of start_of all_dbm le lt eq neg of_int sub add mul div is_nan round causes.after causes.cause causes.call_cause causes.orderly causes.below causes.since causes.unlike causes.waits causes.all_fit causes.entry_fits causes.spans_fit causes.in_front causes.any_nan causes.entry_nan causes.end_nan causes.span_nan causes.first_of shifts.shifts_cause shifts.shifts_ok shifts.start_ok shifts.rising causes.after_call ledger.fresh ledger.scans ledger.start_call ledger.fills ledger.fill ledger.halve ledger.amount ledger.add ledger.due ledger.scanned ledger.scan ledger.take_each ledger.take_one ledger.takes ledger.near ledger.spaced ledger.hear ledger.remember ledger.join ledger.forget ledger.starts_from ledger.closed ledger.messages ledger.now ledger.seconds ledger.ready ledger.complete ledger.ranked ledger.latest ledger.chosen ledger.others merge.open_entry merge.merge_all merge.merge merge.meet merge.has merge.span_of merge.end_after merge.finished merge.or_else merge.lowest_later merge.known_of merge.entry_key
 worked_out = (refl, refl, refl, refl)
 
 -- ---- "count over 40 waiting as a state not in order, refusal 5"
@@ -94,5 +93,5 @@ numbers n = number 200 (given n) (ok (push [])) ∷ number 200 (given n) (ok flu
 
 -- 40 are accepted at a push and at a flush, 41 and 128 are refused at both
 pub at_forty : (numbers 40 ≡ 0 ∷ 0 ∷ []) × (numbers 41 ≡ 5 ∷ 5 ∷ []) × (numbers 128 ≡ 5 ∷ 5 ∷ [])
-unfolding devices key_of rank_of right_crc rssi_of time_of start_of all_dbm le lt eq neg of_int sub add mul div is_nan round causes.cause causes.call_cause causes.orderly causes.below causes.since causes.unlike causes.waits causes.all_fit causes.entry_fits causes.spans_fit causes.in_front causes.any_nan causes.entry_nan causes.end_nan causes.span_nan causes.first_of shifts.shifts_cause shifts.shifts_ok shifts.start_ok shifts.all shifts.rising ledger.spaced merge.open_entry merge.merge_all merge.merge merge.meet merge.has merge.span_of merge.end_after merge.finished merge.or_else merge.lowest_later merge.known_of merge.entry_key
+unfolding devices key_of rank_of right_crc rssi_of time_of start_of all_dbm le lt eq neg of_int sub add mul div is_nan round causes.cause causes.call_cause causes.orderly causes.below causes.since causes.unlike causes.waits causes.all_fit causes.entry_fits causes.spans_fit causes.in_front causes.any_nan causes.entry_nan causes.end_nan causes.span_nan causes.first_of shifts.shifts_cause shifts.shifts_ok shifts.start_ok shifts.rising ledger.spaced merge.open_entry merge.merge_all merge.merge merge.meet merge.has merge.span_of merge.end_after merge.finished merge.or_else merge.lowest_later merge.known_of merge.entry_key
 at_forty = (refl, refl, refl)

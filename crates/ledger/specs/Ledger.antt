@@ -1,8 +1,7 @@
 -- 01's ledger (section receiver.rs), on lists, over any demodulation. No word of the port's state, arrays or functions. Assumes nothing.
 -- Seconds are whole numbers of samples here: 12 × rate, (3 × rate + 5) / 10 for 0.3 × rate rounded, 10 × distance against 3 × rate for 0.3 × rate, twice the
 -- unscanned count against the rate for 0.5 s. The crate rates shows that the Rust's binary64 expressions say the same for every rate.
-use Rattle.std.specs.Prelude.{◌≡◌, List, [], ◌∷◌, ◌++◌, map, Bool, true, false, not, ◌&&◌, ◌||◌, cond, ℕ, zero, suc, ◌+◌, ◌-◌, ◌*◌, ◌/◌, min, ◌≤◌, length, take, drop, leb, ltb, eqb, pos, Float}
-use Rattle.std.proofs.Math.Option.{Option, none, some}
+use Rattle.std.specs.Prelude.{◌≡◌, List, [], ◌∷◌, ◌++◌, map, Bool, true, false, not, ◌&&◌, ◌||◌, cond, ℕ, zero, suc, ◌+◌, ◌-◌, ◌*◌, ◌/◌, min, ◌≤◌, length, take, drop, leb, ltb, eqb, pos, Float, Option, None, Some}
 use Rattle.std.specs.Float.{binary32, binary64}
 use Rattle.std.specs.Float.Ieee.{lt, sub, div, neg, of_int}
 use Rattle.floats.specs.Number.{num}
@@ -79,7 +78,7 @@ pub record Demod : Type 0 where
   -- the frame of a burst of a held list, or none; the time is that of the list's first sample
   pub decode : List Float → Float → Burst → Option DecodedFrame
   -- a frame's rank is 0, 1 or 2
-  pub ranks : (held : List Float) (t : Float) (b : Burst) (x : DecodedFrame) → decode held t b ≡ some x → x.frame.rank ≤ 2
+  pub ranks : (held : List Float) (t : Float) (b : Burst) (x : DecodedFrame) → decode held t b ≡ Some x → x.frame.rank ≤ 2
 
 -- ---- the rate's numbers
 
@@ -175,8 +174,8 @@ module _ {K : Kind} where
 
   -- "A burst taken that decodes .. is a frame record of that call"
   unfoldable pub hear : Ledger K → ℕ → Option DecodedFrame → Ledger K
-  hear l s none = l
-  hear l s (some x) =
+  hear l s None = l
+  hear l s (Some x) =
       record {
         held = l.held;
         base = l.base;

@@ -1,12 +1,11 @@
 -- What receiver.rs keeps of an open message (`Pending`), how it merges frames into it, and the message that it writes. Assumes nothing.
-use Rattle.std.specs.Prelude.{ℕ, Bool, false, not, ◌&&◌, ◌||◌, cond, List, [], ◌∷◌, leb, ltb, eqb, Float}
-use Rattle.std.proofs.Math.Option.{Option, none, some}
+use Rattle.std.specs.Prelude.{ℕ, Bool, false, not, ◌&&◌, ◌||◌, cond, List, [], ◌∷◌, leb, ltb, eqb, Float, None, Some, Option}
 use Rattle.std.specs.Float.{binary64}
 use Rattle.std.specs.Float.Ieee.{lt, sub, add, mul}
 use Rattle.floats.specs.Number.{num}
 use Rattle.floats.specs.Number as number
 use Rattle.record.specs.Record.{no_rank}
-use Rattle.ledger.specs.Types.{FrameSpan, FirstFrameEnd, Known, Unknown, SigfoxMessage, Pending}
+use Rattle.ledger.specs.Types.{FrameSpan, SigfoxMessage, Pending}
 use Rattle.ledger.specs.Frames.{Key, Frame, rank_of, rssi_of, time_of}
 
 -- 10 s: receiver.rs QUIET_S. Repetitions start about 4 s apart and a frame is decoded about 2 s after its start, so a message waits this long for the next
@@ -53,8 +52,8 @@ three_ranks l = has 0 l && (has 1 l && has 2 l)
 -- ---- `merge`
 
 -- `if f.rank == 0`: the end of the last frame of rank 0
-unfoldable pub end_after : FirstFrameEnd → Frame → FirstFrameEnd
-end_after o f = cond (eqb (rank_of f) 0) (Known f.reception.end) o
+unfoldable pub end_after : Option Float → Frame → Option Float
+end_after o f = cond (eqb (rank_of f) 0) (Some f.reception.end) o
 
 -- `m.rssi.max(d.rssi)`
 unfoldable pub louder : Float → Float → Float
@@ -76,7 +75,7 @@ open_entry f =
             auth = f.uplink.auth;
             auth_len = f.uplink.auth_len;
             time = f.reception.time;
-            first_frame_end = end_after Unknown f;
+            first_frame_end = end_after None f;
             rssi = f.reception.rssi;
             spans = span_of f ∷ empty_span ∷ empty_span ∷ [];
             clock_error_ppm = f.reception.clock_error_ppm;
@@ -128,29 +127,29 @@ later s = ltb 0 s.rank && not (eqb s.rank no_span)
 
 -- `min_by_key(|x| x.rank)`: the first of the lowest rank
 unfoldable pub lower : FrameSpan → Option FrameSpan → FrameSpan
-lower s none = s
-lower s (some t) = cond (leb s.rank t.rank) s t
+lower s None = s
+lower s (Some t) = cond (leb s.rank t.rank) s t
 
 unfoldable pub lowest_later : List FrameSpan → Option FrameSpan
-lowest_later [] = none
-lowest_later (s ∷ l) = cond (later s) (some (lower s (lowest_later l))) (lowest_later l)
+lowest_later [] = None
+lowest_later (s ∷ l) = cond (later s) (Some (lower s (lowest_later l))) (lowest_later l)
 
 -- `f.end - f.rank as f64 * (f.end - f.time + FRAME_GAP_S)`
 abbrev pub end_before : FrameSpan → Float
 end_before s = sub binary64 s.end (mul binary64 (num s.rank) (add binary64 (sub binary64 s.end s.time) frame_gap_s))
 
-unfoldable pub known_of : Option FrameSpan → FirstFrameEnd
-known_of none = Unknown
-known_of (some s) = Known (end_before s)
+unfoldable pub known_of : Option FrameSpan → Option Float
+known_of None = None
+known_of (Some s) = Some (end_before s)
 
 -- `estimate_first_frame_end`: all three repetitions last as long and are the gap apart
-abbrev pub estimate : List FrameSpan → FirstFrameEnd
+abbrev pub estimate : List FrameSpan → Option Float
 estimate l = known_of (lowest_later l)
 
 -- `.or_else(..)`: the estimate is used where rank 0 is missing
-unfoldable pub or_else : FirstFrameEnd → FirstFrameEnd → FirstFrameEnd
-or_else (Known t) o = Known t
-or_else Unknown o = o
+unfoldable pub or_else : Option Float → Option Float → Option Float
+or_else (Some t) o = Some t
+or_else None o = o
 
 -- the message as it is written
 unfoldable pub finished : Pending → SigfoxMessage

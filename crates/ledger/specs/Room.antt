@@ -1,7 +1,6 @@
 -- How many starts, open messages and records a call can have, and the call by a program that takes a burst only where its arrays have room.
 -- For the port's proofs: no claim of 01 is stated by this. Assumes nothing.
-use Rattle.std.specs.Prelude.{◌≡◌, List, [], ◌∷◌, Bool, true, ◌&&◌, cond, ℕ, zero, suc, ◌+◌, ◌*◌, ◌/◌, ◌≤◌, ◌<◌, length, drop, leb, ltb, Float}
-use Rattle.std.proofs.Math.Option.{some}
+use Rattle.std.specs.Prelude.{◌≡◌, List, [], ◌∷◌, Bool, true, ◌&&◌, cond, ℕ, zero, suc, ◌+◌, ◌*◌, ◌/◌, ◌≤◌, ◌<◌, length, drop, leb, ltb, Float, Some}
 use Rattle.limits.specs.Limits.{longest_stream}
 use Rattle.limits.specs.Samples.{all_dbm}
 use Rattle.frame.specs.Sizes.{most_payload, most_auth}
@@ -23,8 +22,8 @@ Row rate n p (b ∷ bs) =
 
 pub record Fair (rate : ℕ) (d : Demod) : Type 0 where
   pub row : (held : List Float) → length held ≤ capacity rate → Row rate (length held) 0 (d.bursts held)
-  pub payload : (held : List Float) (t : Float) (b : Burst) (x : DecodedFrame) → d.decode held t b ≡ some x → x.frame.payload_len ≤ most_payload
-  pub auth : (held : List Float) (t : Float) (b : Burst) (x : DecodedFrame) → d.decode held t b ≡ some x → x.frame.auth_len ≤ most_auth
+  pub payload : (held : List Float) (t : Float) (b : Burst) (x : DecodedFrame) → d.decode held t b ≡ Some x → x.frame.payload_len ≤ most_payload
+  pub auth : (held : List Float) (t : Float) (b : Burst) (x : DecodedFrame) → d.decode held t b ≡ Some x → x.frame.auth_len ≤ most_auth
 
 -- ---- the order of a state, as facts
 

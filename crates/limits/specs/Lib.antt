@@ -2,3 +2,4 @@
 pub mod Limits
 pub mod Samples
 pub mod Answer
+pub mod Refusals

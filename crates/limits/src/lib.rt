@@ -2,50 +2,50 @@
 #![tactic(auto)]
 
 ghost use Rattle.std.specs.Prelude.{◌≡◌, ◌&&◌};
+ghost use Rattle.limits.specs.Refusals.{number_of};
 ghost use Rattle.limits.specs.Samples.{rate_ok, is_dbm, time_ok, all_dbm};
 
-// Refusals, by 01's and 02's numbers.
-pub const BAD_RATE: u8 = 1;
+pub mod rated; // samples with their rate
 
-// A lent slice is short.
-pub const SHORT: u8 = 2;
+// Why a call is refused: the causes of 01's table and those that 02 adds, each with its number.
+#[derive(Clone, Copy, Debug, PartialEq, Eq, PartialOrd, Ord)]
+pub enum Refusal {
+    BadRate = 1,
+    // A lent slice is short.
+    Short = 2,
+    // Too much is handed in.
+    Long = 3,
+    BadSample = 4,
+    // The state is not in order.
+    BadState = 5,
+    // The stream would be too long.
+    Stream = 7,
+    // The tracker's lists have no place left.
+    Full = 8,
+    BadNumber = 9,
+    // An uplink that no frame carries (02, request 01).
+    BadUplink = 10,
+    // A start second, windows or closed dates as they must not be (02, request 03).
+    BadShifts = 11,
+    // Bytes that are no whole event records, each a frame or a message as it must be (02, request 09).
+    BadRecords = 12,
+    // A 257th device (02, request 09).
+    ManyDevices = 13,
+    // A time or distance that is no finite number, or a negative distance (02, request 11).
+    BadTime = 14,
+    // A plan or a month's start as it must not be (02, request 13).
+    BadPlan = 15,
+    // A message outside the month (02, request 13).
+    OutsideMonth = 16,
+}
 
-// Too much is handed in.
-pub const LONG: u8 = 3;
+impl From<Refusal> for u8 {
+    ghost from_gives = { λ r n. n ≡ number_of r };
 
-pub const BAD_SAMPLE: u8 = 4;
-
-// The state is not in order.
-pub const BAD_STATE: u8 = 5;
-
-// The stream would be too long.
-pub const STREAM: u8 = 7;
-
-// The tracker's lists have no place left.
-pub const FULL: u8 = 8;
-
-pub const BAD_NUMBER: u8 = 9;
-
-// An uplink that no frame carries (02, request 01).
-pub const BAD_UPLINK: u8 = 10;
-
-// A start second, windows or closed dates as they must not be (02, request 03).
-pub const BAD_SHIFTS: u8 = 11;
-
-// Bytes that are no whole event records, each a frame or a message as it must be (02, request 09).
-pub const BAD_RECORDS: u8 = 12;
-
-// A 257th device (02, request 09).
-pub const MANY_DEVICES: u8 = 13;
-
-// A time or distance that is no finite number, or a negative distance (02, request 11).
-pub const BAD_TIME: u8 = 14;
-
-// A plan or a month's start as it must not be (02, request 13).
-pub const BAD_PLAN: u8 = 15;
-
-// A message outside the month (02, request 13).
-pub const OUTSIDE_MONTH: u8 = 16;
+    fn from(refusal: Refusal) -> u8 {
+        refusal as u8
+    }
+}
 
 // Samples per second.
 pub const LOWEST_RATE: u32 = 200;
@@ -114,12 +114,7 @@ pub fn time_ok(x: f64) -> bool
 fn two_dbm(a: f32, b: f32) -> bool
     ensures { result ≡ is_dbm a && is_dbm b }
 {
-    let mut lower = b;
-    let mut higher = a;
-    if a < b {
-        lower = a;
-        higher = b;
-    }
+    let (lower, higher) = if a < b { (a, b) } else { (b, a) };
     let low = lower >= LOWEST_DBM;
     let high = higher <= HIGHEST_DBM;
     low & high
@@ -131,11 +126,8 @@ pub fn all_dbm(dbm: &[f32]) -> bool
 {
     let half = dbm.len() / 2;
     let mut ok = true;
-    let mut i: usize = 0;
-    while i < half {
-        let here = two_dbm(dbm[i], dbm[i + half]);
-        ok = ok & here;
-        i += 1;
+    for i in 0..half {
+        ok &= two_dbm(dbm[i], dbm[i + half]);
     }
     if 2 * half == dbm.len() {
         return ok;

@@ -1,8 +1,8 @@
 -- The input's buffer: what a read brings behind the bytes of before. Assumes nothing.
-use Prim.Native.Nat.{ℕ, zero, suc, ◌+◌, ◌*◌, ◌-◌, ◌/◌, ◌%◌, ◌≤◌, ◌<◌}
+use Prim.Native.Nat.{ℕ, ◌+◌, ◌*◌, ◌-◌, ◌/◌, ◌%◌, ◌≤◌, ◌<◌}
 use mathlib.Core.Path.{◌≡◌, refl, subst, sym, ap, ap₂, ◌∙◌}
 use mathlib.Core.Bool.{Bool, true, false, not, ◌&&◌}
-use mathlib.Core.List.{List, [], ◌∷◌, ◌++◌, append_assoc, append-nil}
+use mathlib.Core.List.{List, [], ◌++◌, append_assoc, append-nil}
 use native.Mathlib.Omega.{arith}
 use lib.Dec.{ltb}
 use lib.ListN.{length, take, drop, replicate, length-append, length-drop, take-append-drop, drop_of_length-le}
@@ -23,7 +23,7 @@ use Rattle.listening.specs.declared.Listener.{Listener}
 use Rattle.listening.specs.declared.Listening.{Listening}
 use Rattle.listening.specs.declared.Reading.{Reading}
 use Rattle.listening.specs.Program.{record_bytes, tuning_places, zero64, ending, nothing_heard, after, Accepted}
-use Rattle.listening.specs.Hand.{new_listener, state_of, Room, Near, Reached, Refuses, GoesOn, Part}
+use Rattle.listening.specs.Hand.{new_listener, state_of, Room, Near, Reached, GoesOn, Part}
 use Rattle.listening.specs.Reads.{buffer, Stage, Further}
 use Rattle.listening.proofs.StepLaws.{first_single}
 use Rattle.listening.proofs.Prefix.{after_more, accepted_more, accepted_less, part_end}

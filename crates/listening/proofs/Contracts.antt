@@ -11,7 +11,7 @@ use Rattle.frequency.specs.Lent.{lists}
 use Rattle.listening_lines.specs.Text.{Added}
 use Rattle.listening_receiver.specs.Standing.{StandsFor}
 use Rattle.listening.specs.Program.{step, ending}
-use Rattle.listening.specs.Hand.{state_of, Goes}
+use Rattle.listening.specs.Hand.{state_of, Goes, stepped}
 use Rattle.listening.specs.contracts.stepping.record_step as record-fn
 use Rattle.listening.proofs.stepping.record_step.Kinds as record-kinds
 use Rattle.listening.proofs.stepping.record_step.Reads as record-reads
@@ -20,11 +20,11 @@ use Rattle.listening.proofs.ending.finish.Kinds as finish-kinds
 use Rattle.listening.proofs.ending.finish.Reads as finish-reads
 
 -- arguments and contents at the exit stand in the parameters' order
-pub record_tells : (κs : Lfts 11) (a : ArgsD record-fn.signature κs) (r : ResD record-fn.signature κs) (s : AtExit (ended_of 11 record-kinds.ps record-kinds.r) κs)
-    → record-reads.Learnt κs a r s → (g : Ledger by_frames) → StandsFor a.1.0 a.1.1.1.1.1.1.1.1.0.now g
+pub record_tells : (κs : Lfts 13) (a : ArgsD record-fn.signature κs) (r : ResD record-fn.signature κs) (s : AtExit (ended_of 13 record-kinds.ps record-kinds.r) κs)
+    → record-reads.Learnt κs a r s → (g : Ledger by_frames) → StandsFor a.1.0.now a.1.1.1.1.1.1.1.1.0.now g
     → Goes
-    (step (state_of a.0 (lists a.1.1.1.0.now a.1.1.1.1.0.now a.1.1.1.1.1.0.now a.1.1.1.1.1.1.0.now a.1.1.1.1.1.1.1.0.now) g) a.1.1.0.now)
-    a.1.1.1.1.1.1.1.1.1.1.1.1.0.now r
+    (step (state_of a.0.now (lists a.1.1.1.0.now a.1.1.1.1.0.now a.1.1.1.1.1.0.now a.1.1.1.1.1.1.0.now a.1.1.1.1.1.1.1.0.now) g) a.1.1.0.now)
+    a.1.1.1.1.1.1.1.1.1.1.1.1.0.now (stepped r s.0.now s.1.0.now)
     (lists s.1.1.1.0.now s.1.1.1.1.0.now s.1.1.1.1.1.0.now s.1.1.1.1.1.1.0.now s.1.1.1.1.1.1.1.0.now)
     s.1.1.1.1.1.1.1.1.0.now s.1.1.1.1.1.1.1.1.1.1.1.1.0.now
 record_tells κs a r s h = h.0

@@ -1,11 +1,11 @@
 -- What the first records bring begins the program's text. Assumes nothing.
 use Prim.Native.Nat.{ℕ, zero, suc, ◌+◌, ◌*◌, ◌/◌, ◌%◌, ◌≤◌}
 use mathlib.Core.Path.{◌≡◌, refl, sym, ap, ◌∙◌}
-use mathlib.Core.List.{List, [], ◌∷◌, ◌++◌, append_assoc, append-nil}
+use mathlib.Core.List.{List, [], ◌++◌, append_assoc, append-nil}
 use native.Mathlib.Omega.{arith}
 use lib.ListN.{length, take, drop, length-append, length-drop}
 use lib.Seq.{drop-drop, take-append-le, drop-append-le, take_all, drop_at}
-use Rattle.listening.specs.Program.{State, Went, record_bytes, handed, refusal_text, unless_refused, step, ending, texts, listen, nothing_heard, after, said, Accepted}
+use Rattle.listening.specs.Program.{State, record_bytes, handed, refusal_text, unless_refused, step, ending, texts, listen, nothing_heard, after, said, Accepted}
 use Rattle.listening.specs.Hand.{Part}
 
 -- a record without a refusal: its lines, and what follows

@@ -1,12 +1,12 @@
 -- The records of a read, one behind the other. Assumes nothing.
-use Prim.Native.Nat.{ℕ, zero, suc, ◌+◌, ◌*◌, ◌-◌, ◌/◌, ◌%◌, ◌≤◌, ◌<◌}
+use Prim.Native.Nat.{ℕ, suc, ◌+◌, ◌*◌, ◌-◌, ◌≤◌, ◌<◌}
 use mathlib.Core.Path.{◌≡◌, refl, sym, ap, ◌∙◌}
 use mathlib.Core.Bool.{Bool, true, false, ◌&&◌}
 use lib.Dec.{eqb}
 use borrow.Author.Tests.{eqb-true}
-use mathlib.Core.List.{List, [], ◌∷◌, ◌++◌, append_assoc, append-nil}
+use mathlib.Core.List.{List, ◌++◌, append_assoc, append-nil}
 use native.Mathlib.Omega.{arith}
-use lib.ListN.{length, take, drop, length-append, length-take, length-drop}
+use lib.ListN.{length, take, drop, length-append, length-drop}
 use lib.Seq.{drop-drop, take-add, take_all, drop_at, take-append-le, drop-append-le, length-take-le}
 use lib.Ieee.{Float}
 use Rattle.ledger.specs.Ledger.{by_frames, Ledger}
@@ -17,10 +17,8 @@ use Rattle.listening_lines.specs.Text.{Added}
 use Rattle.listening_receiver.specs.Hearing.{most}
 use Rattle.listening_receiver.specs.Standing.{StandsFor}
 use Rattle.listening.specs.declared.Listener.{Listener}
-use Rattle.listening.specs.declared.Stepped.{Stepped}
-use Rattle.listening.specs.declared.Listening.{Listening}
-use Rattle.listening.specs.Program.{State, Went, record_bytes, handed, step, nothing_heard, after, Accepted}
-use Rattle.listening.specs.Hand.{state_of, Goes, Room, Near, Steps, Reached, Come, Refuses, GoesOn, Part}
+use Rattle.listening.specs.Program.{Went, record_bytes, handed, step, nothing_heard, after, Accepted}
+use Rattle.listening.specs.Hand.{state_of, Goes, Room, Near, Steps, Reached, Come, Refuses, GoesOn, Part, Stepped}
 use Rattle.listening.proofs.Prefix.{after_one, accepted_one, after_more, accepted_more, part_record}
 
 -- ---- one record more

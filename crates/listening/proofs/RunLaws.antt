@@ -1,18 +1,17 @@
 -- The texts that a run hands over are the definition's. Assumes nothing.
-use Prim.Native.Nat.{ℕ, zero, suc, ◌+◌, ◌*◌, ◌/◌, ◌%◌, ◌≤◌, ◌<◌}
+use Prim.Native.Nat.{ℕ, zero, suc, ◌/◌, ◌%◌}
 use mathlib.Core.Path.{◌≡◌, refl, sym, ap, ap₂, ◌∙◌}
-use mathlib.Core.List.{List, [], ◌∷◌, ◌++◌, append-nil}
+use mathlib.Core.List.{List, ◌++◌, append-nil}
 use native.Mathlib.Omega.{arith}
-use lib.ListN.{length, take, drop, length-append}
+use lib.ListN.{length, length-append}
 use lib.Seq.{take_at, drop_at}
-use lib.Ieee.{Float}
 use Rattle.demod.specs.Capture.{joined}
 use Rattle.ledger.specs.Ledger.{by_frames, Ledger}
 use Rattle.ledger.specs.Ledger as ledger
 use Rattle.listening_receiver.specs.Standing.{StandsFor}
-use Rattle.listening.specs.Program.{State, Went, record_bytes, handed, refusal_text, unless_refused, step, ending, texts, listen, nothing_heard}
-use Rattle.listening.specs.Hand.{state_of, Goes}
-use Rattle.listening.specs.Runs.{Code, Exchange, Did, code_after, Last, Finished, Run, goes, stops, ends, fresh_code, AsDefined}
+use Rattle.listening.specs.Program.{State, record_bytes, handed, unless_refused, step, texts, listen, nothing_heard}
+use Rattle.listening.specs.Hand.{state_of}
+use Rattle.listening.specs.Runs.{Code, code_after, Run, goes, stops, ends, fresh_code, AsDefined}
 use Rattle.listening.proofs.BufferLaws.{first_stands}
 
 -- a record of the definition, where the first is this one

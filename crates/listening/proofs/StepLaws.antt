@@ -1,6 +1,6 @@
 -- One record of `listen`. Assumes nothing.
-use Prim.Native.Nat.{ℕ, zero, suc, ◌+◌, ◌*◌, ◌^◌, ◌≤◌, ◌<◌}
-use mathlib.Core.Path.{◌≡◌, refl, sym, ap, ◌∙◌, subst}
+use Prim.Native.Nat.{ℕ, zero, suc, ◌+◌, ◌^◌, ◌≤◌, ◌<◌}
+use mathlib.Core.Path.{◌≡◌, refl, sym, ◌∙◌, subst}
 use mathlib.Core.Bool.{Bool, true, false, cond}
 use mathlib.Core.List.{List, [], ◌∷◌, ◌++◌, append-nil, append_assoc, map}
 use native.Mathlib.Omega.{arith}
@@ -9,7 +9,12 @@ use lib.ListN.{length, drop, drop_of_length-le}
 use lib.Ieee.{Float, lt, le, eq, of_bits, of_int, round}
 use Rattle.ledger.specs.Ledger.{by_frames, Ledger, Call, push_raw, flush, dbm_of}
 use Rattle.frequency.specs.declared.FrequencyTracker.{FrequencyTracker}
-use Rattle.frequency.specs.declared.Next.{Next}
+use Rattle.std.proofs.Common.{Option, Result, Ok, Err, IsOk}
+use Rattle.limits.specs.declared.Refusal.{Refusal}
+use Rattle.limits.specs.Answer.{cause_of}
+use Rattle.limits.specs.Refusals.{number_of}
+use Rattle.limits.proofs.AnswerLaws.{number-positive}
+use Rattle.frequency.specs.Calls.{tune_of}
 use Rattle.frequency.specs.Lent.{Lists, tracker, packed, stored}
 use Rattle.frequency.specs.Order.{cause_new, cause_tuned, cause_samples, cause_cfo, cause_next}
 use Rattle.frequency.specs.Tracker.{tuned, samples, cfo, next_tuning, after_tuning}
@@ -23,15 +28,12 @@ use Rattle.listening_lines.specs.Lines.{tune_line, refusal_line, end_line}
 use Rattle.listening_lines.proofs.TextLaws.{behind, nothing, as_text}
 use Rattle.listening_tracker.specs.Turn.{reading_places, Turn, stop, on, unless, next_turn, cfo_turn, samples_turn, tuned_turn, turn, Turned}
 use Rattle.listening_records.specs.declared.Told.{Told}
-use Rattle.listening_records.specs.Emission.{Emission, Asked, Tells}
-use Rattle.listening_receiver.specs.declared.Heard.{Heard}
+use Rattle.listening_records.specs.Emission.{Tells}
 use Rattle.listening_receiver.specs.Hearing.{rate, most, heard}
-use Rattle.listening_receiver.specs.Standing.{StandsFor, Hears}
+use Rattle.listening_receiver.specs.Standing.{StandsFor, Hears, Heard}
 use Rattle.listening.specs.declared.Listener.{Listener}
-use Rattle.listening.specs.declared.Followed.{Followed}
-use Rattle.listening.specs.declared.Stepped.{Stepped}
-use Rattle.listening.specs.Program.{State, Went, step_hz, begun, samples_each, emission, asked_of, waits, received, turned, passed_over, heard_by_both, refusal_text, handed, unless_refused, ending, step, raw_of, hz_of, cfo_of}
-use Rattle.listening.specs.Hand.{begun_as, passed_as, state_of, Goes, Room, Near, Receives, Follows, Leads, Steps}
+use Rattle.listening.specs.Program.{State, Went, step_hz, begun, samples_each, emission, asked_of, waits, received, turned, passed_over, heard_by_both, refusal_text, unless_refused, ending, step, raw_of, hz_of, cfo_of}
+use Rattle.listening.specs.Hand.{begun_as, passed_as, state_of, Goes, Room, Receives, Follows, Leads, Steps, Followed, Stepped}
 
 -- ---- `R number`, or nothing
 
@@ -43,6 +45,9 @@ pub refusal-line : (n : ℕ) → (n ≡ 0 → ⊥) → refusal_text n ≡ refusa
 unfolding refusal_text
 refusal-line zero h = absurd (h refl)
 refusal-line (suc n) h = refl
+
+pub refusal-text : (e : Refusal) → refusal_line (number_of e) ≡ refusal_text (number_of e)
+refusal-text e = sym (refusal-line (number_of e) (number-positive e))
 
 pub no_refusal : (n at : ℕ) (old : List ℕ) → n ≡ 0 → Added old at (refusal_text n) at old
 no_refusal n at old e = rw (refusal-zero n e) (nothing old at)
@@ -58,11 +63,11 @@ pub last_end : (n : ℕ) (rest : List ℕ) → n ≡ 0 → rest ≡ refusal_text
 unfolding refusal_text unless_refused
 last_end n rest e = rw e refl
 
-pub ending-added : (s : State) (leftover : ℕ) (h : Told) (out mid out' : List ℕ) (r : ℕ) → Tells (heard (asked_of s) (emission s []) s.ledger flush) out 0 h mid
-    → Added mid h.end (refusal_text h.refused ++ unless_refused h.refused (end_line s.samples h.frames h.messages leftover)) r out'
+pub ending-added : (s : State) (leftover : ℕ) (k : ℕ) (h : Told) (out mid out' : List ℕ) (r : ℕ) → Tells (heard (asked_of s) (emission s []) s.ledger flush) out 0 k h mid
+    → Added mid h.end (refusal_text k ++ unless_refused k (end_line s.samples h.frames h.messages leftover)) r out'
     → Added out 0 (ending s leftover) r out'
 unfolding ending received
-ending-added s leftover h out mid out' r t a =
+ending-added s leftover k h out mid out' r t a =
     as_text (sym (append_assoc (heard (asked_of s) (emission s []) s.ledger flush).text _ _)) (behind t.text (rw (t.refused, t.frames, t.messages) at a))
 
 -- ---- the tracker stops with a number that isn't 0, or goes on
@@ -107,54 +112,54 @@ turn-fit room hz dbm reg s l =
     either-fit (eqb hz 0) (samples_turn room dbm reg s l) (tuned_turn room hz dbm reg s l) (samples-fit room dbm reg s l) (tuned-fit room hz dbm reg s l)
 
 -- a refusal of the tracker's: only its line
-pub goes-stop : (s : State) (raw : List ℕ) (T : Turn) (x : Next) (m : Lists) (out out' : List ℕ) (end : ℕ) (v : SigfoxReceiver) (places : List Float)
-    → Turned T x m → (x.refused ≡ 0 → ⊥) → StandsFor v places s.ledger → Added out 0 (refusal_line x.refused) end out'
+pub goes-stop : (s : State) (raw : List ℕ) (T : Turn) (x : Result (Option ℕ) Refusal) (u : FrequencyTracker) (m : Lists) (out out' : List ℕ) (end : ℕ) (v : SigfoxReceiver) (places : List Float)
+    → Turned T x u m → (cause_of x ≡ 0 → ⊥) → StandsFor v places s.ledger → Added out 0 (refusal_line (cause_of x)) end out'
     → Goes (turned s raw T) out
     (record {
-      refused = x.refused;
+      refused = cause_of x;
       end = end;
-      listener = record { started = true; passed = s.passed; samples = s.samples; frames = s.frames; messages = s.messages; tracker = x.tracker };
+      listener = record { started = true; passed = s.passed; samples = s.samples; frames = s.frames; messages = s.messages; tracker = u };
       receiver = v;
     }) m places out'
 unfolding turned Turned
-goes-stop s raw (stop k t l) x m out out' end v places h n st a =
+goes-stop s raw (stop k t l) x u m out out' end v places h n st a =
     record {
       refused = h.0;
       text = rw (refusal-line k (λ (z : k ≡ 0). n (h.0 ∙ z))) (rw h.0 at a);
       state = rw (h.1, h.3) refl;
       stands = st;
     }
-goes-stop s raw (on t l f) x m out out' end v places h n st a = absurd (n h.0)
+goes-stop s raw (on t l f) x u m out out' end v places h n st a = absurd (n h.0)
 
 -- otherwise the tracker goes on
-pub on_is : (T : Turn) (x : Next) (l : Lists) → Fit T → Turned T x l → x.refused ≡ 0 → T ≡ on x.tracker l x.tune
+pub on_is : (T : Turn) (x : Result (Option ℕ) Refusal) (u : FrequencyTracker) (l : Lists) → Fit T → Turned T x u l → cause_of x ≡ 0 → T ≡ on u l (tune_of x)
 unfolding Turned
-on_is (stop k t m) x l w h z = absurd (w (sym h.0 ∙ z))
-on_is (on t g f) x l w h z = rw (h.1, h.2, h.3) refl
+on_is (stop k t m) x u l w h z = absurd (w (sym h.0 ∙ z))
+on_is (on t g f) x u l w h z = rw (h.1, h.2, h.3) refl
 
-pub turned_on : (s : State) (raw : List ℕ) (T : Turn) (x : Next) (m : Lists) → Fit T → Turned T x m → x.refused ≡ 0
+pub turned_on : (s : State) (raw : List ℕ) (T : Turn) (x : Result (Option ℕ) Refusal) (u : FrequencyTracker) (m : Lists) → Fit T → Turned T x u m → cause_of x ≡ 0
     → received
-    (record { started = true; passed = s.passed; tracker = x.tracker; lists = m; ledger = s.ledger; samples = s.samples + samples_each; frames = s.frames; messages = s.messages })
-    (tune_line x.tune) (push_raw raw)
+    (record { started = true; passed = s.passed; tracker = u; lists = m; ledger = s.ledger; samples = s.samples + samples_each; frames = s.frames; messages = s.messages })
+    (tune_line (tune_of x)) (push_raw raw)
     ≡ turned s raw T
 unfolding turned
-turned_on s raw T x m n q z = rw (on_is T x m n q z) refl
+turned_on s raw T x u m n q z = rw (on_is T x u m n q z) refl
 
 -- a call of the receiver behind a text
 module _ (s : State) (c : Call) (text : List ℕ) (old out mid last : List ℕ) (end end' : ℕ) (v : SigfoxReceiver) (b : Memory) (h : Heard) (places : List Float) (events : List ℕ) where
   pub goes-received : StandsFor v b.samples s.ledger → Added old 0 text end out
-      → Hears (asked_of s) v c b (record { refused = 0; frames = s.frames; messages = s.messages; end = end }) out h places events mid
-      → Added mid h.told.end (refusal_text h.told.refused) end' last
+      → Hears (asked_of s) v c b (record { frames = s.frames; messages = s.messages; end = end }) out h places events mid
+      → Added mid h.told.end (refusal_text h.refused) end' last
       → Goes (received s text c) old
       (record {
-        refused = h.told.refused;
+        refused = h.refused;
         end = end';
         listener = record { started = s.started; passed = s.passed; samples = s.samples; frames = h.told.frames; messages = h.told.messages; tracker = s.tracker };
         receiver = h.receiver;
       }) s.lists places last
   unfolding received
   goes-received st a k r =
-      let first : Tells (emission s text) old 0 (record { refused = 0; frames = s.frames; messages = s.messages; end = end }) out
+      let first : Tells (emission s text) old 0 0 (record { frames = s.frames; messages = s.messages; end = end }) out
       = record { refused = refl; frames = refl; messages = refl; text = a } in
       let w = k.told s.ledger st old 0 _ first in
       record {
@@ -175,9 +180,15 @@ pub first_begun : (b : Bool) (p n f k : ℕ) (t u : FrequencyTracker) (hz : ℕ)
 first_begun b p n f k t u hz e h = rw (e, h) refl
 
 -- 01's rate and step are accepted
-taken : cause_new rate step_hz ≡ 0
+pub taken : cause_new rate step_hz ≡ 0
 unfolding lt le eq of_bits of_int round
 taken = refl
+
+-- so that the tracker is made
+pub accepted_ok : {A : Type 0} (r : Result A Refusal) → cause_of r ≡ 0 → IsOk r
+unfolding cause_of
+accepted_ok (Ok v) h = refl
+accepted_ok (Err e) h = absurd (number-positive e h)
 
 pub first_single : (t : FrequencyTracker) (hz : ℕ) (m : Lists) → hz < 2 ^ 32 → t ≡ fresh rate hz step_hz → Single t m
 first_single t hz m h e = subst (λ (x : FrequencyTracker). Single x m) (sym e) (rising.new rate hz step_hz m h taken)

@@ -1,6 +1,7 @@
 -- Scaffolding. What the code of `listen` has of the definition, and what it hands to `write`. Assumes nothing.
-use Rattle.std.specs.Prelude.{ℕ, ◌+◌, ◌*◌, ◌/◌, ◌≤◌, ◌<◌, ◌^◌, ◌≡◌, true, false, List, ◌++◌, length, take, drop, Float}
+use Rattle.std.specs.Prelude.{ℕ, ◌+◌, ◌*◌, ◌≤◌, ◌<◌, ◌^◌, ◌≡◌, true, false, List, ◌++◌, length, take, drop, Float}
 use Rattle.ledger.specs.Ledger.{by_frames, Ledger, push_raw}
+use Rattle.limits.specs.Answer.{cause_of}
 use Rattle.frequency.specs.Lent.{Lists}
 use Rattle.frequency.specs.Calls.{fresh}
 use Rattle.frequency_grown.specs.Rising.{Single}
@@ -9,8 +10,7 @@ use Rattle.listening_lines.specs.Text.{widest, Added}
 use Rattle.listening_receiver.specs.Hearing.{rate, most}
 use Rattle.listening_receiver.specs.Standing.{StandsFor}
 use Rattle.listening.specs.declared.Listener.{Listener}
-use Rattle.listening.specs.declared.Followed.{Followed}
-use Rattle.listening.specs.declared.Stepped.{Stepped}
+use Rattle.listening.specs.declared.Brought.{Brought}
 use Rattle.listening.specs.declared.Listening.{Listening}
 use Rattle.listening.specs.Program.{State, Went, record_bytes, samples_each, step_hz, begun, received, handed, step, listen, nothing_heard, after, said, Accepted}
 
@@ -18,6 +18,25 @@ use Rattle.listening.specs.Program.{State, Went, record_bytes, samples_each, ste
 abbrev pub state_of : Listener → Lists → Ledger by_frames → State
 state_of l m g =
     record { started = l.started; passed = l.passed; tracker = l.tracker; lists = m; ledger = g; samples = l.samples; frames = l.frames; messages = l.messages }
+
+-- after the tracker's side of a record: the refusal's number or 0, where the text ends, and that side
+pub record Followed : Type 0 where
+  pub refused : ℕ
+  pub end : ℕ
+  pub listener : Listener
+
+-- after a record: the same, and both sides
+pub record Stepped : Type 0 where
+  pub refused : ℕ
+  pub end : ℕ
+  pub listener : Listener
+  pub receiver : SigfoxReceiver
+
+abbrev pub followed : Brought → Listener → Followed
+followed b l = record { refused = cause_of b.went; end = b.end; listener = l }
+
+abbrev pub stepped : Brought → Listener → SigfoxReceiver → Stepped
+stepped b l v = record { refused = cause_of b.went; end = b.end; listener = l; receiver = v }
 
 -- nothing was read
 abbrev pub new_listener : Listener

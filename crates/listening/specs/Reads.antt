@@ -1,5 +1,5 @@
 -- Scaffolding. What the code of `listen` has of the bytes that were read, and how it ends. Assumes nothing.
-use Rattle.std.specs.Prelude.{ℕ, ◌+◌, ◌*◌, ◌/◌, ◌%◌, ◌≡◌, true, List, ◌++◌, length, take, drop, Float}
+use Rattle.std.specs.Prelude.{ℕ, ◌*◌, ◌/◌, ◌%◌, ◌≡◌, true, List, ◌++◌, length, take, drop, Float}
 use Rattle.frequency.specs.Lent.{Lists}
 use Rattle.listening.specs.declared.Reading.{Reading}
 use Rattle.listening.specs.declared.Ended.{Ended}

@@ -1,6 +1,6 @@
 -- Runs of the program: calls of `record_step`, one for each whole record of the bytes that were read, then one of `finish`, made of what their contracts say and of nothing
 -- else; and the texts that are handed to `write`, one behind the other. Assumes nothing.
-use Rattle.std.specs.Prelude.{ℕ, ◌<◌, ◌≡◌, List, [], ◌∷◌, ◌++◌, length, take, replicate, Float}
+use Rattle.std.specs.Prelude.{ℕ, ◌<◌, ◌≡◌, List, ◌++◌, length, take, replicate, Float}
 use Rattle.demod.specs.Capture.{joined}
 use Rattle.ledger.specs.Ledger.{by_frames, Ledger}
 use Rattle.frequency.specs.Lent.{Lists, lists}
@@ -9,11 +9,10 @@ use Rattle.receiver.specs.State.{new_state}
 use Rattle.listening_lines.specs.Text.{Added}
 use Rattle.listening_tracker.specs.Turn.{reading_places}
 use Rattle.listening_receiver.specs.Hearing.{rate}
-use Rattle.listening_receiver.specs.Standing.{silence, StandsFor}
+use Rattle.listening_receiver.specs.Standing.{StandsFor}
 use Rattle.listening.specs.declared.Listener.{Listener}
-use Rattle.listening.specs.declared.Stepped.{Stepped}
 use Rattle.listening.specs.Program.{record_bytes, tuning_places, zero64, step, ending, listen}
-use Rattle.listening.specs.Hand.{new_listener, state_of, Goes}
+use Rattle.listening.specs.Hand.{new_listener, state_of, Goes, Stepped}
 
 -- the code between two records
 pub record Code : Type 0 where

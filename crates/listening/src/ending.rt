@@ -1,5 +1,6 @@
 // The end of `listen`'s input.
 ghost use Rattle.std.specs.Prelude.{◌≡◌, List, [], ◌++◌, ℕ, ◌+◌, ◌*◌, ◌≤◌, length};
+ghost use Rattle.limits.specs.Answer.{cause_of};
 ghost use Rattle.ledger.specs.Ledger.{by_frames, Ledger};
 ghost use Rattle.frequency.specs.Lent.{lists};
 ghost use Rattle.listening_lines.specs.Text.{widest, Added};
@@ -10,6 +11,7 @@ ghost use Rattle.listening.specs.Program.{ending, refusal_text, unless_refused};
 ghost use Rattle.listening.specs.Hand.{out_places, state_of, Room};
 
 use crate::Listener;
+use limits::Refusal;
 use listening_records::Told;
 use receiver::SigfoxReceiver;
 
@@ -17,20 +19,20 @@ use receiver::SigfoxReceiver;
 fn add_last(
     out: &mut [u8],
     at: usize,
-    refused: u8,
+    went: Result<(), Refusal>,
     samples: u64,
     frames: u64,
     messages: u64,
     leftover: usize,
 ) -> usize
     requires { at + widest ≤ length out.old }
-    ensures added { Added out.old at (refusal_text refused ++ unless_refused refused (end_line samples frames messages leftover)) result out.new }
+    ensures added { Added out.old at (refusal_text (cause_of went) ++ unless_refused (cause_of went) (end_line samples frames messages leftover)) result out.new }
     ensures upper_bound { result ≤ at + widest }
 {
-    if refused != 0 {
-        return listening_lines::add_refusal(out, at, refused);
+    match went {
+        Ok(()) => listening_lines::add_end(out, at, samples, frames, messages, leftover),
+        Err(refusal) => listening_lines::add_refusal(out, at, refusal),
     }
-    listening_lines::add_end(out, at, samples, frames, messages, leftover)
 }
 
 // `flush` and its messages, then the last line: the text stands at the start of `out` then.
@@ -53,22 +55,20 @@ pub fn finish(
         → Added out.old 0 (ending (state_of l (lists at.now lo.now hz.now tuned freq) g) leftover) result out.new }
     ensures upper_bound { result ≤ out_places }
 {
-    let tracker = l.tracker;
-    let first = Told {
-        refused: 0,
+    let mut told = Told {
         frames: l.frames,
         messages: l.messages,
         end: 0,
     };
-    let h = listening_receiver::close(
-        first, receiver, l.started, l.passed, tracker, at, lo, hz, samples, events, scratch32,
-        scratch64, out,
+    let mut last = receiver;
+    let went = listening_receiver::close(
+        &mut told, &mut last, l.started, l.passed, l.tracker, at, lo, hz, samples, events,
+        scratch32, scratch64, out,
     );
-    let told = h.told;
     add_last(
         out,
         told.end,
-        told.refused,
+        went,
         l.samples,
         told.frames,
         told.messages,

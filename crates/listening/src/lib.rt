@@ -15,7 +15,7 @@ use crate::handing::hand_over;
 use crate::records::RECORD;
 use crate::stepping::{RATE, STEP_HZ};
 use frequency::FrequencyTracker;
-use reading::Fetched;
+use limits::Refusal;
 use receiver::SigfoxReceiver;
 
 // A proved loop has to end, and nothing says that the input does. A read brings a byte at least, and a stream of over 2^41 bytes is refused. 2^42 − 1 reads bring under 2^53 samples, 2,048 each at the most: binary64 holds their count.
@@ -35,21 +35,11 @@ pub struct Listener {
     pub tracker: FrequencyTracker,
 }
 
-// After the tracker's side of a record: the refusal or 0, where the text ends, and that side.
+// After a record, or the tracker's side of it: where its text ends, and whether a call was refused.
 #[derive(Clone, Copy)]
-pub struct Followed {
-    pub refused: u8,
+pub struct Brought {
     pub end: usize,
-    pub listener: Listener,
-}
-
-// After a record: the refusal or 0, where the text ends, and both sides.
-#[derive(Clone, Copy)]
-pub struct Stepped {
-    pub refused: u8,
-    pub end: usize,
-    pub listener: Listener,
-    pub receiver: SigfoxReceiver,
+    pub went: Result<(), Refusal>,
 }
 
 // After the records of a read: whether no call was refused and every text went out, the refusal or 0, and both sides.
@@ -84,8 +74,7 @@ pub enum Ended {
 fn fresh() -> Listener
     ensures { result ≡ new_listener }
 {
-    let t = FrequencyTracker::new(RATE, 0, STEP_HZ);
-    let tracker = t.tracker;
+    let tracker = FrequencyTracker::new(RATE, 0, STEP_HZ).unwrap();
     Listener {
         started: false,
         passed: 0,
@@ -130,8 +119,8 @@ fn turn(
     ensures near { Near 65536 s.listener result.listener }
 {
     let from = s.filled;
-    let fetched = reading::fetch(rt, input, from);
-    let Fetched::Bytes(n) = fetched else {
+    let fetched = reading::fetch(&mut rt.reader(), input, from);
+    let Ok(n) = fetched else {
         return fail(rt, s);
     };
     let end = from + n;

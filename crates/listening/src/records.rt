@@ -1,5 +1,6 @@
 // The whole records of the input's buffer.
 ghost use Rattle.std.specs.Prelude.{◌≡◌, List, ◌++◌, ℕ, ◌+◌, ◌*◌, ◌-◌, ◌/◌, ◌≤◌, length, take, drop};
+ghost use Rattle.limits.specs.Answer.{cause_of};
 ghost use Rattle.frequency.specs.Lent.{lists};
 ghost use Rattle.listening.specs.Program.{record_bytes};
 ghost use Rattle.listening.specs.Hand.{out_places, Room, Near, Reached, Come, GoesOn};
@@ -7,10 +8,21 @@ ghost use Rattle.listening.specs.Hand.{out_places, Room, Near, Reached, Come, Go
 use crate::handing::hand_over;
 use crate::stepping::record_step;
 use crate::{Listener, Listening};
+use limits::Refusal;
 use receiver::SigfoxReceiver;
 
 // Bytes of a record.
 pub const RECORD: usize = 16;
+
+// The number of a refusal, or 0.
+fn number_of(went: Result<(), Refusal>) -> u8
+    ensures { result ≡ cause_of went }
+{
+    match went {
+        Ok(()) => 0,
+        Err(refusal) => u8::from(refusal),
+    }
+}
 
 // The whole records of the buffer, from one place on to another: the text of each is handed over at once; nothing after a refusal, or where a text could not be written.
 pub fn hear(
@@ -49,8 +61,8 @@ pub fn hear(
         let place = RECORD * i;
         let to = place + RECORD;
         let r = record_step(
-            listener,
-            receiver,
+            &mut listener,
+            &mut receiver,
             &input[place..to],
             at,
             lo,
@@ -63,13 +75,9 @@ pub fn hear(
             scratch64,
             out,
         );
-        let next = r.listener;
-        listener = next;
-        let after = r.receiver;
-        receiver = after;
-        refused = r.refused;
+        refused = number_of(r.went);
         let written = hand_over(rt, out, r.end);
-        going = written & (r.refused == 0);
+        going = written & (refused == 0);
         i += 1;
     }
     Listening {

@@ -1,11 +1,12 @@
 -- The parts of a line. Assumes nothing.
-use Prim.Native.Nat.{ℕ, ◌+◌, ◌≤◌, ◌<◌}
+use Prim.Native.Nat.{ℕ, ◌+◌, ◌≤◌, ◌<◌, min}
 use mathlib.Core.Path.{◌≡◌, refl, sym, ◌∙◌}
 use mathlib.Core.List.{List, [], ◌∷◌, ◌++◌, append_assoc}
 use native.Mathlib.Omega.{arith}
 use borrow.Author.Tests.{eq-eqb, ne_eqb}
 use lib.ListN.{length, take, drop, get_or, length-take, length-drop}
-use lib.Seq.{take_all, get_or-take, get_or-drop}
+use lib.Seq.{get_or-take}
+use Rattle.std.proofs.lemmas.List.{take_min}
 use Rattle.record.specs.Readers.{rank_of, payload_len_of, device_of, counter_of, payload_of}
 use Rattle.listening_lines.specs.Text.{decimal, hex_bytes, hex}
 use Rattle.listening_lines.specs.Lines.{sender_text, payload_text, space, dash}
@@ -15,22 +16,19 @@ pub no_payload : (e : List ℕ) (n : ℕ) → n ≡ payload_len_of e → n ≡ 0
 unfolding payload_text
 no_payload e n p z = rw (eq-eqb (payload_len_of e) 0 (sym p ∙ z)) refl
 
-pub whole-payload : (e : List ℕ) (n i : ℕ) → n ≡ payload_len_of e → (n ≡ 0 → ⊥) → i ≡ n → hex_bytes (take i (payload_of e)) ≡ payload_text e
+-- the first n bytes of the payload's 12 are all that its text has
+pub whole-payload : (e : List ℕ) (n i : ℕ) → n ≡ payload_len_of e → (n ≡ 0 → ⊥) → i ≡ min n 12 → 28 ≤ length e → hex_bytes (take i (payload_of e)) ≡ payload_text e
 unfolding payload_text
-whole-payload e n i p z q = rw (ne_eqb (payload_len_of e) 0 (λ (w : payload_len_of e ≡ 0). z (p ∙ w)), q, p) refl
-
-pub full-payload : (e : List ℕ) (n i : ℕ) → n ≡ payload_len_of e → (n ≡ 0 → ⊥) → i ≤ n → 12 ≤ i → hex_bytes (take i (payload_of e)) ≡ payload_text e
-unfolding payload_text
-full-payload e n i p z q h =
-    let k : length (payload_of e) ≤ 12 = rw (length-take 12 (drop 16 e)) (omega arith) in
-    rw (ne_eqb (payload_len_of e) 0 (λ (w : payload_len_of e ≡ 0). z (p ∙ w)), take_all i (payload_of e) (omega arith), ← p, take_all n (payload_of e) (omega arith)) refl
+whole-payload e n i p z q h =
+    let k : length (payload_of e) ≡ 12 = rw (length-take 12 (drop 16 e), length-drop 16 e) (omega arith) in
+    rw (ne_eqb (payload_len_of e) 0 (λ (w : payload_len_of e ≡ 0). z (p ∙ w)), ← p, q, ← take_min n (payload_of e), k) refl
 
 -- a turn of the payload's loop
-pub payload_more : (e : List ℕ) (i : ℕ) → 28 ≤ length e → i < 12 → hex_bytes (take i (payload_of e)) ++ hex 2 (get_or e (16 + i) 0) ≡ hex_bytes (take (i + 1) (payload_of e))
-payload_more e i h g =
-    let k : i < length (payload_of e) = rw (length-take 12 (drop 16 e), length-drop 16 e) (omega arith) in
-    let q : get_or (payload_of e) i 0 ≡ get_or e (16 + i) 0 = rw (get_or-take 12 (drop 16 e) i 0 g, get_or-drop 16 e i 0) refl in
-    rw (← q, hex_more (payload_of e) i k) refl
+pub payload_more : (e : List ℕ) (k i : ℕ) → 28 ≤ length e → i < k → k ≤ 12 → hex_bytes (take i (payload_of e)) ++ hex 2 (get_or (take k (drop 16 e)) i 0) ≡ hex_bytes (take (i + 1) (payload_of e))
+payload_more e k i h g m =
+    let j : i < length (payload_of e) = rw (length-take 12 (drop 16 e), length-drop 16 e) (omega arith) in
+    let q : get_or (payload_of e) i 0 ≡ get_or (take k (drop 16 e)) i 0 = rw (get_or-take 12 (drop 16 e) i 0 (omega arith), get_or-take k (drop 16 e) i 0 g) refl in
+    rw (← q, hex_more (payload_of e) i j) refl
 
 regroup : (m a s b d : List ℕ) → (((m ++ a) ++ s) ++ (b ++ s)) ++ (d ++ s) ≡ m ++ (a ++ (s ++ (b ++ (s ++ (d ++ s)))))
 regroup m a s b d = simp append_assoc

@@ -13,23 +13,11 @@ use lib.Seq.{take-suc, take-suc-set, take-length, drop-drop, drop-set-lt}
 use Rattle.io.specs.Digits.{hex_digit_ascii, last_digits, IsDigitCount}
 use Rattle.listening_lines.specs.Text.{decimal_by, decimal, hex, hex_bytes, Added}
 
--- one byte more
-pub byte_more : (old out text : List ℕ) (at i : ℕ) → at + i < length out → i < length text → take (at + i) out ≡ take at old ++ take i text
-    → take (at + (i + 1)) (set out (at + i) (get_or text i 0)) ≡ take at old ++ take (i + 1) text
-byte_more old out text at i h g e =
-    let p : at + (i + 1) ≡ suc (at + i) = omega arith in
-    let q : i + 1 ≡ suc i = omega arith in
-    rw (p, q, take-suc-set out (at + i) (get_or text i 0), take-suc text i 0, e) (simp append_assoc)
-
 -- lists that agree from a place on agree from every later one
 drop_on : (a b : ℕ) (x y : List ℕ) → a ≤ b → drop a x ≡ drop a y → drop b x ≡ drop b y
 drop_on a b x y h e =
     let k : a + (b - a) ≡ b = omega arith in
     ap (λ (n : ℕ). drop n x) (sym k) ∙ sym (drop-drop (b - a) a x) ∙ ap (drop (b - a)) e ∙ drop-drop (b - a) a y ∙ ap (λ (n : ℕ). drop n y) k
-
--- what lies behind that byte is as it was
-pub rest_more : (old out : List ℕ) (at i b : ℕ) → drop (at + i) out ≡ drop (at + i) old → drop (at + (i + 1)) (set out (at + i) b) ≡ drop (at + (i + 1)) old
-rest_more old out at i b e = drop-set-lt (at + (i + 1)) out (at + i) b (omega arith) ∙ drop_on (at + i) (at + (i + 1)) out old (omega arith) e
 
 -- two texts, one behind the other
 pub behind : {old new newer a b : List ℕ} {at r s : ℕ} → Added old at a r new → Added new r b s newer → Added old at (a ++ b) s newer

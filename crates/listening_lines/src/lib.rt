@@ -5,27 +5,28 @@ mod writing; // text and numbers behind what stands in a buffer
 
 ghost use Rattle.std.specs.Prelude.{◌≡◌, ◌+◌, ◌≤◌, length};
 ghost use Rattle.limits.specs.Limits.{record_size};
+ghost use Rattle.limits.specs.Refusals.{number_of};
 ghost use Rattle.listening_lines.specs.Text.{Added, hex, widest};
 ghost use Rattle.listening_lines.specs.Lines.{tune_line, payload_text, hz_text, sender_text, message_line, refusal_line, end_line};
 
 use crate::writing::{add_byte, add_field, add_head, add_hex, add_number};
-use frequency_measure::Frequency;
+use limits::Refusal;
 use record::read;
 
 // The room of a line: no line is longer.
 pub const WIDEST: usize = 128;
 
 // `T hz`, where the receiver is to be tuned anew.
-pub fn add_tune(out: &mut [u8], at: usize, to: Frequency) -> usize
+pub fn add_tune(out: &mut [u8], at: usize, to: Option<u32>) -> usize
     requires { at + widest ≤ length out.old }
     ensures added { Added out.old at (tune_line to) result out.new }
     ensures upper_bound { result ≤ at + widest }
 {
     match to {
-        Frequency::Nothing => at,
-        Frequency::Hz(hz) => {
+        None => at,
+        Some(hz) => {
             let next = add_head(out, at, b'T');
-            add_field(out, next, hz as u64, b'\n')
+            add_field(out, next, u64::from(hz), b'\n')
         }
     }
 }
@@ -36,7 +37,7 @@ fn add_hex_byte(out: &mut [u8], at: usize, b: u8) -> usize
     ensures added { Added out.old at (hex 2 b) result out.new }
     ensures value { result ≡ at + 2 }
 {
-    add_hex(out, at, b as u64, 2)
+    add_hex(out, at, u64::from(b), 2)
 }
 
 // The payload in hexadecimal digits, or `-`.
@@ -50,37 +51,34 @@ fn add_payload(out: &mut [u8], at: usize, event: &[u8]) -> usize
         return add_byte(out, at, b'-');
     }
     let mut next = at;
-    let mut i: u8 = 0;
-    while i < 12 {
-        if i == n {
-            return next;
-        }
-        next = add_hex_byte(out, next, event[16 + (i as usize)]);
-        i += 1;
+    let end = 16 + usize::from(n.min(12));
+    for b in &event[16..end] {
+        next = add_hex_byte(out, next, *b);
     }
     next
 }
 
 // The answer of `frame1`, or `-`.
-fn add_hz(out: &mut [u8], at: usize, answer: Frequency) -> usize
+fn add_hz(out: &mut [u8], at: usize, answer: Option<u32>) -> usize
     requires { at + 20 ≤ length out.old }
     ensures added { Added out.old at (hz_text answer) result out.new }
     ensures upper_bound { result ≤ at + 20 }
 {
     match answer {
-        Frequency::Nothing => add_byte(out, at, b'-'),
-        Frequency::Hz(hz) => add_number(out, at, hz as u64),
+        None => add_byte(out, at, b'-'),
+        Some(hz) => add_number(out, at, u64::from(hz)),
     }
 }
 
 // `R number`
-pub fn add_refusal(out: &mut [u8], at: usize, n: u8) -> usize
+pub fn add_refusal(out: &mut [u8], at: usize, refusal: Refusal) -> usize
     requires { at + widest ≤ length out.old }
-    ensures added { Added out.old at (refusal_line n) result out.new }
+    ensures added { Added out.old at (refusal_line (number_of refusal)) result out.new }
     ensures upper_bound { result ≤ at + widest }
 {
     let next = add_head(out, at, b'R');
-    add_field(out, next, n as u64, b'\n')
+    let number = u8::from(refusal);
+    add_field(out, next, u64::from(number), b'\n')
 }
 
 // `E samples frames messages leftover-bytes`
@@ -110,14 +108,14 @@ fn add_sender(out: &mut [u8], at: usize, event: &[u8]) -> usize
     ensures upper_bound { result ≤ at + 64 }
 {
     let a = add_head(out, at, b'M');
-    let b = add_hex(out, a, read::device_of(event) as u64, 8);
+    let b = add_hex(out, a, u64::from(read::device_of(event)), 8);
     let c = add_byte(out, b, b' ');
-    let d = add_field(out, c, read::counter_of(event) as u64, b' ');
-    add_field(out, d, read::rank_of(event) as u64, b' ')
+    let d = add_field(out, c, u64::from(read::counter_of(event)), b' ');
+    add_field(out, d, u64::from(read::rank_of(event)), b' ')
 }
 
 // `M device counter ranks payload hz`
-pub fn add_message(out: &mut [u8], at: usize, event: &[u8], answer: Frequency) -> usize
+pub fn add_message(out: &mut [u8], at: usize, event: &[u8], answer: Option<u32>) -> usize
     requires { (at + widest ≤ length out.old) × (record_size ≤ length event.now) }
     ensures added { Added out.old at (message_line event.now answer) result out.new }
     ensures upper_bound { result ≤ at + widest }

@@ -1,6 +1,6 @@
 -- A call's answer told, by the ledger that the port stands for. Assumes nothing.
 use Prim.Native.Nat.{ℕ, zero, suc, ◌+◌, ◌*◌, ◌≤◌}
-use mathlib.Core.Path.{◌≡◌, refl, sym, ap, ◌∙◌}
+use mathlib.Core.Path.{◌≡◌, refl, sym, ap, ◌∙◌, subst}
 use mathlib.Core.Bool.{Bool}
 use mathlib.Core.List.{List, [], ◌∷◌, ◌++◌}
 use native.Mathlib.Omega.{arith}
@@ -19,14 +19,18 @@ use Rattle.ledger.proofs.Basics.{Every}
 use Rattle.ledger.proofs.Seeing.{RecordSized}
 use Rattle.frequency.specs.declared.FrequencyTracker.{FrequencyTracker}
 use Rattle.receiver.specs.declared.SigfoxReceiver.{SigfoxReceiver}
-use Rattle.receiver.specs.declared.Received.{Received}
-use Rattle.receiver.specs.Calls.{Memory, Answered}
+use Rattle.std.proofs.Common.{Result, Ok, Err}
+use Rattle.limits.specs.declared.Refusal.{Refusal}
+use Rattle.limits.specs.Refusals.{number_of}
+use Rattle.limits.specs.Answer.{cause_of}
+use Rattle.limits.proofs.AnswerLaws.{number-positive}
+use Rattle.receiver.specs.Calls.{Memory, Received, received, Answered}
 use Rattle.history.specs.Runs.{Request, call_of, Typed, Exchange, Did, attempt_of}
 use Rattle.history.proofs.Calls as calls
 use Rattle.listening_records.specs.Emission.{Emission, Asked, emitted_all, Tells, Grown}
 use Rattle.listening_records.specs.declared.Told.{Told}
 use Rattle.listening_receiver.specs.Hearing.{rate, most, attempt, call_refusal, call_records, ledger_after, heard_by, heard}
-use Rattle.listening_receiver.specs.Standing.{silence, StandsFor}
+use Rattle.listening_receiver.specs.Standing.{silence, StandsFor, count_of}
 
 pub silence-length : length silence ≡ 12000
 unfolding silence
@@ -39,11 +43,29 @@ calm s c x closed before after r e f a = rw (e, f) at a
 
 -- ---- an answer told
 
-pub refused-heard : (k : ℕ) (q : Asked) (p : Emission) (rs : List (List ℕ)) (old out : List ℕ) (start : ℕ) (t : Told) → (k ≡ 0 → ⊥) → Tells p old start t out
-    → Tells (heard_by k q p rs) old start (record { refused = k; frames = t.frames; messages = t.messages; end = t.end }) out
+-- what a call answers, by its answer and the receiver after it
+pub received-refused : (r : Result ℕ Refusal) (s : SigfoxReceiver) → (received r s).refused ≡ cause_of r
+unfolding cause_of
+received-refused (Ok n) s = refl
+received-refused (Err e) s = refl
+
+pub received-count : (r : Result ℕ Refusal) (s : SigfoxReceiver) → (received r s).count ≡ count_of r
+received-count (Ok n) s = refl
+received-count (Err e) s = refl
+
+pub received-receiver : (r : Result ℕ Refusal) (s : SigfoxReceiver) → (received r s).receiver ≡ s
+received-receiver (Ok n) s = refl
+received-receiver (Err e) s = refl
+
+heard-refusal : (k : ℕ) (q : Asked) (p : Emission) (rs : List (List ℕ)) (old out : List ℕ) (start : ℕ) (t : Told) → (k ≡ 0 → ⊥) → Tells p old start 0 t out
+    → Tells (heard_by k q p rs) old start k t out
 unfolding heard_by
-refused-heard zero q p rs old out start t h x = absurd (h refl)
-refused-heard (suc k) q p rs old out start t h x = record { refused = refl; frames = x.frames; messages = x.messages; text = x.text }
+heard-refusal zero q p rs old out start t h x = absurd (h refl)
+heard-refusal (suc k) q p rs old out start t h x = record { refused = refl; frames = x.frames; messages = x.messages; text = x.text }
+
+pub refused-heard : (e : Refusal) (q : Asked) (p : Emission) (rs : List (List ℕ)) (old out : List ℕ) (start : ℕ) (t : Told) → Tells p old start 0 t out
+    → Tells (heard_by (number_of e) q p rs) old start (number_of e) t out
+refused-heard e q p rs old out start t x = heard-refusal (number_of e) q p rs old out start t (number-positive e) x
 
 pub accepted-heard : (k : ℕ) (q : Asked) (p : Emission) (rs : List (List ℕ)) → k ≡ 0 → emitted_all q p rs ≡ heard_by k q p rs
 unfolding heard_by
@@ -86,6 +108,9 @@ module _ (s : SigfoxReceiver) (q : Request) (typed : Typed q) (before after : Me
   pub stands_after : StandsFor r.receiver after.samples (ledger_after l (call_of q))
   stands_after = rw number_is at (calls.next rate silence _ l st x (typed, a))
 
+  pub stands_now : (s' : SigfoxReceiver) → r.receiver ≡ s' → StandsFor s' after.samples (ledger_after l (call_of q))
+  stands_now s' same = subst (λ (x : SigfoxReceiver). StandsFor x after.samples (ledger_after l (call_of q))) same stands_after
+
   -- the records that the count names are the ledger's
   pub records_are : records.records_in r.count after.events ≡ call_records l (call_of q)
   records_are = rw number_is at (calls.records rate silence _ l st x (typed, a))
@@ -98,8 +123,12 @@ module _ (s : SigfoxReceiver) (q : Request) (typed : Typed q) (before after : Me
       omega (arith, n, k, e)
 
   -- and they are told
-  pub call_told : (on : Bool) (passed : ℕ) (t : FrequencyTracker) (at lo : List ℕ) (hz : List Float) (room : ℕ) (p : Emission) (old out' : List ℕ) (start : ℕ) (u : Told) → room ≡ 8000
-      → Tells (heard_by r.refused (record { started = on; passed = passed; tracker = t; at = at; lo = lo; hz = hz; room = room }) p (records.records_in r.count after.events)) old start u out'
-      → Tells (heard (record { started = on; passed = passed; tracker = t; at = at; lo = lo; hz = hz; room = 8000 }) p l (call_of q)) old start u out'
+  pub call_told : (a : Result ℕ Refusal) (s' : SigfoxReceiver) (on : Bool) (passed : ℕ) (t : FrequencyTracker) (at lo : List ℕ) (hz : List Float) (room k : ℕ) (p : Emission) (old out' : List ℕ) (start : ℕ) (u : Told) → r ≡ received a s' → room ≡ 8000
+      → Tells (heard_by (cause_of a) (record { started = on; passed = passed; tracker = t; at = at; lo = lo; hz = hz; room = room }) p (records.records_in (count_of a) after.events)) old start k u out'
+      → Tells (heard (record { started = on; passed = passed; tracker = t; at = at; lo = lo; hz = hz; room = 8000 }) p l (call_of q)) old start k u out'
   unfolding heard
-  call_told on passed t at lo hz room p old out' start u z h = rw (z, refused_is, records_are) at h
+  call_told a s' on passed t at lo hz room k p old out' start u same z h =
+      let c : cause_of a ≡ call_refusal l (call_of q) = sym (received-refused a s') ∙ ap (λ (x : Received). x.refused) (sym same) ∙ refused_is in
+      let n : records.records_in (count_of a) after.events ≡ call_records l (call_of q) =
+      ap (λ (i : ℕ). records.records_in i after.events) (sym (received-count a s') ∙ ap (λ (x : Received). x.count) (sym same)) ∙ records_are in
+      rw (z, c, n) at h

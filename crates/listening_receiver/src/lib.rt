@@ -2,31 +2,25 @@
 #![tactic(auto)]
 
 ghost use Rattle.std.specs.Prelude.{◌≡◌, List, ℕ, ◌+◌, ◌*◌, ◌^◌, ◌≤◌, ◌<◌, length};
+ghost use Rattle.limits.specs.Answer.{cause_of};
 ghost use Rattle.limits.specs.Limits.{record_size};
 ghost use Rattle.ledger.specs.Ledger.{push_raw, flush};
 ghost use Rattle.ledger.specs.Records as records;
 ghost use Rattle.listening_lines.specs.Text.{widest};
 ghost use Rattle.listening_records.specs.Emission.{Emission, Tells, Grown};
 ghost use Rattle.listening_receiver.specs.Hearing.{most, heard_by};
-ghost use Rattle.listening_receiver.specs.Standing.{Standing, Hears};
+ghost use Rattle.listening_receiver.specs.Standing.{Standing, Hears, count_of};
 
 use frequency::FrequencyTracker;
+use limits::Refusal;
 use listening_records::Told;
 use receiver::SigfoxReceiver;
 use shifts::Shifts;
 
-// What was told, and the receiver.
-#[derive(Clone, Copy)]
-pub struct Heard {
-    pub told: Told,
-    pub receiver: SigfoxReceiver,
-}
-
 // A call's answer: its refusal, or its records told.
-fn answer(
-    t: Told,
-    refused: u8,
-    count: usize,
+fn tell_answer(
+    t: &mut Told,
+    answer: Result<usize, Refusal>,
     started: bool,
     passed: u64,
     tracker: FrequencyTracker,
@@ -36,29 +30,24 @@ fn answer(
     hz: &[f64; 8000],
     scratch: &mut [f64],
     out: &mut [u8],
-) -> Told
-    requires { (count ≤ most) × (record_size * count ≤ length events.now) × (t.end + widest * most ≤ length out.old) × (t.frames + most < 2 ^ 64) × (t.messages + most < 2 ^ 64) × (passed ≤ 2 ^ 53) }
-    ensures by_index { (old : List ℕ) (start : ℕ) (p : Emission) → Tells p old start t out.old
-        → Tells (heard_by refused (record { started = started; passed = passed; tracker = tracker; at = at.now; lo = lo.now; hz = hz.now; room = length scratch.old }) p (records.records_in count events.now)) old start result out.new }
-    ensures grown { Grown most t result out.old out.new }
+) -> Result<(), Refusal>
+    requires { (count_of answer ≤ most) × (record_size * count_of answer ≤ length events.now) × (t.old.end + widest * most ≤ length out.old) × (t.old.frames + most < 2 ^ 64) × (t.old.messages + most < 2 ^ 64) × (passed ≤ 2 ^ 53) }
+    ensures by_index { (old : List ℕ) (start : ℕ) (p : Emission) → Tells p old start 0 t.old out.old
+        → Tells (heard_by (cause_of answer) (record { started = started; passed = passed; tracker = tracker; at = at.now; lo = lo.now; hz = hz.now; room = length scratch.old }) p (records.records_in (count_of answer) events.now)) old start (cause_of result) t.new out.new }
+    ensures grown { Grown most t.old t.new out.old out.new }
 {
-    if refused != 0 {
-        return Told {
-            refused,
-            frames: t.frames,
-            messages: t.messages,
-            end: t.end,
-        };
+    match answer {
+        Ok(count) => listening_records::tell_all(
+            t, started, passed, tracker, count, events, at, lo, hz, scratch, out,
+        ),
+        Err(refusal) => Err(refusal),
     }
-    listening_records::tell_all(
-        t, started, passed, tracker, count, events, at, lo, hz, scratch, out,
-    )
 }
 
 // `push_raw`, and its records: what `frame1` is asked of goes with them (02, request 04: whether a frequency has come, the samples passed over).
 pub fn hear(
-    t: Told,
-    receiver: SigfoxReceiver,
+    t: &mut Told,
+    receiver: &mut SigfoxReceiver,
     started: bool,
     passed: u64,
     tracker: FrequencyTracker,
@@ -71,31 +60,26 @@ pub fn hear(
     scratch32: &mut [f32; 12000],
     scratch64: &mut [f64; 8000],
     out: &mut [u8],
-) -> Heard
-    requires standing { Standing receiver samples.old }
-    requires most_in_bounds { (t.end + widest * most ≤ length out.old) × (t.frames + most < 2 ^ 64) × (t.messages + most < 2 ^ 64) × (passed ≤ 2 ^ 53) }
+) -> Result<(), Refusal>
+    requires standing { Standing receiver.old samples.old }
+    requires most_in_bounds { (t.old.end + widest * most ≤ length out.old) × (t.old.frames + most < 2 ^ 64) × (t.old.messages + most < 2 ^ 64) × (passed ≤ 2 ^ 53) }
     ensures { Hears (record { started = started; passed = passed; tracker = tracker; at = at.now; lo = lo.now; hz = hz.now; room = 8000 })
-        receiver (push_raw raw.now)
+        receiver.old (push_raw raw.now)
         (record { samples = samples.entry.now; events = events.old; scratch32 = scratch32.old; scratch64 = scratch64.old })
-        t out.old result samples.exit.now events.new out.new }
+        t.old out.old (record { refused = cause_of result; told = t.new; receiver = receiver.new }) samples.exit.now events.new out.new }
 {
     let shifts = Shifts::none();
     let closed = [0u32; 0];
-    let r = receiver.push_raw(raw, shifts, &closed, samples, events, scratch32, scratch64);
-    let told = answer(
-        t, r.refused, r.count, started, passed, tracker, events, at, lo, hz, scratch64, out,
-    );
-    let next = r.receiver;
-    Heard {
-        told,
-        receiver: next,
-    }
+    let answer = receiver.push_raw(raw, shifts, &closed, samples, events, scratch32, scratch64);
+    tell_answer(
+        t, answer, started, passed, tracker, events, at, lo, hz, scratch64, out,
+    )
 }
 
 // `flush`, and its records, likewise.
 pub fn close(
-    t: Told,
-    receiver: SigfoxReceiver,
+    t: &mut Told,
+    receiver: &mut SigfoxReceiver,
     started: bool,
     passed: u64,
     tracker: FrequencyTracker,
@@ -107,23 +91,18 @@ pub fn close(
     scratch32: &mut [f32; 12000],
     scratch64: &mut [f64; 8000],
     out: &mut [u8],
-) -> Heard
-    requires standing { Standing receiver samples.old }
-    requires most_in_bounds { (t.end + widest * most ≤ length out.old) × (t.frames + most < 2 ^ 64) × (t.messages + most < 2 ^ 64) × (passed ≤ 2 ^ 53) }
+) -> Result<(), Refusal>
+    requires standing { Standing receiver.old samples.old }
+    requires most_in_bounds { (t.old.end + widest * most ≤ length out.old) × (t.old.frames + most < 2 ^ 64) × (t.old.messages + most < 2 ^ 64) × (passed ≤ 2 ^ 53) }
     ensures { Hears (record { started = started; passed = passed; tracker = tracker; at = at.now; lo = lo.now; hz = hz.now; room = 8000 })
-        receiver flush
+        receiver.old flush
         (record { samples = samples.entry.now; events = events.old; scratch32 = scratch32.old; scratch64 = scratch64.old })
-        t out.old result samples.exit.now events.new out.new }
+        t.old out.old (record { refused = cause_of result; told = t.new; receiver = receiver.new }) samples.exit.now events.new out.new }
 {
     let shifts = Shifts::none();
     let closed = [0u32; 0];
-    let r = receiver.flush(shifts, &closed, samples, events, scratch32, scratch64);
-    let told = answer(
-        t, r.refused, r.count, started, passed, tracker, events, at, lo, hz, scratch64, out,
-    );
-    let next = r.receiver;
-    Heard {
-        told,
-        receiver: next,
-    }
+    let answer = receiver.flush(shifts, &closed, samples, events, scratch32, scratch64);
+    tell_answer(
+        t, answer, started, passed, tracker, events, at, lo, hz, scratch64, out,
+    )
 }

@@ -1,5 +1,5 @@
 -- What a call's records make `listen` print and count (01, frequency.rs: its lines `M`, `R` and `E`): a frame is counted, a message is counted and printed, nothing after a refusal. Assumes nothing.
-use Rattle.std.specs.Prelude.{ℕ, ◌+◌, ◌*◌, ◌%◌, ◌≤◌, ◌≡◌, Bool, cond, List, [], ◌∷◌, ◌++◌, eqb, length, Float}
+use Rattle.std.specs.Prelude.{ℕ, ◌+◌, ◌*◌, ◌%◌, ◌≤◌, ◌≡◌, Bool, cond, List, [], ◌∷◌, ◌++◌, eqb, length, Float, Option, None}
 use Rattle.std.specs.Float.{binary64}
 use Rattle.std.specs.Float.Ieee.{sub, div}
 use Rattle.floats.specs.Number.{num}
@@ -8,8 +8,6 @@ use Rattle.record.specs.Record.{frame_kind}
 use Rattle.record.specs.Readers.{kind_of, flags_of, span_rank_of, span_time_of, span_end_of}
 use Rattle.frequency.specs.declared.FrequencyTracker.{FrequencyTracker}
 use Rattle.limits.specs.Answer.{Answer, refused, accepted}
-use Rattle.frequency_measure.specs.declared.Frequency.{Frequency}
-use Rattle.frequency_measure.specs.declared.Frequency.TheVariants.{Nothing}
 use Rattle.frequency.specs.Calls.{frame1_answer}
 use Rattle.listening_lines.specs.Text.{Added, widest}
 use Rattle.listening_lines.specs.Lines.{message_line}
@@ -42,11 +40,11 @@ abbrev pub with_frame : Emission → Emission
 with_frame p = record { refused = 0; frames = p.frames + 1; messages = p.messages; text = p.text }
 
 -- a message is counted and printed, with its frequency or `-`
-abbrev pub with_line : List ℕ → Frequency → Emission → Emission
+abbrev pub with_line : List ℕ → Option ℕ → Emission → Emission
 with_line e hz p = record { refused = 0; frames = p.frames; messages = p.messages + 1; text = p.text ++ message_line e hz }
 
 -- by the answer of `frame1`: "on a refusal" its number, and nothing of the message
-unfoldable pub with_message : List ℕ → Answer Frequency → Emission → Emission
+unfoldable pub with_message : List ℕ → Answer (Option ℕ) → Emission → Emission
 with_message e (refused n) p = record { refused = n; frames = p.frames; messages = p.messages; text = p.text }
 with_message e (accepted hz) p = with_line e hz p
 
@@ -61,9 +59,9 @@ pub record Asked : Type 0 where
   pub room : ℕ
 
 -- the answer of `frame1` for a message; 02, request 04: "A message written while no frequency has come prints `-` for hz"
-unfoldable pub answer_for : Asked → List ℕ → Answer Frequency
+unfoldable pub answer_for : Asked → List ℕ → Answer (Option ℕ)
 answer_for q e =
-    cond q.started (frame1_answer q.tracker q.at q.lo q.hz q.room (spans_in (earlier q.passed) e) (downlink_in e)) (accepted Nothing)
+    cond q.started (frame1_answer q.tracker q.at q.lo q.hz q.room (spans_in (earlier q.passed) e) (downlink_in e)) (accepted None)
 
 -- one record; nothing after a refusal
 unfoldable pub emitted : Asked → Emission → List ℕ → Emission
@@ -75,9 +73,9 @@ unfoldable pub emitted_all : Asked → Emission → List (List ℕ) → Emission
 emitted_all q p [] = p
 emitted_all q p (e ∷ es) = emitted_all q (emitted q p e) es
 
--- what the code has of it: the numbers, and the text behind what stood in a buffer
-pub record Tells (p : Emission) (old : List ℕ) (start : ℕ) (r : Told) (new : List ℕ) : Type 0 where
-  pub refused : r.refused ≡ p.refused
+-- what the code has of it, with the number of its refusal or 0: the counts, and the text behind what stood in a buffer
+pub record Tells (p : Emission) (old : List ℕ) (start number : ℕ) (r : Told) (new : List ℕ) : Type 0 where
+  pub refused : number ≡ p.refused
   pub frames : r.frames ≡ p.frames
   pub messages : r.messages ≡ p.messages
   pub text : Added old start p.text r.end new

@@ -3,22 +3,21 @@
 
 ghost use Rattle.std.specs.Prelude.{◌≡◌, ℕ, ◌+◌, ◌*◌, ◌^◌, ◌≤◌, ◌<◌, List, length};
 ghost use Rattle.limits.specs.Limits.{record_size};
-ghost use Rattle.frequency.specs.Calls.{said_first};
+ghost use Rattle.limits.specs.Answer.{said, cause_of};
 ghost use Rattle.listening_lines.specs.Text.{widest};
-ghost use Rattle.listening_records.specs.Emission.{Emission, span_in, spans_in, earlier, downlink_in, answer_for, with_line, with_message, emitted, emitted_all, Tells, Within, Grown};
+ghost use Rattle.listening_records.specs.Emission.{Emission, span_in, spans_in, earlier, downlink_in, answer_for, with_line, emitted, emitted_all, Tells, Within, Grown};
 ghost use Rattle.ledger.specs.Records.{records_in};
 
-use frequency::{Frame1, FrequencyTracker};
-use frequency_measure::Frequency;
+use frequency::FrequencyTracker;
+use limits::Refusal;
 use record::{FrameSpan, read};
 
 // Samples per second.
 const RATE: f64 = 1_000.0;
 
-// The refusal or 0, what was counted, and where the text ends.
+// What was counted, and where the text ends.
 #[derive(Clone, Copy)]
 pub struct Told {
-    pub refused: u8,
     pub frames: u64,
     pub messages: u64,
     pub end: usize,
@@ -73,55 +72,31 @@ fn answer_for(
     lo: &[u32; 8000],
     hz: &[f64; 8000],
     scratch: &mut [f64],
-) -> Frame1
+) -> Result<Option<u32>, Refusal>
     requires { (record_size ≤ length event.now) × (passed ≤ 2 ^ 53) }
-    ensures { said_first result ≡ answer_for (record { started = started; passed = passed; tracker = tracker; at = at.now; lo = lo.now; hz = hz.now; room = length scratch.old }) event.now }
+    ensures { said result ≡ answer_for (record { started = started; passed = passed; tracker = tracker; at = at.now; lo = lo.now; hz = hz.now; room = length scratch.old }) event.now }
 {
     if !started {
-        return Frame1::Unknown;
+        return Ok(None);
     }
     let spans = spans_of(event, earlier(passed));
     tracker.frame1(spans, downlink_of(event), at, lo, hz, scratch)
 }
 
 // A message's line behind the text.
-fn tell_line(t: Told, event: &[u8], answer: Frequency, out: &mut [u8]) -> Told
-    requires { (record_size ≤ length event.now) × (t.end + widest ≤ length out.old) × (t.messages + 1 < 2 ^ 64) }
-    ensures by_index { (old : List ℕ) (start : ℕ) (p : Emission) → Tells p old start t out.old
-        → Tells (with_line event.now answer p) old start result out.new }
-    ensures within { Within t result out.old out.new }
+fn tell_line(t: &mut Told, event: &[u8], answer: Option<u32>, out: &mut [u8])
+    requires { (record_size ≤ length event.now) × (t.old.end + widest ≤ length out.old) × (t.old.messages + 1 < 2 ^ 64) }
+    ensures by_index { (old : List ℕ) (start : ℕ) (p : Emission) → Tells p old start 0 t.old out.old
+        → Tells (with_line event.now answer p) old start 0 t.new out.new }
+    ensures within { Within t.old t.new out.old out.new }
 {
-    let end = listening_lines::add_message(out, t.end, event, answer);
-    Told {
-        refused: 0,
-        frames: t.frames,
-        messages: t.messages + 1,
-        end,
-    }
+    t.end = listening_lines::add_message(out, t.end, event, answer);
+    t.messages += 1;
 }
 
-// A message, with the answer of `frame1`.
-fn tell_message(t: Told, event: &[u8], answer: Frame1, out: &mut [u8]) -> Told
-    requires { (record_size ≤ length event.now) × (t.end + widest ≤ length out.old) × (t.messages + 1 < 2 ^ 64) }
-    ensures by_index { (old : List ℕ) (start : ℕ) (p : Emission) → Tells p old start t out.old
-        → Tells (with_message event.now (said_first answer) p) old start result out.new }
-    ensures within { Within t result out.old out.new }
-{
-    match answer {
-        Frame1::Refused(n) => Told {
-            refused: n,
-            frames: t.frames,
-            messages: t.messages,
-            end: t.end,
-        },
-        Frame1::Unknown => tell_line(t, event, Frequency::Nothing, out),
-        Frame1::Hz(hz) => tell_line(t, event, Frequency::Hz(hz), out),
-    }
-}
-
-// One record; nothing after a refusal.
+// One record.
 fn tell(
-    t: Told,
+    t: &mut Told,
     started: bool,
     passed: u64,
     tracker: FrequencyTracker,
@@ -131,27 +106,24 @@ fn tell(
     hz: &[f64; 8000],
     scratch: &mut [f64],
     out: &mut [u8],
-) -> Told
-    requires { (record_size ≤ length event.now) × (t.end + widest ≤ length out.old) × (t.frames + 1 < 2 ^ 64) × (t.messages + 1 < 2 ^ 64) × (passed ≤ 2 ^ 53) }
-    ensures by_index { (old : List ℕ) (start : ℕ) (p : Emission) → Tells p old start t out.old
-        → Tells (emitted (record { started = started; passed = passed; tracker = tracker; at = at.now; lo = lo.now; hz = hz.now; room = length scratch.old }) p event.now) old start result out.new }
-    ensures within { Within t result out.old out.new }
+) -> Result<(), Refusal>
+    requires { (record_size ≤ length event.now) × (t.old.end + widest ≤ length out.old) × (t.old.frames + 1 < 2 ^ 64) × (t.old.messages + 1 < 2 ^ 64) × (passed ≤ 2 ^ 53) }
+    ensures by_index { (old : List ℕ) (start : ℕ) (p : Emission) → Tells p old start 0 t.old out.old
+        → Tells (emitted (record { started = started; passed = passed; tracker = tracker; at = at.now; lo = lo.now; hz = hz.now; room = length scratch.old }) p event.now) old start (cause_of result) t.new out.new }
+    ensures within { Within t.old t.new out.old out.new }
 {
-    if t.refused != 0 {
-        return t;
-    }
     if read::kind_of(event) == record::FRAME {
-        let mut m = t;
-        m.frames = t.frames + 1;
-        return m;
+        t.frames += 1;
+        return Ok(());
     }
-    let answer = answer_for(started, passed, tracker, event, at, lo, hz, scratch);
-    tell_message(t, event, answer, out)
+    let answer = answer_for(started, passed, tracker, event, at, lo, hz, scratch)?;
+    tell_line(t, event, answer, out);
+    Ok(())
 }
 
 // A call's records, in order; nothing after a refusal.
 pub fn tell_all(
-    t: Told,
+    t: &mut Told,
     started: bool,
     passed: u64,
     tracker: FrequencyTracker,
@@ -162,19 +134,17 @@ pub fn tell_all(
     hz: &[f64; 8000],
     scratch: &mut [f64],
     out: &mut [u8],
-) -> Told
-    requires { (record_size * count ≤ length events.now) × (t.end + widest * count ≤ length out.old) × (t.frames + count < 2 ^ 64) × (t.messages + count < 2 ^ 64) × (passed ≤ 2 ^ 53) }
-    ensures by_index { (old : List ℕ) (start : ℕ) (p : Emission) → Tells p old start t out.old
-        → Tells (emitted_all (record { started = started; passed = passed; tracker = tracker; at = at.now; lo = lo.now; hz = hz.now; room = length scratch.old }) p (records_in count events.now)) old start result out.new }
-    ensures grown { Grown count t result out.old out.new }
+) -> Result<(), Refusal>
+    requires { (record_size * count ≤ length events.now) × (t.old.end + widest * count ≤ length out.old) × (t.old.frames + count < 2 ^ 64) × (t.old.messages + count < 2 ^ 64) × (passed ≤ 2 ^ 53) }
+    ensures by_index { (old : List ℕ) (start : ℕ) (p : Emission) → Tells p old start 0 t.old out.old
+        → Tells (emitted_all (record { started = started; passed = passed; tracker = tracker; at = at.now; lo = lo.now; hz = hz.now; room = length scratch.old }) p (records_in count events.now)) old start (cause_of result) t.new out.new }
+    ensures grown { Grown count t.old t.new out.old out.new }
 {
-    let mut m = t;
-    let mut i: usize = 0;
-    while i < count {
+    for i in 0..count {
         let from = limits::RECORD * i;
         let to = from + limits::RECORD;
-        m = tell(
-            m,
+        tell(
+            t,
             started,
             passed,
             tracker,
@@ -184,8 +154,7 @@ pub fn tell_all(
             hz,
             scratch,
             out,
-        );
-        i += 1;
+        )?;
     }
-    m
+    Ok(())
 }

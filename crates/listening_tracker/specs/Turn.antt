@@ -1,9 +1,9 @@
 -- What one record of `listen` does to the tracker and its lists. 01: "Per record: `tuned`, `samples`, `cfo`, `next_tuning`", and on a refusal nothing more. Assumes nothing.
-use Rattle.std.specs.Prelude.{ℕ, zero, suc, ◌≡◌, cond, List, [], ◌∷◌, eqb, Float}
-use Rattle.frequency_measure.specs.declared.Frequency.{Frequency}
-use Rattle.frequency_measure.specs.declared.Frequency.TheVariants.{Nothing}
+use Rattle.std.specs.Prelude.{ℕ, zero, suc, ◌≡◌, cond, List, [], ◌∷◌, eqb, Float, Option, None, Result}
 use Rattle.frequency.specs.declared.FrequencyTracker.{FrequencyTracker}
-use Rattle.frequency.specs.declared.Next.{Next}
+use Rattle.limits.specs.declared.Refusal.{Refusal}
+use Rattle.limits.specs.Answer.{cause_of}
+use Rattle.frequency.specs.Calls.{tune_of}
 use Rattle.frequency.specs.Lent.{Lists, tracker, packed, stored}
 use Rattle.frequency.specs.Order.{cause_tuned, cause_samples, cause_cfo, cause_next}
 use Rattle.frequency.specs.Tracker.{tuned, samples, cfo, next_tuning, after_tuning}
@@ -15,7 +15,7 @@ reading_places = 8000
 -- stop: a call was refused with this number, and the tracker and lists that it found are left; on: the tracker and its lists after the record, and where to tune
 pub data Turn : Type 0 where
   stop : ℕ → FrequencyTracker → Lists → Turn
-  on : FrequencyTracker → Lists → Frequency → Turn
+  on : FrequencyTracker → Lists → Option ℕ → Turn
 
 -- a call that finds this tracker and these lists: what comes next, unless it is refused
 abbrev pub unless : ℕ → FrequencyTracker → Lists → Turn → Turn
@@ -46,11 +46,7 @@ unfoldable pub turn : ℕ → ℕ → List Float → ℕ → FrequencyTracker �
 unfolding samples_turn tuned_turn
 turn room hz dbm reg s l = cond (eqb hz 0) (samples_turn room dbm reg s l) (tuned_turn room hz dbm reg s l)
 
--- an answer that is a refusal: its number, the tracker as it was, and nowhere to tune
-abbrev pub Stops : ℕ → FrequencyTracker → Next → Type 0
-Stops k s r = (r.refused ≡ k) × (r.tracker ≡ s) × (r.tune ≡ Nothing)
-
--- an answer, and what stands in the lists then
-unfoldable pub Turned : Turn → Next → Lists → Type 0
-Turned (stop k t m) r l = (r.refused ≡ k) × (r.tracker ≡ t) × (r.tune ≡ Nothing) × (l ≡ m)
-Turned (on t m f) r l = (r.refused ≡ 0) × (r.tracker ≡ t) × (r.tune ≡ f) × (l ≡ m)
+-- an answer, and the tracker and what stands in the lists then
+unfoldable pub Turned : Turn → Result (Option ℕ) Refusal → FrequencyTracker → Lists → Type 0
+Turned (stop k t m) r u l = (cause_of r ≡ k) × (u ≡ t) × (tune_of r ≡ None) × (l ≡ m)
+Turned (on t m f) r u l = (cause_of r ≡ 0) × (u ≡ t) × (tune_of r ≡ f) × (l ≡ m)

@@ -4,26 +4,14 @@
 ghost use Rattle.std.specs.Prelude.{◌≡◌};
 ghost use Rattle.frequency.specs.Lent.{lists};
 ghost use Rattle.frequency_grown.specs.Rising.{Single};
-ghost use Rattle.listening_tracker.specs.Turn.{reading_places, turn, samples_turn, cfo_turn, Stops, Turned};
+ghost use Rattle.listening_tracker.specs.Turn.{reading_places, turn, samples_turn, cfo_turn, Turned};
 
-use frequency::{FrequencyTracker, Next};
-use frequency_measure::Frequency;
-
-// A call was refused: the tracker is as it was.
-fn refused(t: FrequencyTracker, number: u8) -> Next
-    ensures { Stops number t result }
-{
-    let tracker = t;
-    Next {
-        refused: number,
-        tracker,
-        tune: Frequency::Nothing,
-    }
-}
+use frequency::FrequencyTracker;
+use limits::Refusal;
 
 // `cfo`, then `next_tuning`.
 fn read(
-    t: FrequencyTracker,
+    t: &mut FrequencyTracker,
     cfo: u16,
     at: &mut [u64; 8000],
     lo: &mut [u32; 8000],
@@ -31,24 +19,20 @@ fn read(
     tuned: &[u64; 64],
     freq: &[u32; 64],
     scratch: &mut [f64; 8000],
-) -> Next
-    requires { Single t (lists at.old lo.old hz.old tuned.now freq.now) }
-    ensures turned { Turned (cfo_turn reading_places cfo t (lists at.old lo.old hz.old tuned.now freq.now))
-        result (lists at.new lo.new hz.new tuned.now freq.now) }
-    ensures single { Single result.tracker (lists at.new lo.new hz.new tuned.now freq.now) }
+) -> Result<Option<u32>, Refusal>
+    requires { Single t.old (lists at.old lo.old hz.old tuned.now freq.now) }
+    ensures turned { Turned (cfo_turn reading_places cfo t.old (lists at.old lo.old hz.old tuned.now freq.now))
+        result t.new (lists at.new lo.new hz.new tuned.now freq.now) }
+    ensures single { Single t.new (lists at.new lo.new hz.new tuned.now freq.now) }
 {
     let register = [cfo];
-    let c = frequency_grown::cfo(t, &register, at, lo, hz, tuned, freq);
-    if c.refused != 0 {
-        return refused(t, c.refused);
-    }
-    let last = c.tracker;
-    frequency_grown::next_tuning(last, at, lo, hz, tuned, freq, scratch)
+    frequency_grown::cfo(t, &register, at, lo, hz, tuned, freq)?;
+    frequency_grown::next_tuning(t, at, lo, hz, tuned, freq, scratch)
 }
 
 // `samples`, and what follows.
 fn hear(
-    t: FrequencyTracker,
+    t: &mut FrequencyTracker,
     dbm: &[f32],
     cfo: u16,
     at: &mut [u64; 8000],
@@ -57,23 +41,19 @@ fn hear(
     tuned: &mut [u64; 64],
     freq: &mut [u32; 64],
     scratch: &mut [f64; 8000],
-) -> Next
-    requires { Single t (lists at.old lo.old hz.old tuned.old freq.old) }
-    ensures turned { Turned (samples_turn reading_places dbm.now cfo t (lists at.old lo.old hz.old tuned.old freq.old))
-        result (lists at.new lo.new hz.new tuned.new freq.new) }
-    ensures single { Single result.tracker (lists at.new lo.new hz.new tuned.new freq.new) }
+) -> Result<Option<u32>, Refusal>
+    requires { Single t.old (lists at.old lo.old hz.old tuned.old freq.old) }
+    ensures turned { Turned (samples_turn reading_places dbm.now cfo t.old (lists at.old lo.old hz.old tuned.old freq.old))
+        result t.new (lists at.new lo.new hz.new tuned.new freq.new) }
+    ensures single { Single t.new (lists at.new lo.new hz.new tuned.new freq.new) }
 {
-    let b = frequency_grown::samples_rising(t, dbm, at, lo, hz, tuned, freq);
-    if b.refused != 0 {
-        return refused(t, b.refused);
-    }
-    let next = b.tracker;
-    read(next, cfo, at, lo, hz, tuned, freq, scratch)
+    frequency_grown::samples_rising(t, dbm, at, lo, hz, tuned, freq)?;
+    read(t, cfo, at, lo, hz, tuned, freq, scratch)
 }
 
 // The tracker's calls for one record: `tuned`, `samples`, `cfo`, `next_tuning`; nothing after a refusal. `tuned` isn't called with 0 (02, request 04).
 pub fn track(
-    t: FrequencyTracker,
+    t: &mut FrequencyTracker,
     now_hz: u32,
     dbm: &[f32],
     cfo: u16,
@@ -83,19 +63,14 @@ pub fn track(
     tuned: &mut [u64; 64],
     freq: &mut [u32; 64],
     scratch: &mut [f64; 8000],
-) -> Next
-    requires { Single t (lists at.old lo.old hz.old tuned.old freq.old) }
-    ensures turned { Turned (turn reading_places now_hz dbm.now cfo t (lists at.old lo.old hz.old tuned.old freq.old))
-        result (lists at.new lo.new hz.new tuned.new freq.new) }
-    ensures single { Single result.tracker (lists at.new lo.new hz.new tuned.new freq.new) }
+) -> Result<Option<u32>, Refusal>
+    requires { Single t.old (lists at.old lo.old hz.old tuned.old freq.old) }
+    ensures turned { Turned (turn reading_places now_hz dbm.now cfo t.old (lists at.old lo.old hz.old tuned.old freq.old))
+        result t.new (lists at.new lo.new hz.new tuned.new freq.new) }
+    ensures single { Single t.new (lists at.new lo.new hz.new tuned.new freq.new) }
 {
-    if now_hz == 0 {
-        return hear(t, dbm, cfo, at, lo, hz, tuned, freq, scratch);
+    if now_hz != 0 {
+        t.tuned(now_hz, tuned, freq)?;
     }
-    let a = t.tuned(now_hz, tuned, freq);
-    if a.refused != 0 {
-        return refused(t, a.refused);
-    }
-    let next = a.tracker;
-    hear(next, dbm, cfo, at, lo, hz, tuned, freq, scratch)
+    hear(t, dbm, cfo, at, lo, hz, tuned, freq, scratch)
 }

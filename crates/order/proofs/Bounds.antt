@@ -1,6 +1,6 @@
 -- The least and the greatest offset of the elements in a range, over any element type and any key.
 -- Assumes nothing.
-use Rattle.std.proofs.Common.{◌≡◌, ℕ, ◌+◌, ◌-◌, ◌%◌, ◌<◌, ◌≤◌, ◌⊎◌, List, length, get_or, take, refl, ap, inl, inr, ⊎_elim, mod-eq_of_lt, arith, take_all}
+use Rattle.std.proofs.Common.{◌≡◌, ℕ, ◌+◌, ◌-◌, ◌%◌, ◌<◌, ◌≤◌, ◌⊎◌, Bool, true, false, ltb, ltb-true, ltb-false, List, length, get_or, take, refl, sym, ap, inl, inr, ⊎_elim, mod-eq_of_lt, arith, take_all}
 use native.Mathlib.Nat.{mod-eq-sub-mod}
 use Rattle.order.specs.declared.Range.{Range}
 use Rattle.order.specs.Sorted.{below}
@@ -23,6 +23,28 @@ Passed key l lo span least most i =
     × (most ≤ span)
     × (below key lo (take i l) ≡ below key (lo + least) (take i l))
     × (below key (lo + most + 1) (take i l) ≡ below key (lo + span + 1) (take i l))
+
+-- what the code keeps of the least and of the greatest offset, at an offset t
+pub kept_least : (t least more : ℕ) (b : Bool) → b ≡ ltb t least → (b ≡ true → more ≡ t) → (b ≡ false → more ≡ least) → (more ≤ least) × (more ≤ t)
+kept_least t least more true e p q = let h = ltb-true t least (sym e) in (omega (arith, p refl, h), omega (arith, p refl))
+kept_least t least more false e p q = let h = ltb-false t least (sym e) in (omega (arith, q refl), omega (arith, q refl, h))
+
+pub kept_most : (t span most wide inside : ℕ) (b d : Bool) → b ≡ ltb span t → (b ≡ true → inside ≡ 0) → (b ≡ false → inside ≡ t)
+    → d ≡ ltb most inside → (d ≡ true → wide ≡ inside) → (d ≡ false → wide ≡ most) → most ≤ span
+    → (most ≤ wide) × (wide ≤ span) × (t ≤ span → t ≤ wide)
+kept_most t span most wide inside true d e p q f r s h = go d f r s
+  where
+    go : (d : Bool) → d ≡ ltb most inside → (d ≡ true → wide ≡ inside) → (d ≡ false → wide ≡ most) → (most ≤ wide) × (wide ≤ span) × (t ≤ span → t ≤ wide)
+    go true f r s = absurd (omega (arith, ltb-true most inside (sym f), p refl))
+    go false f r s = (omega (arith, s refl), omega (arith, s refl), λ k. absurd (omega (arith, ltb-true span t (sym e))))
+kept_most t span most wide inside false d e p q f r s h = go d f r s
+  where
+    near : inside ≤ span
+    near = omega (arith, q refl, ltb-false span t (sym e))
+
+    go : (d : Bool) → d ≡ ltb most inside → (d ≡ true → wide ≡ inside) → (d ≡ false → wide ≡ most) → (most ≤ wide) × (wide ≤ span) × (t ≤ span → t ≤ wide)
+    go true f r s = let m = ltb-true most inside (sym f) in (omega (arith, r refl, m), omega (arith, r refl, near), λ k. omega (arith, r refl, q refl))
+    go false f r s = let m = ltb-false most inside (sym f) in (omega (arith, s refl), omega (arith, s refl), λ k. omega (arith, s refl, q refl, m))
 
 pub none_passed : {A : Type 0} (key : A → ℕ) (l : List A) (lo span : ℕ) → Passed key l lo span span 0 0
 unfolding below

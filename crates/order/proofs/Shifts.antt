@@ -21,3 +21,7 @@ shl_kept x s m h = mod-eq_of_lt h
 
 pub one_kept : (s m : ℕ) → s < m → (1 * 2 ^ s) % 2 ^ m ≡ 2 ^ s
 one_kept s m h = mod-eq_of_lt {n = 1 * 2 ^ s} {m = 2 ^ m} (omega (arith, pow-lt {i = s} {j = m} h)) ∙ omega arith
+
+-- a number of at most 64 bits
+pub within_64 : (w n : ℕ) → w ≤ 64 → n < 2 ^ w → n < 2 ^ 64
+within_64 w n h k = omega (arith, k, pow_mono {i = w} {j = 64} h)

@@ -1,6 +1,6 @@
 -- Scaffolding. How a search for one element of the sorted list stands: a range of numbers, and a rank among the elements in it.
--- Only contracts of `order`'s private functions cite this; what `select32` and `select64` promise is in Order and Sorted.
-use Rattle.std.specs.Prelude.{◌≡◌, ℕ, zero, suc, ◌+◌, ◌-◌, ◌*◌, ◌<◌, min, List, slice_index}
+-- Only contracts of `order`'s private functions cite this; what `select` promises is in Order and Sorted.
+use Rattle.std.specs.Prelude.{◌≡◌, ℕ, zero, suc, ◌+◌, ◌-◌, ◌*◌, ◌<◌, min, List, length, slice_index, slice_index_or}
 use Rattle.order.specs.declared.Range.{Range}
 use Rattle.order.specs.declared.Bin.{Bin}
 use Rattle.order.specs.Sorted.{below}
@@ -21,6 +21,10 @@ edge lo span w d = lo + min (d * w) (span + 1)
 -- the part of the range that bin b of width w is
 abbrev pub part : Range → Bin → ℕ → Range
 part r b w = record { lo = r.lo + b.at * w; span = min (r.span - b.at * w) (w - 1); rank = b.rank }
+
+-- P holds of each element
+abbrev pub Each : {A : Type 0} → (A → Type 0) → List A → Type 0
+Each {A} P l = (i : ℕ) (d : A) → i < length l → P (slice_index_or l i d)
 
 module _ {A : Type 0} (key : A → ℕ) (l : List A) where
   -- the index in the sorted list of the element sought

@@ -23,13 +23,11 @@ fn decode(rank: u8, state: u8, b: u8) -> Step {
     let mut v: u8 = 0;
     let mut p = state / 2 % 2;
     let mut q = state % 2;
-    let mut i: usize = 0;
-    while i < 8 {
+    for i in 0..8u32 {
         let x = coding::coded_bit((b >> (7 - i)) % 2, rank, p, q);
         v = (v % 128) * 2 + x;
         q = p;
         p = x;
-        i += 1;
     }
     Step {
         byte: v,
@@ -53,9 +51,7 @@ fn print(rt: &impl Print, text: &[u8]) {
 
 // A number in decimal.
 fn print_number(rt: &impl Print, n: u64) {
-    let mut text = [0u8; 20];
-    let count = io::decimal(n, &mut text);
-    print(rt, &text[..count]);
+    let _ = print!(rt; "{n}");
 }
 
 // The first entry of a row says of what it is.
@@ -85,10 +81,8 @@ fn print_entry(rt: &impl Print, k: usize, next: bool, name: &[u8])
 }
 
 fn print_table(rt: &impl Print, next: bool, name: &[u8]) {
-    let mut k: usize = 0;
-    while k < ENTRIES {
+    for k in 0..ENTRIES {
         print_entry(rt, k, next, name);
-        k += 1;
     }
     print(rt, b"];\n");
 }

@@ -1,125 +1,70 @@
 // Standard input and files as they come; an error is told from the end.
 #![tactic(auto)]
 
-ghost use Rattle.std.specs.Prelude.{◌≡◌, ◌+◌, ◌≤◌, ◌<◌, length, take};
-ghost use Rattle.reading.specs.Input.{brought};
+ghost use Rattle.std.specs.Prelude.{◌≡◌, ◌+◌, ◌≤◌, ◌<◌, length, take, IfOk};
 
-use std::io::{Error, Read};
-
-// What a read brings: bytes, none of them where the input has ended, or an error.
-#[derive(Clone, Copy)]
-pub enum Fetched {
-    Bytes(usize),
-    Failed(Error),
-}
-
-// What comes next in a text.
-#[derive(Clone, Copy)]
-pub enum Line {
-    // A line of so many bytes, without its end; those that have a place are kept.
-    Bytes(usize),
-    End,
-    Failed,
-}
+use std::io;
+use std::io::Read;
 
 // A proved loop has to end, and nothing says that a line does: the most bytes of one.
 const MOST_LINE: usize = 0x1_0000_0000;
 
-const NEWLINE: u8 = 10;
-
-// What is there of a file, behind the first bytes of the buffer, without waiting for more.
-pub fn fetch_from<R: Read>(file: &mut R, input: &mut [u8], from: usize) -> Fetched
+// What is there of a reader, behind the first bytes of the buffer, without waiting for more; no byte where it has ended.
+pub fn fetch<R: Read>(file: &mut R, input: &mut [u8], from: usize) -> io::Result<usize>
     requires { from < length input.old }
-    ensures result_in_bounds { from + brought result ≤ length input.new }
+    ensures result_in_bounds { IfOk result (λ n. from + n ≤ length input.new) }
     ensures input_unchanged { take from input.new ≡ take from input.old }
 {
-    match file.read(&mut input[from..]) {
-        Ok(n) => Fetched::Bytes(n),
-        Err(e) => Fetched::Failed(e),
-    }
+    file.read(&mut input[from..])
 }
 
-// The next bytes of a file, as many as the buffer has places; fewer where it ends.
-pub fn fill_from<R: Read>(file: &mut R, input: &mut [u8]) -> Fetched
-    ensures { brought result ≤ length input.new }
+// The next bytes of a reader, as many as the buffer has places, fewer where it ends or a read fails: how many, and how the last read went.
+fn read_on<R: Read>(file: &mut R, input: &mut [u8]) -> (usize, io::Result<()>)
+    ensures { result.0 ≤ length input.new }
 {
     let mut n: usize = 0;
     while n < input.len() {
-        let fetched = fetch_from(file, input, n);
-        match fetched {
-            Fetched::Bytes(k) => {
-                if k == 0 {
-                    return Fetched::Bytes(n);
-                }
-                n += k;
-            }
-            Fetched::Failed(e) => return Fetched::Failed(e),
+        match fetch(file, input, n) {
+            Ok(0) => return (n, Ok(())),
+            Ok(k) => n += k,
+            Err(e) => return (n, Err(e)),
         }
     }
-    Fetched::Bytes(n)
+    (n, Ok(()))
 }
 
-// Both of standard input.
-pub fn fetch(rt: &impl Input, input: &mut [u8], from: usize) -> Fetched
-    requires { from < length input.old }
-    ensures result_in_bounds { from + brought result ≤ length input.new }
-    ensures input_unchanged { take from input.new ≡ take from input.old }
+// The next bytes of a reader, as many as the buffer has places; fewer where it ends.
+pub fn fill<R: Read>(file: &mut R, input: &mut [u8]) -> io::Result<usize>
+    ensures { IfOk result (λ n. n ≤ length input.new) }
 {
-    fetch_from(&mut rt.reader(), input, from)
-}
-
-pub fn fill(rt: &impl Input, input: &mut [u8]) -> Fetched
-    ensures { brought result ≤ length input.new }
-{
-    fill_from(&mut rt.reader(), input)
+    let (n, last) = read_on(file, input);
+    last?;
+    Ok(n)
 }
 
 // The bytes of standard input that are read up to its end or an error, as many as the buffer has places; how many there were.
 pub fn read_full(rt: &impl Input, bytes: &mut [u8]) -> usize
     ensures { result ≤ length bytes.new }
 {
-    let mut file = rt.reader();
-    let mut n: usize = 0;
-    while n < bytes.len() {
-        let fetched = fetch_from(&mut file, bytes, n);
-        let Fetched::Bytes(k) = fetched else {
-            return n;
-        };
-        if k == 0 {
-            return n;
-        }
-        n += k;
-    }
-    n
+    read_on(&mut rt.reader(), bytes).0
 }
 
-// The next line of standard input. Its last line may have no end.
-pub fn next_line(rt: &impl Input, line: &mut [u8]) -> Line
+// How many bytes the next line of standard input has, without its end; those that have a place are kept. Its last line may have no end.
+pub fn next_line(rt: &impl Input, line: &mut [u8]) -> io::Result<Option<usize>>
     ensures { length line.new ≡ length line.old }
 {
     let mut file = rt.reader();
-    let mut n: usize = 0;
-    while n < MOST_LINE {
-        let mut one = [0u8; 1];
-        let fetched = fill_from(&mut file, &mut one);
-        let Fetched::Bytes(k) = fetched else {
-            return Line::Failed;
-        };
-        if k == 0 {
-            if n == 0 {
-                return Line::End;
-            }
-            return Line::Bytes(n);
+    let mut one = [0u8; 1];
+    for n in 0..MOST_LINE {
+        if file.read(&mut one)? == 0 {
+            return Ok(if n == 0 { None } else { Some(n) });
         }
-        if one[0] == NEWLINE {
-            return Line::Bytes(n);
+        if one[0] == b'\n' {
+            return Ok(Some(n));
         }
         if n < line.len() {
             line[n] = one[0];
-            n += 1;
-        } else {
-            n += 1;
         }
     }
-    Line::Bytes(n)
+    Ok(Some(MOST_LINE))
 }

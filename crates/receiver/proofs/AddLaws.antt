@@ -19,9 +19,9 @@ use Rattle.receiver_waiting.specs.Waiting.{waiting_of}
 use Rattle.receiver_waiting.specs.declared.Waiting.{Waiting}
 use Rattle.receiver_waiting.proofs.WaitingLaws.{none_expires}
 use Rattle.receiver_scan.specs.declared.Scanned.{Scanned}
+use Rattle.receiver.specs.Calls.{Received}
 use Rattle.receiver.specs.Running.{Passes, Answers, Addable, Adds, Added}
 use Rattle.receiver.specs.declared.SigfoxReceiver.{SigfoxReceiver}
-use Rattle.receiver.specs.declared.Received.{Received}
 use Rattle.receiver.proofs.StateLaws.{order-parts}
 use Rattle.receiver.proofs.FillLaws.{fill-turn, fill-still}
 use Rattle.receiver.proofs.RunLaws.{Done, allIn, lastBuffer, held-is, waiting_few, fill_start, fill_end, ends_push, ended}

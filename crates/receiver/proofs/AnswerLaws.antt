@@ -5,6 +5,12 @@ use mathlib.Core.Path.{◌≡◌, ◌∙◌, refl, sym, ap}
 use Prim.Native.Nat.{ℕ, zero, suc, ◌≤◌}
 use native.Mathlib.Nat.{not-suc-le-zero}
 use native.Mathlib.Omega.{arith}
+use Rattle.std.specs.Result.{IsErrAnd}
+use Rattle.std.specs.Prelude.{Result}
+use Rattle.std.proofs.lemmas.Result.{err_from_is_err_and}
+use Rattle.limits.specs.Refusals.{number_of}
+use Rattle.limits.specs.declared.Refusal.{Refusal}
+use Rattle.limits.proofs.AnswerLaws.{number-positive}
 use lib.Dec.{leb, ltb}
 use lib.ListN.{length, take, drop, length-map}
 use lib.Seq.{length-take-le, take_at}
@@ -19,16 +25,15 @@ use Rattle.ledger.specs.Causes.{Counts, starts_ordered, most_starts, most_waitin
 use Rattle.shifts.specs.Shifts.{Schedule, schedule_cause, mark_by}
 use Rattle.ledger.specs.Records.{with_records}
 use Rattle.ledger.specs.Room.{open_places}
-use Rattle.ledger.proofs.Firsts.{first_none}
+use Rattle.ledger.proofs.Firsts.{first_none, first_some, first_zero}
 use Rattle.ledger.proofs.Basics.{and_true, or_false}
 use Rattle.ledger.proofs.Orders.{passed}
 use Rattle.receiver_starts.specs.Starts as starts
 use Rattle.receiver_waiting.specs.Waiting as waiting
 use Rattle.receiver.specs.State.{ledger_of, counts_of, samples_ok}
-use Rattle.receiver.specs.Calls.{Memory, lengths_of, refusal_of, records_of, state_after, samples_after, Free, Answered}
+use Rattle.receiver.specs.Calls.{Memory, lengths_of, refusal_of, records_of, state_after, samples_after, Free, Received, received, Answered}
 use Rattle.receiver.specs.Running.{Passes, Answers}
 use Rattle.receiver.specs.declared.SigfoxReceiver.{SigfoxReceiver}
-use Rattle.receiver.specs.declared.Received.{Received}
 use Rattle.receiver.proofs.StateLaws.{order-given, orderly_is, samples-fit}
 
 -- ---- a call that no cause applies to
@@ -104,6 +109,10 @@ module _ (s : SigfoxReceiver) (c : Call) (m : Memory) (starts-places : length s.
 
 -- ---- the two answers
 
+-- a refusal's number
+pub at_least : (e : Refusal) → 1 ≤ number_of e
+at_least e = let n = number_of e in let h : n ≡ 0 → ⊥ = number-positive e in omega arith
+
 samples_kept : (s : SigfoxReceiver) (c : Call) (l : List Float) (k : ℕ) → 1 ≤ k → l ≡ samples_after s c l k
 unfolding samples_after
 samples_kept s c l zero h = absurd (not-suc-le-zero h)
@@ -147,6 +156,20 @@ module _ (s : SigfoxReceiver) (c : Call) (p : Schedule) (m : Memory) where
         scratch32 = free_kept (refusal_of s c p m) m.scratch32 k;
         scratch64 = free_kept (refusal_of s c p m) m.scratch64 k;
       }
+
+  -- by what the code's tests found
+  pub refused_first : (e : Refusal) → number_of e ≡ cause s.rate (lengths_of m) (counts_of s) (ledger_of s m.samples) c → number_of e ≡ refusal_of s c p m
+  refused_first e f = refusal_is (number_of e) (number_of e) (first_some (number_of e) (schedule_cause p) (at_least e)) f
+
+  pub refused_later : (e : Refusal) → 0 ≡ cause s.rate (lengths_of m) (counts_of s) (ledger_of s m.samples) c → number_of e ≡ schedule_cause p → number_of e ≡ refusal_of s c p m
+  refused_later e f g = refusal_is 0 (number_of e) (g ∙ first_zero 0 (schedule_cause p) refl) f
+
+  pub refused_none : 0 ≡ cause s.rate (lengths_of m) (counts_of s) (ledger_of s m.samples) c → 0 ≡ schedule_cause p → refusal_of s c p m ≡ 0
+  refused_none f g = sym (refusal_is 0 0 (g ∙ first_zero 0 (schedule_cause p) refl) f)
+
+  -- at the exit of a `?`
+  pub answered_exit : (r : Result ℕ Refusal) (e : Refusal) → IsErrAnd r (λ y. y ≡ e) → number_of e ≡ refusal_of s c p m → Answered s c p m m (received r s)
+  answered_exit r e i f = let q = err_from_is_err_and r i in rw (q.1, q.2) (answered_no (number_of e) f (at_least e))
 
   pub answered_yes : (r : Received) (t : Memory) → refusal_of s c p m ≡ 0 → Answers s c (mark_by p) m.samples m.events r t.samples t.events → Answered s c p m t r
   unfolding call_events state_after Free

@@ -6,6 +6,13 @@ use mathlib.Core.Path.{◌∙◌, ◌≡◌, refl, sym}
 use Prim.Native.Nat.{◌+◌, ◌<◌, ◌≤◌, suc, ℕ}
 use native.Mathlib.Nat.{not-suc-le-zero}
 use native.Mathlib.Omega.{arith}
+use Rattle.std.specs.Result.{IsErrAnd, is_err}
+use Rattle.std.specs.Prelude.{Result, Ok, Err}
+use Rattle.std.proofs.lemmas.Result.{err_from_is_err_and}
+use Rattle.limits.specs.Answer.{cause_of}
+use Rattle.limits.specs.Refusals.{number_of}
+use Rattle.limits.specs.declared.Refusal.{Refusal}
+use Rattle.limits.proofs.AnswerLaws.{number-positive}
 use lib.Dec.{leb, ltb}
 use lib.Ieee.{Float}
 use lib.ListN.{get_or, length}
@@ -22,6 +29,31 @@ use Rattle.receiver_waiting.specs.Waiting as waiting
 use Rattle.receiver_waiting.specs.declared.Condition.{Condition}
 use Rattle.receiver_waiting.specs.declared.Waiting.{Waiting}
 use Rattle.receiver.specs.declared.SigfoxReceiver.{SigfoxReceiver}
+
+-- the number of what a function answers at the exit of a `?`
+pub exit_cause : {A : Type 0} (r : Result A Refusal) (e : Refusal) → IsErrAnd r (λ y. y ≡ e) → cause_of r ≡ number_of e
+unfolding cause_of
+exit_cause r e i = let p = err_from_is_err_and r i in rw (p.1, p.2) refl
+
+-- a test that finds none
+pub no_error : {A : Type 0} (r : Result A Refusal) → is_err r ≡ false → cause_of r ≡ 0
+unfolding cause_of
+no_error (Ok v) e = refl
+no_error (Err x) e = absurd (let z : ◌≡◌ {A = Bool} true false = e in let y : ◌≡◌ {A = ℕ} 0 1 = cc in omega arith)
+
+-- cause 7 before another
+pub stream_first : (t : Bool) (e : Refusal) (x : ℕ) → number_of e ≡ cond t stream 0 → number_of e ≡ cond t stream x
+stream_first true e x h = h
+stream_first false e x h = absurd (number-positive e h)
+
+pub stream-later : (t : Bool) (x : ℕ) → 0 ≡ cond t stream 0 → x ≡ cond t stream x
+stream-later true x h = absurd (omega arith)
+stream-later false x h = refl
+
+-- cause 9 is no cause 5
+pub nan_is_none : (b : Bool) → cond b bad_number 0 ≡ bad_state → ⊥
+nan_is_none true q = omega arith
+nan_is_none false q = omega arith
 
 -- ---- three tests, then what follows
 
@@ -161,13 +193,9 @@ module _ (s : SigfoxReceiver) (buf : List Float) where
     unfolding order_cause state_cause
     state-order g =
         ⊎_elim
-        (λ e. absurd (no-five (any_nan by_entry (waiting.waiting_of s.waiting)) (sym (h ∙ rw e refl) ∙ g)))
+        (λ e. absurd (nan_is_none (any_nan by_entry (waiting.waiting_of s.waiting)) (sym (h ∙ rw e refl) ∙ g)))
         (λ e. g ∙ rw e refl)
         (either (orderly s.rate (counts_of s) (ledger_of s buf)))
-      where
-        no-five : (b : Bool) → cond b bad_number 0 ≡ bad_state → ⊥
-        no-five true q = omega arith
-        no-five false q = omega arith
 
     module _ (g : x ≡ bad_state → ⊥) where
       pub state-last : (y : ℕ) → y ≡ cond (ltb longest_stream (s.base + s.held + n)) stream x → y ≡ state_cause s buf n

@@ -1,8 +1,8 @@
 -- A push's fillings: the code's numbers, its sample buffer and the ledger go on together. Assumes nothing.
+use Rattle.std.proofs.Common.{Option, None, Some}
 use mathlib.Core.Bool.{true, false}
 use mathlib.Core.List.{List, [], ◌∷◌, ◌++◌}
 use mathlib.Core.Logic.{⊎_elim}
-use mathlib.Core.Option.{Option, none, some}
 use mathlib.Core.Path.{◌≡◌, ◌∙◌, refl, sym, ap}
 use Prim.Native.Nat.{ℕ, zero, suc, ◌+◌, ◌-◌, ◌*◌, ◌^◌, ◌≤◌, ◌<◌}
 use native.Mathlib.Nat.{min-le_left}
@@ -51,8 +51,8 @@ since_some base back lo (s ∷ l) w =
 
 taken-since : {K : Kind} (base back : ℕ) (l : Ledger K) (x : ℕ) (o : Option DecodedFrame) → base ≤ x → Since base back l.starts → Since base back (hear (remember l x) x o).starts
 unfolding hear remember
-taken-since base back l x none h w = since_snoc base back l.starts x w h
-taken-since base back l x (some f) h w = since_snoc base back l.starts x w h
+taken-since base back l x None h w = since_snoc base back l.starts x w h
+taken-since base back l x (Some f) h w = since_snoc base back l.starts x w h
 
 -- ---- a scan that tests for room leaves the samples
 

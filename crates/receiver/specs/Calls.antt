@@ -1,6 +1,8 @@
 -- What push, push_raw and flush answer and leave, for any state that is given: one record for the three. Assumes nothing.
-use Rattle.std.specs.Prelude.{◌≡◌, List, map, ℕ, zero, suc, length, Float}
+use Rattle.std.specs.Prelude.{◌≡◌, List, map, ℕ, zero, suc, length, Float, Result, Ok, Err}
 unfoldable pub use Rattle.limits.specs.Answer.{Free}
+use Rattle.limits.specs.Refusals.{number_of}
+use Rattle.limits.specs.declared.Refusal.{Refusal}
 use Rattle.ledger.specs.Ledger.{Call, push, flush, closed, scans}
 use Rattle.shifts.specs.Shifts.{Schedule, mark_by}
 use Rattle.ledger.specs.Causes.{Lent, cause_with, call_events}
@@ -9,7 +11,6 @@ use Rattle.ledger.specs.Records.{record_of, with_records}
 use Rattle.receiver_samples.specs.Buffer.{all_filled}
 use Rattle.receiver.specs.State.{ledger_of, counts_of, state_over}
 use Rattle.receiver.specs.declared.SigfoxReceiver.{SigfoxReceiver}
-use Rattle.receiver.specs.declared.Received.{Received}
 
 -- what is lent to a call: the contents
 pub record Memory : Type 0 where
@@ -40,6 +41,16 @@ unfoldable pub samples_after : SigfoxReceiver → Call → List Float → ℕ �
 samples_after s (push xs) samples zero = (all_filled s.rate (length xs) (record { held = s.held; places = samples }) xs).places
 samples_after s flush samples zero = samples
 samples_after s c samples (suc n) = samples
+
+-- what a call answers, with the receiver after it: the number of its refusal, 0 for none, and how many records it wrote
+pub record Received : Type 0 where
+  pub refused : ℕ
+  pub count : ℕ
+  pub receiver : SigfoxReceiver
+
+abbrev pub received : Result ℕ Refusal → SigfoxReceiver → Received
+received (Ok n) s = record { refused = 0; count = n; receiver = s }
+received (Err e) s = record { refused = number_of e; count = 0; receiver = s }
 
 -- a call c on the state s with the schedule p, with what was lent before and after it
 pub record Answered (s : SigfoxReceiver) (c : Call) (p : Schedule) (before after : Memory) (r : Received) : Type 0 where

@@ -16,9 +16,8 @@ use Rattle.receiver_scan.specs.Midway.{Midway}
 use Rattle.receiver_scan.specs.declared.Scanned.{Scanned}
 use Rattle.receiver_closing.specs.Written.{written}
 use Rattle.receiver.specs.State.{ledger_of, counts_of, state_over, samples_ok, given_cause}
-use Rattle.receiver.specs.Calls.{Memory, refusal_of, samples_after}
+use Rattle.receiver.specs.Calls.{Memory, Received, refusal_of, samples_after}
 use Rattle.receiver.specs.declared.SigfoxReceiver.{SigfoxReceiver}
-use Rattle.receiver.specs.declared.Received.{Received}
 
 -- no cause applies to the call c on the state s
 pub record Passes (s : SigfoxReceiver) (c : Call) (samples : List Float) (events : List ℕ) (scratch : List Float) : Type 0 where

@@ -8,7 +8,7 @@ use native.Mathlib.Nat.{not-suc-le-zero, le_of_suc-le-suc}
 use native.Mathlib.Numerals.{add-one}
 use native.Mathlib.Omega.{arith}
 use lib.ListN.{length, take, get_or, length-append}
-use lib.Seq.{sets, length-sets, take-suc}
+use lib.Seq.{length-sets, sets, take-length, take-suc}
 use lib.Ieee.{Float}
 use Rattle.limits.specs.Limits.{record_size}
 use Rattle.frame.proofs.CopyLaws.{sets_then}
@@ -60,10 +60,9 @@ module _ (mark : Float → ℕ) (all : Bool) (t : Float) where
       let k = fewer l i n (le_of_suc-le-suc h) in
       ⊎_elim (λ e. rw e (omega arith)) (λ e. rw e k) (either (leaves all t m))
 
-  module _ (ms : List Pending) (n count : ℕ) (old : List ℕ) where
+  module _ (ms : List Pending) (count : ℕ) (old : List ℕ) where
     -- the messages before place i are looked at, and k records stand in `now`
     pub record WrittenAt (i k : ℕ) (now : List ℕ) : Type 0 where
-      pub inside : i ≤ n
       pub few : k ≡ count + length (written mark all t (take i ms))
       pub size : length now ≡ length old
       pub sized : Sized (written mark all t (take i ms))
@@ -71,9 +70,9 @@ module _ (mark : Float → ℕ) (all : Bool) (t : Float) where
 
     pub written_start : WrittenAt 0 count old
     unfolding joined chosen
-    written_start = record { inside = omega arith; few = omega arith; size = refl; sized = tt; here = refl }
+    written_start = record { few = omega arith; size = refl; sized = tt; here = refl }
 
-    module _ (i k : ℕ) (now : List ℕ) (w : WrittenAt i k now) (z : Pending) (here : i < n) (fits : n ≤ length ms) where
+    module _ (i k : ℕ) (now : List ℕ) (w : WrittenAt i k now) (z : Pending) (here : i < length ms) where
       abbrev this : Pending
       this = get_or ms i z
 
@@ -81,7 +80,7 @@ module _ (mark : Float → ℕ) (all : Bool) (t : Float) where
       more = adds (leaves all t this) (message_record (mark (finished this).time) (finished this))
 
       next : written mark all t (take (i + 1) ms) ≡ written mark all t (take i ms) ++ more
-      next = ap (written mark all t) (rw add-one (take-suc ms i z (omega arith))) ∙ written_next (take i ms) this
+      next = ap (written mark all t) (rw add-one (take-suc ms i z here)) ∙ written_next (take i ms) this
 
       added : (r : ℕ) (after : List ℕ) → length (message_record (mark (finished this).time) (finished this)) ≡ record_size → r ≡ cond (leaves all t this) (k + 1) k
           → after ≡ put_if (leaves all t this) (message_record (mark (finished this).time) (finished this)) (record_size * k) now
@@ -93,11 +92,12 @@ module _ (mark : Float → ℕ) (all : Bool) (t : Float) where
           (λ e. rw e (tt, er ∙ rw e (omega arith), ea ∙ rw e refl))
           (either (leaves all t this))
 
-      pub written-room : record_size * (count + length (written mark all t (take n ms))) ≤ length old → leaves all t this ≡ true → record_size * (k + 1) ≤ length now
+      pub written-room : record_size * (count + length (written mark all t ms)) ≤ length old → leaves all t this ≡ true → record_size * (k + 1) ≤ length now
       written-room room e =
           let s : length more ≡ 1 = rw e refl in
           let f : length (written mark all t (take (i + 1) ms)) ≡ length (written mark all t (take i ms)) + 1 = ap length next ∙ length-append (written mark all t (take i ms)) more ∙ omega arith in
-          omega (arith, fewer ms (i + 1) n (omega arith), w.few, w.size)
+          let g : length (written mark all t (take (i + 1) ms)) ≤ length (written mark all t ms) = rw (take-length ms) at (fewer ms (i + 1) (length ms) (omega arith)) in
+          omega (arith, w.few, w.size)
 
       pub written-turn : (r : ℕ) (after : List ℕ) → length (message_record (mark (finished this).time) (finished this)) ≡ record_size → r ≡ cond (leaves all t this) (k + 1) k
           → after ≡ put_if (leaves all t this) (message_record (mark (finished this).time) (finished this)) (record_size * k) now → WrittenAt (i + 1) r after
@@ -106,7 +106,6 @@ module _ (mark : Float → ℕ) (all : Bool) (t : Float) where
           let d : Sized more × (r ≡ k + length more) × (after ≡ sets now (record_size * k) (joined more)) = added r after s er ea in
           let front : length (joined done) ≡ record_size * length done = sized-length done w.sized in
           record {
-            inside = omega arith;
             few = d.1 ∙ omega (arith, w.few, ap length next, length-append done more);
             size = ap length d.2 ∙ length-sets now (record_size * k) (joined more) ∙ w.size;
             sized = rw next (sized-append done more w.sized d.0);
@@ -117,9 +116,9 @@ module _ (mark : Float → ℕ) (all : Bool) (t : Float) where
           }
 
     -- every place is looked at
-    pub written_all : (i k : ℕ) (now : List ℕ) → WrittenAt i k now → n ≤ i
-        → (k ≡ count + length (written mark all t (take n ms))) × (now ≡ sets old (record_size * count) (joined (written mark all t (take n ms)))) × Sized (written mark all t (take n ms))
-    written_all i k now w h = let q : i ≡ n = omega (arith, w.inside) in (rw q at w.few, rw q at w.here, rw q at w.sized)
+    pub written_all : (i k : ℕ) (now : List ℕ) → WrittenAt i k now → i ≡ length ms
+        → (k ≡ count + length (written mark all t ms)) × (now ≡ sets old (record_size * count) (joined (written mark all t ms))) × Sized (written mark all t ms)
+    written_all i k now w q = (rw (q, take-length ms) at w.few, rw (q, take-length ms) at w.here, rw (q, take-length ms) at w.sized)
 
 -- records ws behind the records rs of an event buffer
 pub records-behind : (rs ws : List (List ℕ)) (was bytes now : List ℕ) (count k : ℕ) → Sized rs → Sized ws → count ≡ length rs → bytes ≡ with_records rs was

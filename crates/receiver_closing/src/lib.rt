@@ -43,7 +43,7 @@ fn write_message(
 
 // The records of the messages that leave, all or those that are complete at a time, after `count` others; how many there are then.
 pub fn write_messages(
-    w: Waiting,
+    w: &Waiting,
     all: bool,
     time: f64,
     shifts: Shifts,
@@ -51,17 +51,15 @@ pub fn write_messages(
     events: &mut [u8],
     count: usize,
 ) -> usize
-    requires { (w.count ≤ open_places) × (record_size * (count + length (written (mark_of shifts closed.now) all time (waiting_of w))) ≤ length events.old) }
-    ensures { (result ≡ count + length (written (mark_of shifts closed.now) all time (waiting_of w)))
-        × (events.new ≡ sets events.old (record_size * count) (joined (written (mark_of shifts closed.now) all time (waiting_of w))))
-        × Sized (written (mark_of shifts closed.now) all time (waiting_of w)) }
+    requires { (w.now.count ≤ open_places) × (record_size * (count + length (written (mark_of shifts closed.now) all time (waiting_of w.now))) ≤ length events.old) }
+    ensures { (result ≡ count + length (written (mark_of shifts closed.now) all time (waiting_of w.now)))
+        × (events.new ≡ sets events.old (record_size * count) (joined (written (mark_of shifts closed.now) all time (waiting_of w.now))))
+        × Sized (written (mark_of shifts closed.now) all time (waiting_of w.now)) }
 {
     let n = w.count;
     let mut k = count;
-    let mut i: usize = 0;
-    while i < n {
-        k = write_message(w.messages[i], all, time, shifts, closed, events, k);
-        i += 1;
+    for p in &w.messages[..n] {
+        k = write_message(*p, all, time, shifts, closed, events, k);
     }
     k
 }

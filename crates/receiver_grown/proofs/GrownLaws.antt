@@ -22,9 +22,8 @@ use Rattle.ledger.proofs.Grown.{every-grown, grown-next, none_grown}
 use Rattle.receiver_waiting.specs.Waiting.{waiting_ok}
 use Rattle.receiver.specs.State.{ledger_of, counts_of, given_cause, new_state, samples_ok}
 use Rattle.receiver.proofs.StateLaws.{orderly_is}
-use Rattle.receiver.specs.Calls.{Memory, Answered}
+use Rattle.receiver.specs.Calls.{Memory, Received, Answered}
 use Rattle.receiver.specs.declared.SigfoxReceiver.{SigfoxReceiver}
-use Rattle.receiver.specs.declared.Received.{Received}
 use Rattle.history.specs.Runs.{ask_raw, ask_flush, Exchange, Port, call_of, attempt_of}
 use Rattle.history.proofs.States.{For}
 use Rattle.history.proofs.Calls.{Stands, fresh-stands, next}

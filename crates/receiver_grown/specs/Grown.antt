@@ -3,9 +3,8 @@
 use Rattle.std.specs.Prelude.{List, ℕ, Float}
 use Rattle.shifts.specs.Shifts.{Schedule}
 use Rattle.receiver.specs.State.{new_state}
-use Rattle.receiver.specs.Calls.{Memory, Answered}
+use Rattle.receiver.specs.Calls.{Memory, Received, Answered}
 use Rattle.receiver.specs.declared.SigfoxReceiver.{SigfoxReceiver}
-use Rattle.receiver.specs.declared.Received.{Received}
 use Rattle.history.specs.Runs.{Request, call_of, Typed}
 
 pub data Grown : SigfoxReceiver → List Float → Type 0 where

@@ -11,7 +11,7 @@ use shifts::Shifts;
 
 // Whether a push of these raw samples is accepted and only adds them to those held: `SigfoxReceiver::adds_raw` without a look at what is held.
 pub fn adds_raw(
-    s: SigfoxReceiver,
+    s: &SigfoxReceiver,
     raw: &[u8],
     shifts: Shifts,
     closed: &[u32],
@@ -20,8 +20,8 @@ pub fn adds_raw(
     scratch32: &[f32],
     scratch64: &[f64],
 ) -> bool
-    requires { InOrder s samples.now }
-    ensures { result ≡ true → OnlyAdds s (push_raw raw.now) (record { shifts = shifts; closed = closed.now }) (length raw.now)
+    requires { InOrder s.now samples.now }
+    ensures { result ≡ true → OnlyAdds s.now (push_raw raw.now) (record { shifts = shifts; closed = closed.now }) (length raw.now)
         (record { samples = samples.entry.now; events = events.now; scratch32 = scratch32.now; scratch64 = scratch64.now }) }
 {
     let lent = Lengths {
@@ -31,25 +31,20 @@ pub fn adds_raw(
         scratch64: scratch64.len(),
     };
     let n = raw.len();
-    if 1 <= receiver::given_cause(s.rate, lent, n) {
+    if receiver::check_given(s.rate, lent, n).is_err() {
         return false;
     }
-    if 1 <= receiver::stream_cause(s.base, s.held, n, 0) {
+    if receiver::check_stream(s.base, s.held, n).is_err() {
         return false;
     }
     if !receiver::run::fits(s.rate, s.held, s.unscanned, n) {
         return false;
     }
-    if 1 <= shifts::cause(shifts, closed) {
+    if shifts::check(shifts, closed).is_err() {
         return false;
     }
-    let count = s.waiting.count;
-    if count == 0 {
-        return true;
-    }
-    let messages = s.waiting.messages;
     let held = s.held + n;
     let time = receiver_scan::seconds(s.rate, s.base + (held as u64));
-    let c = receiver_waiting::check(messages, count, time);
+    let c = receiver_waiting::check(&s.waiting, time);
     !c.nan & !c.expires
 }

@@ -1,7 +1,7 @@
 -- Three spans and what is merged into them, case by case. Assumes nothing.
+use Rattle.std.proofs.Common.{None, Some, Option}
 use mathlib.Core.Bool.{Bool, ◌&&◌, ◌||◌, cond, false, not, true}
 use mathlib.Core.List.{List, [], ◌∷◌, map}
-use mathlib.Core.Option.{Option, none, some}
 use mathlib.Core.Path.{◌∙◌, ◌≡◌, ap, refl, sym}
 use Prim.Native.Nat.{◌*◌, ◌+◌, ◌<◌, ◌≤◌, ℕ}
 use native.Mathlib.Omega.{arith}
@@ -22,8 +22,6 @@ use Rattle.record.specs.declared.SigfoxMessage.{SigfoxMessage}
 use Rattle.ledger.specs.declared.Pending.{Pending}
 use Rattle.frame.specs.declared.UplinkFrame.{UplinkFrame}
 use Rattle.record.specs.declared.Reception.{Reception}
-use Rattle.record.specs.declared.FirstFrameEnd.{FirstFrameEnd}
-use Rattle.record.specs.declared.FirstFrameEnd.TheVariants.{Known, Unknown}
 
 -- the check's value for a place outside an array
 abbrev pub outside : FrameSpan
@@ -127,32 +125,26 @@ three_ranks_are l a b c x y z ex ey ez ea eb ec = rw (ex, ey, ez, ea, eb, ec) (o
 
 -- one span before those that are looked at
 abbrev pub before : FrameSpan → Option FrameSpan → Option FrameSpan
-before s o = cond (later s) (some (lower s o)) o
-
-pub lower-zero : (s : FrameSpan) (o : Option FrameSpan) → s.rank ≡ 0 → o ≡ before s o
-lower-zero s o e = rw (le-ltb 0 s.rank (omega arith)) refl
-
-pub lower-empty : (s : FrameSpan) (o : Option FrameSpan) → s.rank ≡ no_span → o ≡ before s o
-lower-empty s o e = rw (eq-eqb s.rank no_span e, lt-ltb 0 s.rank (omega arith)) refl
+before s o = cond (later s) (Some (lower s o)) o
 
 module _ (s : FrameSpan) (some-rank : s.rank ≡ 0 → ⊥) (no-empty : s.rank ≡ no_span → ⊥) where
   is_later : later s ≡ true
   is_later = rw (ne_eqb s.rank no_span no-empty, lt-ltb 0 s.rank (omega arith)) refl
 
-  pub lower_other : (o : Option FrameSpan) (t : FrameSpan) → o ≡ some t → t.rank < s.rank → some t ≡ before s o
+  pub lower_other : (o : Option FrameSpan) (t : FrameSpan) → o ≡ Some t → t.rank < s.rank → Some t ≡ before s o
   unfolding lower
   lower_other o t e h = rw (is_later, e, lt-leb s.rank t.rank h) refl
 
-  pub lower_this : (o : Option FrameSpan) (t : FrameSpan) → o ≡ some t → s.rank ≤ t.rank → some s ≡ before s o
+  pub lower_this : (o : Option FrameSpan) (t : FrameSpan) → o ≡ Some t → s.rank ≤ t.rank → Some s ≡ before s o
   unfolding lower
   lower_this o t e h = rw (is_later, e, le-leb s.rank t.rank h) refl
 
-  pub lower_only : (o : Option FrameSpan) → o ≡ none → some s ≡ before s o
+  pub lower_only : (o : Option FrameSpan) → o ≡ None → Some s ≡ before s o
   unfolding lower
   lower_only o e = rw (is_later, e) refl
 
 pub estimate_is : (l : List FrameSpan) (o p q : Option FrameSpan) → length l ≡ 3
-    → q ≡ before (get_or l 2 outside) none → p ≡ before (get_or l 1 outside) q → o ≡ before (get_or l 0 outside) p → known_of o ≡ estimate l
+    → q ≡ before (get_or l 2 outside) None → p ≡ before (get_or l 1 outside) q → o ≡ before (get_or l 0 outside) p → known_of o ≡ estimate l
 unfolding lowest_later
 estimate_is l o p q e h2 h1 h0 = rw (h0, h1, h2) (ap estimate (sym (three l outside e)))
 
@@ -168,50 +160,8 @@ zero_is = refl
 
 -- ---- the records
 
-pub or_known : (o p : FirstFrameEnd) (t : Float) → o ≡ Known t → o ≡ or_else o p
-unfolding or_else
-or_known o p t e = rw e refl
-
-pub or_unknown : (o p : FirstFrameEnd) → o ≡ Unknown → p ≡ or_else o p
-unfolding or_else
-or_unknown o p e = rw e refl
-
--- the message with another end, RSSI and spans; the clock error comes by itself, as the check reads signed numbers anew
-abbrev pub changed : SigfoxMessage → FirstFrameEnd → Float → List FrameSpan → ℤ → SigfoxMessage
-changed m e x l z =
-    record {
-      device_id = m.device_id;
-      counter = m.counter;
-      payload = m.payload;
-      payload_len = m.payload_len;
-      bit = m.bit;
-      downlink = m.downlink;
-      control = m.control;
-      auth = m.auth;
-      auth_len = m.auth_len;
-      time = m.time;
-      first_frame_end = e;
-      rssi = x;
-      spans = l;
-      clock_error_ppm = z;
-      start = m.start;
-      depth = m.depth;
-    }
-
-pub merged_is : (p : Pending) (f : UplinkFrame) (r : Reception) (e : FirstFrameEnd) (x : Float) (l : List FrameSpan) (z : ℤ)
-    → e ≡ cond (eqb f.rank 0) (Known r.end) p.message.first_frame_end → x ≡ louder p.message.rssi r.rssi
-    → l ≡ meet p.message.spans (frame_of f r) → z ≡ p.message.clock_error_ppm
-    → ◌≡◌ {A = Pending} (record { message = changed p.message e x l z; last = r.time }) (merge p (frame_of f r))
-unfolding merge end_after rank_of rssi_of time_of
-merged_is p f r e x l z he hx hl hz = rw (he, hx, hl, hz) refl
-
-pub finished_is : (p : Pending) (e : FirstFrameEnd) (z : ℤ) → e ≡ or_else p.message.first_frame_end (estimate p.message.spans)
-    → z ≡ p.message.clock_error_ppm → changed p.message e p.message.rssi p.message.spans z ≡ finished p
-unfolding finished
-finished_is p e z he hz = rw (he, hz) refl
-
-pub opened_is : (f : UplinkFrame) (r : Reception) (e : FirstFrameEnd) (s : FrameSpan) (z : ℤ)
-    → e ≡ cond (eqb f.rank 0) (Known r.end) Unknown → s ≡ span_of (frame_of f r) → z ≡ r.clock_error_ppm
+pub opened_is : (f : UplinkFrame) (r : Reception) (e : (Option Float)) (s : FrameSpan) (z : ℤ)
+    → e ≡ cond (eqb f.rank 0) (Some r.end) None → s ≡ span_of (frame_of f r) → z ≡ r.clock_error_ppm
     → ◌≡◌ {A = Pending}
     (record {
       message =
@@ -295,10 +245,10 @@ spans-nan_is l x y z e hx hy hz = rw (hx, hy, hz) (nan_of (get_or l 0 outside) (
 pub ok_is : (l : List FrameSpan) (b : Bool) → length l ≡ 3 → b ≡ spans_ok (get_or l 0 outside ∷ get_or l 1 outside ∷ get_or l 2 outside ∷ []) → b ≡ spans_ok l
 ok_is l b e h = h ∙ ap spans_ok (sym (three l outside e))
 
-pub end_known : (o : FirstFrameEnd) (t : Float) (b : Bool) → o ≡ Known t → b ≡ is_nan t → b ≡ end_nan o
+pub end_known : (o : (Option Float)) (t : Float) (b : Bool) → o ≡ Some t → b ≡ is_nan t → b ≡ end_nan o
 unfolding end_nan
 end_known o t b e h = rw e h
 
-pub end_unknown : (o : FirstFrameEnd) → o ≡ Unknown → false ≡ end_nan o
+pub end_unknown : (o : (Option Float)) → o ≡ None → false ≡ end_nan o
 unfolding end_nan
 end_unknown o e = rw e refl

@@ -1,17 +1,18 @@
 // One open message: how receiver.rs merges frames into it (`merge`), when it is complete, and what is written of it (`expire`).
 #![tactic(auto)]
 
-ghost use Rattle.std.specs.Prelude.{◌≡◌, cond, not, ◌&&◌, ◌||◌, eqb, leb};
-ghost use Rattle.std.proofs.Math.Option.{some};
+ghost use Rattle.std.specs.Prelude.{◌≡◌, cond, not, ◌&&◌, ◌||◌, eqb, leb, Some};
 ghost use Rattle.std.specs.Float.Ieee.{is_nan};
 ghost use Rattle.ledger.specs.Frames.{Frame};
-ghost use Rattle.ledger.specs.Merge.{no_span, span_of, has, place, meet, three_ranks, end_after, louder, open_entry, merge, expires, later, lower, lowest_later, end_before, estimate, or_else, finished};
+ghost use Rattle.ledger.specs.Merge.{no_span, span_of, has, place, meet, three_ranks, end_after, louder, open_entry, merge, expires, later, lower, lowest_later, end_before, estimate, finished};
 ghost use Rattle.ledger.specs.Causes.{spans_fit, in_front, entry_fits, span_nan, end_nan, entry_nan};
-ghost use Rattle.receiver_message.specs.Messages.{frame_of, span_in, said, estimate_answer};
+ghost use Rattle.limits.specs.Answer.{said};
+ghost use Rattle.receiver_message.specs.Messages.{frame_of, estimate_answer};
 
 use frame::UplinkFrame;
 use ledger::Pending;
-use record::{FirstFrameEnd, FrameSpan, NO_RANK, Reception, SigfoxMessage};
+use limits::Refusal;
+use record::{FrameSpan, NO_RANK, Reception, SigfoxMessage};
 
 // Repetitions start about 4 s apart and a frame is only decoded about 2 s after it starts, so wait this long after the latest repetition.
 const QUIET_S: f64 = 10.0;
@@ -23,13 +24,6 @@ pub const FRAME_GAP_S: f64 = 2.43;
 const MOST_PAYLOAD: u8 = 12;
 
 const MOST_AUTH: u8 = 5;
-
-// What `estimate_first_frame_end` answers.
-#[derive(Clone, Copy)]
-pub enum Estimated {
-    Refused(u8),
-    End(FirstFrameEnd),
-}
 
 // ---- spans
 
@@ -99,11 +93,11 @@ fn louder(a: f32, b: f32) -> f32
 }
 
 // The end of the first frame, once a frame of this rank and end is there too.
-fn end_after(known: FirstFrameEnd, rank: u8, end: f64) -> FirstFrameEnd
-    ensures { result ≡ cond (eqb rank 0) (FirstFrameEnd.Known end) known }
+fn end_after(known: Option<f64>, rank: u8, end: f64) -> Option<f64>
+    ensures { result ≡ cond (eqb rank 0) (Some end) known }
 {
     if rank == 0 {
-        return FirstFrameEnd::Known(end);
+        return Some(end);
     }
     known
 }
@@ -131,7 +125,7 @@ pub fn opened(f: UplinkFrame, r: Reception) -> Pending
         end: 0.0,
     };
     let first = span_of(f, r);
-    let known = end_after(FirstFrameEnd::Unknown, f.rank, r.end);
+    let known = end_after(None, f.rank, r.end);
     let message = SigfoxMessage {
         device_id: f.device_id,
         counter: f.counter,
@@ -156,48 +150,16 @@ pub fn opened(f: UplinkFrame, r: Reception) -> Pending
     }
 }
 
-// What was open, with its message as it is after a frame at a time: `last` is that time, were it before that of a frame that had joined.
-fn joined(p: Pending, message: SigfoxMessage, time: f64) -> Pending
-    ensures { result ≡ record { message = message; last = time } }
-{
-    let mut q = p;
-    q.message = message;
-    q.last = time;
-    q
-}
-
-// The message with one more frame.
+// The message with one more frame: `last` is that frame's time, were it before that of a frame that had joined.
 pub fn merged(p: Pending, f: UplinkFrame, r: Reception) -> Pending
     ensures { result ≡ merge p (frame_of f r) }
 {
-    let m = p.message;
-    let payload = m.payload;
-    let auth = m.auth;
-    let bit = m.bit;
-    let before = m.spans;
-    let spans = meet(before, span_of(f, r));
-    let end = m.first_frame_end;
-    let known = end_after(end, f.rank, r.end);
-    let rssi = louder(m.rssi, r.rssi);
-    let message = SigfoxMessage {
-        device_id: m.device_id,
-        counter: m.counter,
-        payload,
-        payload_len: m.payload_len,
-        bit,
-        downlink: m.downlink,
-        control: m.control,
-        auth,
-        auth_len: m.auth_len,
-        time: m.time,
-        first_frame_end: known,
-        rssi,
-        spans,
-        clock_error_ppm: m.clock_error_ppm,
-        start: m.start,
-        depth: m.depth,
-    };
-    joined(p, message, r.time)
+    let mut q = p;
+    q.message.spans = meet(q.message.spans, span_of(f, r));
+    q.message.first_frame_end = end_after(q.message.first_frame_end, f.rank, r.end);
+    q.message.rssi = louder(q.message.rssi, r.rssi);
+    q.last = r.time;
+    q
 }
 
 // ---- `expire`
@@ -213,29 +175,19 @@ pub fn expires(p: Pending, now: f64) -> bool
     complete | quiet
 }
 
-// A span of rank 1 or 2, or none.
-#[derive(Clone, Copy)]
-enum LaterSpan {
-    Nothing,
-    Is(FrameSpan),
-}
-
-// The span of the lower rank, s before the other where both have it.
-fn lower(s: FrameSpan, rest: LaterSpan) -> LaterSpan
-    ensures { span_in result ≡ cond (later s) (some (lower s (span_in rest))) (span_in rest) }
+// The span of rank 1 or 2 that is the lower, s before the other where both have it.
+fn lower(s: FrameSpan, rest: Option<FrameSpan>) -> Option<FrameSpan>
+    ensures { result ≡ cond (later s) (Some (lower s rest)) rest }
 {
-    if s.rank == 0 {
+    if s.rank == 0 || s.rank == NO_RANK {
         return rest;
     }
-    if s.rank == NO_RANK {
-        return rest;
-    }
-    if let LaterSpan::Is(t) = rest {
+    if let Some(t) = rest {
         if t.rank < s.rank {
             return rest;
         }
     }
-    LaterSpan::Is(s)
+    Some(s)
 }
 
 // `f.end - f.rank as f64 * (f.end - f.time + FRAME_GAP_S)`
@@ -246,57 +198,22 @@ fn end_before(s: FrameSpan) -> f64
 }
 
 // When frame 1 was lost, its end from a later repetition: all three last as long and are FRAME_GAP_S apart.
-pub fn estimate(spans: [FrameSpan; 3]) -> FirstFrameEnd
+pub fn estimate(spans: [FrameSpan; 3]) -> Option<f64>
     ensures { result ≡ estimate spans }
 {
-    let third = lower(spans[2], LaterSpan::Nothing);
+    let third = lower(spans[2], None);
     let second = lower(spans[1], third);
-    let lowest = lower(spans[0], second);
-    let LaterSpan::Is(s) = lowest else {
-        return FirstFrameEnd::Unknown;
-    };
-    FirstFrameEnd::Known(end_before(s))
+    let s = lower(spans[0], second)?;
+    Some(end_before(s))
 }
 
-// The known end, or else the estimate.
-fn or_else(known: FirstFrameEnd, other: FirstFrameEnd) -> FirstFrameEnd
-    ensures { result ≡ or_else known other }
-{
-    let FirstFrameEnd::Unknown = known else {
-        return known;
-    };
-    other
-}
-
-// The message as it is written.
+// The message as it is written: with the known end, or else the estimate.
 pub fn finished(p: Pending) -> SigfoxMessage
     ensures { result ≡ finished p }
 {
-    let m = p.message;
-    let payload = m.payload;
-    let auth = m.auth;
-    let bit = m.bit;
-    let spans = m.spans;
-    let known = m.first_frame_end;
-    let end = or_else(known, estimate(spans));
-    SigfoxMessage {
-        device_id: m.device_id,
-        counter: m.counter,
-        payload,
-        payload_len: m.payload_len,
-        bit,
-        downlink: m.downlink,
-        control: m.control,
-        auth,
-        auth_len: m.auth_len,
-        time: m.time,
-        first_frame_end: end,
-        rssi: m.rssi,
-        spans,
-        clock_error_ppm: m.clock_error_ppm,
-        start: m.start,
-        depth: m.depth,
-    }
+    let mut m = p.message;
+    m.first_frame_end = m.first_frame_end.or(estimate(m.spans));
+    m
 }
 
 // ---- what 01 asks of the messages of a given state
@@ -345,33 +262,21 @@ pub fn fits(p: Pending) -> bool
         & (spans_fit(spans) & (in_front(spans) & (payload & auth)))
 }
 
-fn nan64(x: f64) -> bool
-    ensures { result ≡ is_nan x }
-{
-    x != x
-}
-
-fn nan32(x: f32) -> bool
-    ensures { result ≡ is_nan x }
-{
-    x != x
-}
-
 // Whether a span is there and has a NaN.
 fn span_nan(s: FrameSpan) -> bool
     ensures { result ≡ not (eqb s.rank no_span) && (is_nan s.time || is_nan s.end) }
 {
     let empty = s.rank == NO_RANK;
-    !empty & (nan64(s.time) | nan64(s.end))
+    !empty & (s.time.is_nan() | s.end.is_nan())
 }
 
-fn end_nan(known: FirstFrameEnd) -> bool
+fn end_nan(known: Option<f64>) -> bool
     ensures { result ≡ end_nan known }
 {
-    let FirstFrameEnd::Known(t) = known else {
-        return false;
-    };
-    nan64(t)
+    match known {
+        Some(t) => t.is_nan(),
+        None => false,
+    }
 }
 
 fn spans_nan(spans: [FrameSpan; 3]) -> bool
@@ -390,17 +295,17 @@ pub fn has_nan(p: Pending) -> bool
     let m = p.message;
     let spans = m.spans;
     let known = m.first_frame_end;
-    nan64(p.last) | (nan64(m.time) | (nan32(m.rssi) | (end_nan(known) | spans_nan(spans))))
+    p.last.is_nan() | (m.time.is_nan() | (m.rssi.is_nan() | (end_nan(known) | spans_nan(spans))))
 }
 
 // ---- `estimate_first_frame_end`
 
 // The end of frame 1 from a later repetition (receiver.rs `estimate_first_frame_end`); a place of rank 255 holds no span.
-pub fn estimate_first_frame_end(spans: [FrameSpan; 3]) -> Estimated
+pub fn estimate_first_frame_end(spans: [FrameSpan; 3]) -> Result<Option<f64>, Refusal>
     ensures { said result ≡ estimate_answer spans }
 {
     if record::spans::spans_ok(spans[0], spans[1], spans[2]) {
-        return Estimated::End(estimate(spans));
+        return Ok(estimate(spans));
     }
-    Estimated::Refused(limits::BAD_NUMBER)
+    Err(Refusal::BadNumber)
 }

@@ -17,30 +17,6 @@ pub fn capacity(rate: u32) -> usize
     limits::BUFFER_S * (rate as usize)
 }
 
-// n samples from `from` on move to the start (`copy_within`).
-fn move_down(samples: &mut [f32], from: usize, n: usize)
-    requires { from + n ≤ length samples.old }
-    ensures { samples.new ≡ take n (drop from samples.old) ++ drop n samples.old }
-{
-    let mut k: usize = 0;
-    while k < n {
-        samples[k] = samples[from + k];
-        k += 1;
-    }
-}
-
-// n samples of dbm from `from` on are written at `at` (`copy_from_slice`).
-fn copy_in(samples: &mut [f32], at: usize, dbm: &[f32], from: usize, n: usize)
-    requires { (at + n ≤ length samples.old) × (from + n ≤ length dbm.now) }
-    ensures { samples.new ≡ paste samples.old at (drop from dbm.now) n }
-{
-    let mut k: usize = 0;
-    while k < n {
-        samples[at + k] = dbm[from + k];
-        k += 1;
-    }
-}
-
 // Where the buffer is full, its older half is dropped; how many samples are held then.
 pub fn halve(samples: &mut [f32], rate: u32, held: usize) -> usize
     requires { capacity rate ≤ length samples.old }
@@ -48,16 +24,10 @@ pub fn halve(samples: &mut [f32], rate: u32, held: usize) -> usize
 {
     if held == capacity(rate) {
         let half = HALF_S * (rate as usize);
-        move_down(samples, half, half);
+        samples.copy_within(half..2 * half, 0);
         return half;
     }
     held
-}
-
-fn least(a: usize, b: usize) -> usize
-    ensures { result ≡ min a b }
-{
-    if a <= b { a } else { b }
 }
 
 // The samples of dbm from `from` on, as many as there is room for, stand behind those held; how many they are.
@@ -65,8 +35,8 @@ pub fn fill(samples: &mut [f32], rate: u32, held: usize, dbm: &[f32], from: usiz
     requires { (capacity rate ≤ length samples.old) × (held ≤ capacity rate) × (from ≤ length dbm.now) }
     ensures { (result ≡ room rate held (drop from dbm.now)) × (samples.new ≡ paste samples.old held (drop from dbm.now) result) }
 {
-    let n = least(dbm.len() - from, capacity(rate) - held);
-    copy_in(samples, held, dbm, from, n);
+    let n = (dbm.len() - from).min(capacity(rate) - held);
+    samples[held..held + n].copy_from_slice(&dbm[from..from + n]);
     n
 }
 
@@ -82,9 +52,7 @@ pub fn dbm_of_all(raw: &[u8], dbm: &mut [f32])
     requires { length raw.now ≤ length dbm.old }
     ensures { dbm.new ≡ map dbm_of raw.now ++ drop (length raw.now) dbm.old }
 {
-    let mut i: usize = 0;
-    while i < raw.len() {
-        dbm[i] = dbm_of(raw[i]);
-        i += 1;
+    for (i, b) in raw.iter().enumerate() {
+        dbm[i] = dbm_of(*b);
     }
 }

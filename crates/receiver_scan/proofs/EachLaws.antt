@@ -1,6 +1,6 @@
 -- The loop over the bursts of a scan, and its end. Assumes nothing.
+use Rattle.std.proofs.Common.{Option, None, Some}
 use mathlib.Core.Path.{◌≡◌, refl, ap, ◌∙◌}
-use mathlib.Core.Option.{Option, none, some}
 use mathlib.Core.List.{List, [], ◌∷◌}
 use mathlib.Core.Bool.{Bool, true, false, cond}
 use Prim.Native.Nat.{ℕ, ◌+◌, ◌≤◌}
@@ -9,10 +9,8 @@ use lib.ListN.{length}
 use lib.Ieee.{Float}
 use Rattle.bursts.specs.declared.Burst.{Burst}
 use Rattle.bursts.specs.Levels.{noise_floor}
-use Rattle.limits.specs.Answer.{accepted}
-use Rattle.bursts.specs.Bursts.{threshold, gap_samples, bursts_in, first_from, said}
+use Rattle.bursts.specs.Bursts.{threshold, gap_samples, bursts_in, first_from}
 use Rattle.bursts.specs.declared.BurstOptions.{BurstOptions}
-use Rattle.bursts.specs.declared.NextBurst.{NextBurst}
 use Rattle.bursts.specs.Found.{bursts_from}
 use Rattle.bursts.proofs.ClusterLaws.{left_end}
 use Rattle.bursts.proofs.SearchLaws.{from_start}
@@ -41,8 +39,8 @@ stay l = record { held = refl; base = refl; unscanned = refl }
 
 heard-stays : (l : Ledger by_entry) (s : ℕ) (o : Option DecodedFrame) → Stays l (hear (remember l s) s o)
 unfolding hear remember
-heard-stays l s none = record { held = refl; base = refl; unscanned = refl }
-heard-stays l s (some d) = record { held = refl; base = refl; unscanned = refl }
+heard-stays l s None = record { held = refl; base = refl; unscanned = refl }
+heard-stays l s (Some d) = record { held = refl; base = refl; unscanned = refl }
 
 module _ (rate : ℕ) (d : Demod) (wait : ℕ) where
   pub one_stays : (l : Ledger by_entry) (b : Burst) → Stays l (take_one_if rate d wait l b)
@@ -73,8 +71,8 @@ module _ (rate wait base : ℕ) (held : List Float) where
   bursts_left at = bursts_from held rate scan_options (noise_floor held) at
 
   -- what the code's search answers is the next burst of the scan
-  pub searched : (o : BurstOptions) (floor : Float) (r : NextBurst) (at : ℕ) → o ≡ scan_options → floor ≡ noise_floor held
-      → said r ≡ accepted (first_from 0 (bursts_from held rate o floor at)) → said r ≡ accepted (first_from 0 (bursts_left at))
+  pub searched : (o : BurstOptions) (floor : Float) (r : Option Burst) (at : ℕ) → o ≡ scan_options → floor ≡ noise_floor held
+      → r ≡ first_from 0 (bursts_from held rate o floor at) → r ≡ first_from 0 (bursts_left at)
   searched o floor r at p q e = rw (p, q) at e
 
   -- the ledger on the way: what is left to be done with it is what is left to be done with l

@@ -1,6 +1,6 @@
 -- A burst that is looked at: the code's numbers are the ledger's, and what is done with a burst that is taken. Assumes nothing.
+use Rattle.std.proofs.Common.{Option, None, Some}
 use mathlib.Core.Path.{◌≡◌, sym, ap, ◌∙◌}
-use mathlib.Core.Option.{none, some}
 use mathlib.Core.List.{List, [], ◌∷◌, ◌++◌}
 use mathlib.Core.Bool.{Bool, true, false, ◌&&◌, cond}
 use Prim.Native.Nat.{ℕ, ◌+◌, ◌*◌, ◌≤◌, ◌<◌}
@@ -13,11 +13,9 @@ use lib.Ieee.{Float}
 use borrow.Author.Tests.{ltb-true}
 use Rattle.limits.specs.Limits.{record_size}
 use Rattle.bursts.specs.declared.Burst.{Burst}
-use Rattle.limits.specs.Answer.{accepted}
-use Rattle.demod.specs.Decode.{heard_as, decode_burst, shown}
-use Rattle.demod.specs.declared.BurstFrame.{BurstFrame}
+use Rattle.demod.specs.Decode.{decode_burst}
 use Rattle.demod.specs.declared.DecodedFrame.{DecodedFrame}
-use Rattle.demod.proofs.DecodedFacts.{Lawful, burst_lawful, shown_as}
+use Rattle.demod.proofs.DecodedFacts.{Lawful, burst_lawful}
 use Rattle.ledger.specs.Frames.{frame_at, right_crc}
 use Rattle.ledger.specs.Ledger.{Ledger, by_entry, seconds, join, hear, remember, takes, take_one}
 use Rattle.ledger.specs.Room.{open_places, event_places, room, take_one_if}
@@ -56,13 +54,13 @@ module _ (l : Ledger by_entry) (old : List ℕ) (s : Starts) (w : Waiting) (n : 
         sized = m.sized;
       }
 
-  mid_none : (x : ℕ) → Midway (hear l x none) old s w n e
+  mid_none : (x : ℕ) → Midway (hear l x None) old s w n e
   unfolding hear
   mid_none x = m
 
   mid_some : (x : ℕ) (d : DecodedFrame) (v : Waiting) (f : List ℕ) → Lawful d.frame → record_size * (n + 1) ≤ length e
       → waiting_of v ≡ cond d.frame.crc_ok (join by_entry (frame_at x d) (waiting_of w)) (waiting_of w)
-      → f ≡ sets e (record_size * n) (frame_bytes (frame_at x d)) → Midway (hear l x (some d)) old s v (n + 1) f
+      → f ≡ sets e (record_size * n) (frame_bytes (frame_at x d)) → Midway (hear l x (Some d)) old s v (n + 1) f
   unfolding hear right_crc
   mid_some x d v f lawful place q k =
       record {
@@ -73,13 +71,12 @@ module _ (l : Ledger by_entry) (old : List ℕ) (s : Starts) (w : Waiting) (n : 
         sized = heard-sized l.heard (frame_at x d) lawful old m.sized;
       }
 
-module _ (rate : ℕ) (b : Burst) (held : List Float) (base : ℕ) (s : Scanned) (e : List ℕ) (t : Starts) (x : BurstFrame)
-    (q : distances t ≡ distances s.starts ++ (pos b.start ∷ [])) (d : x ≡ shown (accepted (decode_burst held rate b (seconds rate base)))) where
-  decoded_is : (l : Ledger by_entry) → l.held ≡ held → l.base ≡ base
-      → held_frame rate l.held (seconds rate l.base) b ≡ heard_as x.outcome x.decoded
-  decoded_is l h p = rw (h, p) (shown_as x (decode_burst held rate b (seconds rate base)) d)
+module _ (rate : ℕ) (b : Burst) (held : List Float) (base : ℕ) (s : Scanned) (e : List ℕ) (t : Starts) (x : Option DecodedFrame)
+    (q : distances t ≡ distances s.starts ++ (pos b.start ∷ [])) (d : x ≡ decode_burst held rate b (seconds rate base)) where
+  decoded_is : (l : Ledger by_entry) → l.held ≡ held → l.base ≡ base → held_frame rate l.held (seconds rate l.base) b ≡ x
+  decoded_is l h p = rw (h, p) (sym d)
 
-  pub does_without : heard_as x.outcome x.decoded ≡ none → Within (record { starts = t; waiting = s.waiting; count = s.count })
+  pub does_without : x ≡ None → Within (record { starts = t; waiting = s.waiting; count = s.count })
       → Does (taken rate b) held base s e (record { starts = t; waiting = s.waiting; count = s.count }) e
   does_without o inside =
       record {
@@ -90,18 +87,18 @@ module _ (rate : ℕ) (b : Burst) (held : List Float) (base : ℕ) (s : Scanned)
         within = inside;
       }
 
-  pub does_frame : (v : Waiting) (f : List ℕ) → heard_as x.outcome x.decoded ≡ some x.decoded → Within (record { starts = t; waiting = v; count = s.count + 1 })
+  pub does_frame : (y : DecodedFrame) (v : Waiting) (f : List ℕ) → x ≡ Some y → Within (record { starts = t; waiting = v; count = s.count + 1 })
       → record_size * (s.count + 1) ≤ length e
-      → waiting_of v ≡ cond x.decoded.frame.crc_ok (join by_entry (frame_at (base + b.start) x.decoded) (waiting_of s.waiting)) (waiting_of s.waiting)
-      → f ≡ sets e (record_size * s.count) (frame_bytes (frame_at (base + b.start) x.decoded))
+      → waiting_of v ≡ cond y.frame.crc_ok (join by_entry (frame_at (base + b.start) y) (waiting_of s.waiting)) (waiting_of s.waiting)
+      → f ≡ sets e (record_size * s.count) (frame_bytes (frame_at (base + b.start) y))
       → Does (taken rate b) held base s e (record { starts = t; waiting = v; count = s.count + 1 }) f
-  does_frame v f o inside place j k =
-      let lawful : Lawful x.decoded.frame = burst_lawful held rate b (seconds rate base) x.decoded (shown_as x (decode_burst held rate b (seconds rate base)) d ∙ o) in
+  does_frame y v f o inside place j k =
+      let lawful : Lawful y.frame = burst_lawful held rate b (seconds rate base) y (sym d ∙ o) in
       record {
         midway = λ l old h p m.
             rw (decoded_is l h p ∙ o)
             (mid_some (remember l (l.base + b.start)) old t s.waiting s.count e
-            (mid-remember l old s.starts s.waiting s.count e m b.start t q) (l.base + b.start) x.decoded v f lawful place
+            (mid-remember l old s.starts s.waiting s.count e m b.start t q) (l.base + b.start) y v f lawful place
             (rw (← p) at j) (rw (← p) at k));
         within = inside;
       }

@@ -17,6 +17,8 @@ ghost use Rattle.receiver_scan.specs.Midway.{Lent, Within, Does, has_room, takes
 
 use bursts::{Burst, BurstOptions};
 use demod::DecodedFrame;
+use ledger::Pending;
+use limits::rated::Samples;
 use receiver_starts::Starts;
 use receiver_waiting::Waiting;
 use record::Reception;
@@ -53,20 +55,23 @@ pub fn seconds(rate: u32, n: u64) -> f64
     floats::count_as_f64(n as usize) / (rate as f64)
 }
 
-// Whether one more start, open message and record fit.
-fn has_room(starts: usize, waiting: usize, count: usize) -> bool
-    ensures { result ≡ has_room starts waiting count }
+// Whether one more start, open message and record fit. The arrays' lengths are their types'.
+fn has_room(s: &Scanned) -> bool
+    ensures fits { result ≡ has_room s.now.starts.count s.now.waiting.count s.now.count }
+    ensures places { (length s.now.starts.at ≡ most_starts) × (length s.now.waiting.messages ≡ open_places) }
 {
-    let start = starts < receiver_starts::MOST_STARTS;
-    let message = waiting < receiver_waiting::OPEN_PLACES;
-    let record = count < EVENT_PLACES;
+    let starts: &[i32] = &s.starts.at;
+    let messages: &[Pending] = &s.waiting.messages;
+    let start = s.starts.count < starts.len();
+    let message = s.waiting.count < messages.len();
+    let record = s.count < EVENT_PLACES;
     start & (message & record)
 }
 
 // Only bursts that have ended; ones touching the start of the buffer were decoded earlier, and so were those near a remembered start.
-fn takes(rate: u32, wait: usize, starts: Starts, held: usize, burst: Burst) -> bool
-    requires { (starts.count ≤ most_starts) × (burst.start < 2 ^ 31) × (burst.end + wait ≤ longest_stream) }
-    ensures { result ≡ takes_at rate wait (distances starts) held burst }
+fn takes(rate: u32, wait: usize, starts: &Starts, held: usize, burst: Burst) -> bool
+    requires { (starts.now.count ≤ most_starts) × (burst.start < 2 ^ 31) × (burst.end + wait ≤ longest_stream) }
+    ensures { result ≡ takes_at rate wait (distances starts.now) held burst }
 {
     if burst.start == 0 {
         return false;
@@ -74,15 +79,14 @@ fn takes(rate: u32, wait: usize, starts: Starts, held: usize, burst: Burst) -> b
     if held < burst.end + wait {
         return false;
     }
-    let at = starts.at;
     let x = receiver_starts::distance(burst.start);
-    !receiver_starts::near(rate, &at, starts.count, x)
+    !receiver_starts::near(rate, &starts.at, starts.count, x)
 }
 
 // A frame has a record behind the others of the call, and joins the open messages where its CRC is right.
-fn hear(d: DecodedFrame, start: u64, waiting: Waiting, events: &mut [u8], count: usize) -> Waiting
-    requires { (waiting.count < open_places) × (record_size * (count + 1) ≤ length events.old) }
-    ensures { (waiting_of result ≡ cond d.frame.crc_ok (join by_entry (frame_at start d) (waiting_of waiting)) (waiting_of waiting)) × (result.count ≤ open_places)
+fn hear(d: DecodedFrame, start: u64, waiting: &mut Waiting, events: &mut [u8], count: usize)
+    requires { (waiting.old.count < open_places) × (record_size * (count + 1) ≤ length events.old) }
+    ensures { (waiting_of waiting.new ≡ cond d.frame.crc_ok (join by_entry (frame_at start d) (waiting_of waiting.old)) (waiting_of waiting.old)) × (waiting.new.count ≤ open_places)
         × (events.new ≡ sets events.old (record_size * count) (frame_bytes (frame_at start d))) }
 {
     let f = d.frame;
@@ -97,9 +101,8 @@ fn hear(d: DecodedFrame, start: u64, waiting: Waiting, events: &mut [u8], count:
     let right = f.crc_ok;
     record::put_frame(f, r, events, limits::RECORD * count);
     if right {
-        return receiver_waiting::join(waiting, f, r);
+        receiver_waiting::join(waiting, f, r);
     }
-    waiting
 }
 
 // A burst that is taken: its start is remembered, decoded or not.
@@ -108,38 +111,20 @@ fn take_burst(
     rate: u32,
     base: u64,
     burst: Burst,
-    s: Scanned,
+    s: &mut Scanned,
     events: &mut [u8],
     scratch: &mut [f64],
-) -> Scanned
+)
     requires { Lent rate base 0 held.now events.old scratch.old × (burst.start ≤ length held.now) × (burst.end ≤ length held.now)
-        × (s.starts.count < most_starts) × (s.waiting.count < open_places) × (s.count < event_places) }
-    ensures { Does (taken rate burst) held.now base s events.old result events.new }
+        × (s.old.starts.count < most_starts) × (s.old.waiting.count < open_places) × (s.old.count < event_places) }
+    ensures { Does (taken rate burst) held.now base s.old events.old s.new events.new }
 {
     let start = base + (burst.start as u64);
-    let seen = s.starts;
-    let starts = receiver_starts::remember(seen, receiver_starts::distance(burst.start));
-    let waiting = s.waiting;
-    let x = demod::decode_within(held, rate, burst, seconds(rate, base), scratch);
-    let outcome = x.outcome;
-    let d = x.decoded;
-    let unheard = Scanned {
-        starts,
-        waiting,
-        count: s.count,
-    };
-    match outcome {
-        frame::Outcome::Refused(_) => unheard,
-        frame::Outcome::Nothing => unheard,
-        frame::Outcome::Frame => {
-            let w = hear(d, start, waiting, events, s.count);
-            let n = s.count + 1;
-            Scanned {
-                starts,
-                waiting: w,
-                count: n,
-            }
-        }
+    receiver_starts::remember(&mut s.starts, receiver_starts::distance(burst.start));
+    let samples = Samples { dbm: held, rate };
+    if let Some(d) = demod::decode_within(samples, burst, seconds(rate, base), scratch) {
+        hear(d, start, &mut s.waiting, events, s.count);
+        s.count += 1;
     }
 }
 
@@ -150,21 +135,19 @@ fn take_one(
     base: u64,
     wait: usize,
     burst: Burst,
-    s: Scanned,
+    s: &mut Scanned,
     events: &mut [u8],
     scratch: &mut [f64],
-) -> Scanned
-    requires { Lent rate base wait held.now events.old scratch.old × (burst.start ≤ length held.now) × (burst.end ≤ length held.now) × Within s }
-    ensures { Does (λ l. take_one_if rate (demod_of rate) wait l burst) held.now base s events.old result events.new }
+)
+    requires { Lent rate base wait held.now events.old scratch.old × (burst.start ≤ length held.now) × (burst.end ≤ length held.now) × Within s.old }
+    ensures { Does (λ l. take_one_if rate (demod_of rate) wait l burst) held.now base s.old events.old s.new events.new }
 {
-    let starts = s.starts;
-    if !has_room(starts.count, s.waiting.count, s.count) {
-        return s;
+    if !has_room(s) {
+        return;
     }
-    if !takes(rate, wait, starts, held.len(), burst) {
-        return s;
+    if takes(rate, wait, &s.starts, held.len(), burst) {
+        take_burst(held, rate, base, burst, s, events, scratch);
     }
-    take_burst(held, rate, base, burst, s, events, scratch)
 }
 
 // The bursts of the held samples, one by one.
@@ -173,33 +156,23 @@ fn take_each(
     rate: u32,
     base: u64,
     wait: usize,
-    s: Scanned,
+    s: &mut Scanned,
     events: &mut [u8],
     scratch: &mut [f64],
-) -> Scanned
-    requires { Lent rate base wait held.now events.old scratch.old × Within s }
-    ensures { Does (λ l. take_each_if rate (demod_of rate) wait l (held_bursts rate held.now)) held.now base s events.old result events.new }
+)
+    requires { Lent rate base wait held.now events.old scratch.old × Within s.old }
+    ensures { Does (λ l. take_each_if rate (demod_of rate) wait l (held_bursts rate held.now)) held.now base s.old events.old s.new events.new }
 {
     let options = options();
     let floor = bursts::measured_floor(held);
-    let mut t = s;
     let mut at: usize = 0;
     while at < held.len() {
-        match bursts::search_bursts(held, rate, options, floor, at, 0) {
-            bursts::NextBurst::Refused(_) => {
-                return t;
-            }
-            bursts::NextBurst::Nothing => {
-                return t;
-            }
-            bursts::NextBurst::Found(b) => {
-                let u = take_one(held, rate, base, wait, b, t, events, scratch);
-                t = u;
-                at = b.end;
-            }
-        }
+        let Some(b) = bursts::search_bursts(held, rate, options, floor, at, 0) else {
+            return;
+        };
+        take_one(held, rate, base, wait, b, s, events, scratch);
+        at = b.end;
     }
-    t
 }
 
 // A scan of the held samples, whose first has the absolute index `base`: bursts that ended less than `wait` samples before the newest are left.
@@ -208,34 +181,13 @@ pub fn scan(
     rate: u32,
     base: u64,
     wait: usize,
-    starts: Starts,
-    waiting: Waiting,
+    s: &mut Scanned,
     events: &mut [u8],
-    count: usize,
     scratch: &mut [f64],
-) -> Scanned
-    requires { Lent rate base wait held.now events.old scratch.old × Within (record { starts = starts; waiting = waiting; count = count }) }
-    ensures { Does (scan_if rate (demod_of rate) wait) held.now base (record { starts = starts; waiting = waiting; count = count }) events.old result events.new }
+)
+    requires { Lent rate base wait held.now events.old scratch.old × Within s.old }
+    ensures { Does (scan_if rate (demod_of rate) wait) held.now base s.old events.old s.new events.new }
 {
-    let s = take_each(
-        held,
-        rate,
-        base,
-        wait,
-        Scanned {
-            starts,
-            waiting,
-            count,
-        },
-        events,
-        scratch,
-    );
-    let all = s.starts;
-    let recent = receiver_starts::forget(all, rate);
-    let messages = s.waiting;
-    Scanned {
-        starts: recent,
-        waiting: messages,
-        count: s.count,
-    }
+    take_each(held, rate, base, wait, s, events, scratch);
+    receiver_starts::forget(&mut s.starts, rate);
 }

@@ -6,11 +6,12 @@ use mathlib.Core.Path.{◌∙◌, ◌≡◌, ap, ap₂, refl, sym}
 use Prim.Native.Nat.{◌*◌, ◌+◌, ◌-◌, ◌/◌, ◌<◌, ◌^◌, ◌≤◌, suc, ℕ}
 use native.Mathlib.Numerals.{add-one}
 use native.Mathlib.Omega.{arith}
+use Rattle.std.proofs.lemmas.List.{get_or_at}
 use lib.Dec.{ltb}
 use lib.IntN.{ℤ, pos, negsuc, neg_ℤ, nat_abs, sub_ℕ, ◌+ℤ◌, ◌-ℤ◌}
 use lib.Signed.{le_z, lt_z, mag}
 use lib.ListN.{drop, get_or, length, length-append, length-map, length-set, set, take, take-append-drop}
-use lib.Seq.{drop-set-lt, length-take-le, slice, slice-cons, take-append_seam, take-suc}
+use lib.Seq.{drop-cons, drop-set-lt, length-take-le, take-append_seam, take-suc}
 use borrow.Author.Tests.{le-leb, le-ltb, leb-true, lt-leb, lt-ltb, ltb-false, ltb-true}
 use Rattle.endian.specs.Bytes.{signed_of}
 use Rattle.ledger.specs.Ledger.{close, dist}
@@ -111,45 +112,45 @@ module _ (d : ℤ) (r : ℕ) (b : Biased d r) where
       let p = biased_is d r (2 ^ 31) b in
       sub_same (r - by) (2 ^ 31) (ahead d) (behind d + by) (omega arith) ∙ sym (minus_is d by)
 
--- ---- loops that look at each start: i is the place, and slice i n l what is left; r is the distance there with 2^31 added
+-- ---- loops that look at each start: i is the place, and drop i l what is left; r is the distance there with 2^31 added
 
-module _ (l : List ℤ) (n i : ℕ) (here : i < n) (fits : n ≤ length l) (r : ℕ) (b : Biased (get_or l i (pos 0)) r) where
+module _ (l : List ℤ) (i : ℕ) (here : i < length l) (r : ℕ) (b : Biased (get_or l i (pos 0)) r) where
   abbrev at : ℤ
   at = get_or l i (pos 0)
 
-  pub near_hit : (rate : ℕ) (x : ℤ) (y : ℕ) → Biased x y → close rate r y ≡ true → near_one rate (slice i n l) x ≡ true
+  pub near_hit : (rate : ℕ) (x : ℤ) (y : ℕ) → Biased x y → close rate r y ≡ true → near_one rate (drop i l) x ≡ true
   unfolding near_one
-  near_hit rate x y c e = rw (slice-cons i n l (pos 0) here fits, sym (close_by at r b rate x y c) ∙ e) refl
+  near_hit rate x y c e = rw (drop-cons l i (pos 0) here, sym (close_by at r b rate x y c) ∙ e) refl
 
-  pub near_miss : (rate : ℕ) (x : ℤ) (y : ℕ) → Biased x y → close rate r y ≡ false → near_one rate (slice i n l) x ≡ near_one rate (slice (i + 1) n l) x
+  pub near_miss : (rate : ℕ) (x : ℤ) (y : ℕ) → Biased x y → close rate r y ≡ false → near_one rate (drop i l) x ≡ near_one rate (drop (i + 1) l) x
   unfolding near_one
-  near_miss rate x y c e = rw (slice-cons i n l (pos 0) here fits, sym (close_by at r b rate x y c) ∙ e, add-one) refl
+  near_miss rate x y c e = rw (drop-cons l i (pos 0) here, sym (close_by at r b rate x y c) ∙ e, add-one) refl
 
-  pub below_not : (held : ℕ) → 2 ^ 31 + held ≤ r → all_below held (slice i n l) ≡ false
+  pub below_not : (held : ℕ) → 2 ^ 31 + held ≤ r → all_below held (drop i l) ≡ false
   unfolding all_below
-  below_not held h = rw (slice-cons i n l (pos 0) here fits, at_end at r b held h) refl
+  below_not held h = rw (drop-cons l i (pos 0) here, at_end at r b held h) refl
 
-  pub below_more : (held : ℕ) → r < 2 ^ 31 + held → all_below held (slice i n l) ≡ all_below held (slice (i + 1) n l)
+  pub below_more : (held : ℕ) → r < 2 ^ 31 + held → all_below held (drop i l) ≡ all_below held (drop (i + 1) l)
   unfolding all_below
-  below_more held h = rw (slice-cons i n l (pos 0) here fits, before_end at r b held h, add-one) refl
+  below_more held h = rw (drop-cons l i (pos 0) here, before_end at r b held h, add-one) refl
 
-  pub from_not : (back oldest : ℕ) → oldest ≡ 2 ^ 31 - back → r < oldest → all_from back (slice i n l) ≡ false
+  pub from_not : (back oldest : ℕ) → oldest ≡ 2 ^ 31 - back → r < oldest → all_from back (drop i l) ≡ false
   unfolding all_from
-  from_not back oldest e h = rw (slice-cons i n l (pos 0) here fits, too_old at r b back (omega arith)) refl
+  from_not back oldest e h = rw (drop-cons l i (pos 0) here, too_old at r b back (omega arith)) refl
 
-  pub from_more : (back oldest : ℕ) → oldest ≡ 2 ^ 31 - back → oldest ≤ r → all_from back (slice i n l) ≡ all_from back (slice (i + 1) n l)
+  pub from_more : (back oldest : ℕ) → oldest ≡ 2 ^ 31 - back → oldest ≤ r → all_from back (drop i l) ≡ all_from back (drop (i + 1) l)
   unfolding all_from
-  from_more back oldest e h = rw (slice-cons i n l (pos 0) here fits, not_old at r b back (omega arith), add-one) refl
+  from_more back oldest e h = rw (drop-cons l i (pos 0) here, not_old at r b back (omega arith), add-one) refl
 
-module _ (l : List ℤ) (n i : ℕ) (here : i < n) (fits : n ≤ length l) where
-  pub apart_not : (rate : ℕ) → near_one rate (take i l) (get_or l i (pos 0)) ≡ true → all_apart rate (take i l) (slice i n l) ≡ false
+module _ (l : List ℤ) (i : ℕ) (here : i < length l) where
+  pub apart_not : (rate : ℕ) → near_one rate (take i l) (get_or l i (pos 0)) ≡ true → all_apart rate (take i l) (drop i l) ≡ false
   unfolding all_apart
-  apart_not rate e = rw (slice-cons i n l (pos 0) here fits, e) refl
+  apart_not rate e = rw (drop-cons l i (pos 0) here, e) refl
 
   pub apart_more : (rate : ℕ) → near_one rate (take i l) (get_or l i (pos 0)) ≡ false
-      → all_apart rate (take i l) (slice i n l) ≡ all_apart rate (take (i + 1) l) (slice (i + 1) n l)
+      → all_apart rate (take i l) (drop i l) ≡ all_apart rate (take (i + 1) l) (drop (i + 1) l)
   unfolding all_apart
-  apart_more rate e = rw (slice-cons i n l (pos 0) here fits, e, add-one, take-suc l i (pos 0) (omega arith)) refl
+  apart_more rate e = rw (drop-cons l i (pos 0) here, e, add-one, take-suc l i (pos 0) here) refl
 
 -- ---- what is forgotten
 
@@ -177,11 +178,11 @@ lately-few back (x ∷ l) =
 -- ---- what is moved
 
 -- the next one is not too old, nor are those behind it
-pub from_next : (back : ℕ) (l : List ℤ) (n i : ℕ) → i < n → n ≤ length l → all_from back (slice i n l) ≡ true
-    → (le_z (neg_ℤ (pos back)) (get_or l i (pos 0)) ≡ true) × (all_from back (slice (i + 1) n l) ≡ true)
+pub from_next : (back : ℕ) (l : List ℤ) (i : ℕ) → i < length l → all_from back (drop i l) ≡ true
+    → (le_z (neg_ℤ (pos back)) (get_or l i (pos 0)) ≡ true) × (all_from back (drop (i + 1) l) ≡ true)
 unfolding all_from
-from_next back l n i h f e =
-    let a = and_true (le_z (neg_ℤ (pos back)) (get_or l i (pos 0))) (all_from back (slice (suc i) n l)) (rw (slice-cons i n l (pos 0) h f) at e) in
+from_next back l i h e =
+    let a = and_true (le_z (neg_ℤ (pos back)) (get_or l i (pos 0))) (all_from back (drop (suc i) l)) (rw (drop-cons l i (pos 0) h) at e) in
     (a.0, rw add-one a.1)
 
 moved-join : (by : ℕ) (a b : List ℤ) → moved by (a ++ b) ≡ moved by a ++ moved by b
@@ -196,6 +197,12 @@ moved-turn by l r i h e =
     let n : length (moved by (take i l)) ≡ i = length-map (take i l) _ ∙ length-take-le i l (omega arith) in
     let t : moved by (take (i + 1) l) ≡ moved by (take i l) ++ ((d -ℤ pos by) ∷ []) = rw (add-one, take-suc l i (pos 0) h) (moved-join by (take i l) (d ∷ [])) in
     rw (e, t) (store_next (moved by (take i l)) l i (d -ℤ pos by) n h)
+
+-- what stands where it has come to
+pub moved_here : (by : ℕ) (l r : List ℤ) (i : ℕ) → i < length l → r ≡ moved by (take i l) ++ drop i l → get_or r i (pos 0) ≡ get_or l i (pos 0)
+moved_here by l r i h e =
+    let n : length (moved by (take i l)) ≡ i = length-map (take i l) _ ∙ length-take-le i l (omega arith) in
+    rw (e, drop-cons l i (pos 0) h) (get_or_at (moved by (take i l)) (get_or l i (pos 0)) (drop (suc i) l) (pos 0) i n)
 
 -- ---- the array
 
@@ -237,18 +244,10 @@ forget-turn back s t r l i h e q =
     let n : a ++ c ≡ lately back (take (i + 1) l) = sym (lately-join back (take i l) (get_or l i (pos 0) ∷ [])) ∙ ap (lately back) (sym (rw add-one (take-suc l i (pos 0) h))) in
     q ∙ rw ((stands s t a e).0, e) (rw (over_again s.at a c) (ap (over s) n))
 
--- the starts after a loop that copied them over another array
-pub over_is : (old s : Starts) (r : List ℤ) (i : ℕ) → s.count ≤ length s.at → i ≡ s.count → r ≡ take i s.at ++ drop i old.at
-    → ◌≡◌ {A = Starts} (record { at = r; count = s.count }) (over old (distances s))
+-- the starts after the loop that moved them
+pub moved_all : (by : ℕ) (s : Starts) (r : List ℤ) → s.count ≤ length s.at → r ≡ moved by (distances s)
+    → ◌≡◌ {A = Starts} (record { at = r ++ drop s.count s.at; count = s.count }) (over s (moved by (distances s)))
 unfolding over
-over_is old s r i h e p =
-    let n : length (distances s) ≡ s.count = length-take-le s.count s.at h in
-    rw (p, e, n) refl
-
--- and after the loop that moved them
-pub moved_all : (by : ℕ) (s t : Starts) (i : ℕ) → s.count ≤ length s.at → i ≡ s.count → t.count ≡ s.count
-    → t.at ≡ moved by (take i s.at) ++ drop i s.at → t ≡ over s (moved by (distances s))
-unfolding over
-moved_all by s t i h e k p =
+moved_all by s r h e =
     let n : length (moved by (distances s)) ≡ s.count = length-map (distances s) _ ∙ length-take-le s.count s.at h in
-    ap₂ {C = Starts} (λ (x : List ℤ) (m : ℕ). record { at = x; count = m }) p k ∙ rw (e, n) refl
+    rw (e, n) refl

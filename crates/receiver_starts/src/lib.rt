@@ -21,25 +21,15 @@ const MIDDLE: u64 = 0x8000_0000;
 // Distances from the first held sample to the starts of bursts taken: the first `count` places.
 #[derive(Clone, Copy)]
 pub struct Starts {
-    pub at: [i32; 96],
+    pub at: [i32; MOST_STARTS],
     pub count: usize,
-}
-
-// The difference, or 0 (`saturating_sub`).
-fn minus(a: u64, b: u64) -> u64
-    ensures { result ≡ a - b }
-{
-    if b <= a { a - b } else { 0 }
 }
 
 // d + 2^31.
 fn biased(d: i32) -> u64
     ensures { pos result ≡ d +ℤ pos (2 ^ 31) }
 {
-    if d >= 0 {
-        return MIDDLE + ((d as u32) as u64);
-    }
-    MIDDLE - 1 - (((!d) as u32) as u64)
+    (i64::from(d) + MIDDLE as i64) as u64
 }
 
 // n − 2^31.
@@ -47,12 +37,7 @@ fn unbiased(n: u64) -> i32
     requires { n < 2 ^ 32 }
     ensures { result ≡ sub_ℕ n (2 ^ 31) }
 {
-    if n < MIDDLE {
-        let k = (n + MIDDLE) as u32;
-        return endian::i32_of_bits(k);
-    }
-    let k = (n - MIDDLE) as u32;
-    endian::i32_of_bits(k)
+    (n as i64 - MIDDLE as i64) as i32
 }
 
 // The distance of the sample at a buffer index.
@@ -60,7 +45,7 @@ pub fn distance(index: usize) -> i32
     requires { index < 2 ^ 31 }
     ensures { result ≡ pos index }
 {
-    endian::i32_of_bits(index as u32)
+    index as i32
 }
 
 // Whether two starts are under 0.3 s apart: 0.3 × rate samples are not rounded, so a distance is under them where it is under the next whole number.
@@ -68,9 +53,7 @@ fn same_burst(rate: u32, a: u64, b: u64) -> bool
     ensures { result ≡ close rate a b }
 {
     let limit = (3 * (rate as u64) + 9) / 10;
-    let ahead = minus(a, b) < limit;
-    let behind = minus(b, a) < limit;
-    ahead & behind
+    a.abs_diff(b) < limit
 }
 
 // Whether the distance x is under 0.3 s from one of the first n.
@@ -79,55 +62,45 @@ pub fn near(rate: u32, starts: &[i32], n: usize, x: i32) -> bool
     ensures { result ≡ near_one rate (take n starts.now) x }
 {
     let at = biased(x);
-    let mut i: usize = 0;
-    while i < n {
-        if same_burst(rate, biased(starts[i]), at) {
+    for d in &starts[..n] {
+        if same_burst(rate, biased(*d), at) {
             return true;
         }
-        i += 1;
     }
     false
 }
 
 // One start more; the places behind it stay as they are.
-pub fn remember(s: Starts, x: i32) -> Starts
-    requires { s.count < most_starts }
-    ensures { result ≡ over s (distances s ++ (x ∷ [])) }
+pub fn remember(s: &mut Starts, x: i32)
+    requires { s.old.count < most_starts }
+    ensures { s.new ≡ over s.old (distances s.old ++ (x ∷ [])) }
 {
-    let mut t = s;
-    let n = t.count;
-    t.at[n] = x;
-    t.count = n + 1;
-    t
+    let n = s.count;
+    s.at[n] = x;
+    s.count = n + 1;
 }
 
 // The start x behind those of s, where it is not below −back.
-fn keep(s: Starts, x: i32, back: u32) -> Starts
-    requires { s.count < most_starts }
-    ensures { result ≡ over s (distances s ++ lately back (x ∷ [])) }
+fn keep(s: &mut Starts, x: i32, back: u32)
+    requires { s.old.count < most_starts }
+    ensures { s.new ≡ over s.old (distances s.old ++ lately back (x ∷ [])) }
 {
-    if biased(x) + (back as u64) < MIDDLE {
-        return s;
+    if MIDDLE <= biased(x) + (back as u64) {
+        remember(s, x);
     }
-    remember(s, x)
 }
 
 // The starts below −back are forgotten, the others stay in order (`retain`); the places behind them stay as they are.
-pub fn forget(s: Starts, back: u32) -> Starts
-    requires { s.count ≤ most_starts }
-    ensures { result ≡ over s (lately back (distances s)) }
+pub fn forget(s: &mut Starts, back: u32)
+    requires { s.old.count ≤ most_starts }
+    ensures { s.new ≡ over s.old (lately back (distances s.old)) }
 {
     let old = s.at;
     let n = s.count;
-    let mut t = s;
-    t.count = 0;
-    let mut i: usize = 0;
-    while i < n {
-        let k = keep(t, old[i], back);
-        t = k;
-        i += 1;
+    s.count = 0;
+    for x in &old[..n] {
+        keep(s, *x, back);
     }
-    t
 }
 
 // A distance after the first held sample moved on by `by`.
@@ -139,18 +112,14 @@ fn less(d: i32, by: u64) -> i32
 }
 
 // The starts after the first held sample moved on by `by`.
-pub fn shift(s: Starts, by: u64) -> Starts
-    requires { (s.count ≤ most_starts) × (by ≤ 2 ^ 30) × (all_from (2 ^ 30) (distances s) ≡ true) }
-    ensures { result ≡ over s (moved by (distances s)) }
+pub fn shift(s: &mut Starts, by: u64)
+    requires { (s.old.count ≤ most_starts) × (by ≤ 2 ^ 30) × (all_from (2 ^ 30) (distances s.old) ≡ true) }
+    ensures { s.new ≡ over s.old (moved by (distances s.old)) }
 {
     let n = s.count;
-    let mut t = s;
-    let mut i: usize = 0;
-    while i < n {
-        t.at[i] = less(s.at[i], by);
-        i += 1;
+    for x in s.at[..n].iter_mut() {
+        *x = less(*x, by);
     }
-    t
 }
 
 // No start.
@@ -158,87 +127,73 @@ pub fn none() -> Starts
     ensures { result ≡ none }
 {
     Starts {
-        at: [0i32; 96],
+        at: [0i32; MOST_STARTS],
         count: 0,
     }
 }
 
 // The starts of s in the first places of another array, whose other places stay as they are.
-pub fn over(old: Starts, s: Starts) -> Starts
-    requires { s.count ≤ most_starts }
-    ensures { result ≡ over old (distances s) }
+pub fn over(old: &mut Starts, s: &Starts)
+    requires { s.now.count ≤ most_starts }
+    ensures { old.new ≡ over old.old (distances s.now) }
 {
     let n = s.count;
-    let mut t = old;
-    let mut i: usize = 0;
-    while i < n {
-        t.at[i] = s.at[i];
-        i += 1;
-    }
-    t.count = n;
-    t
+    old.at[..n].copy_from_slice(&s.at[..n]);
+    old.count = n;
 }
 
-// Whether the first n starts are all below the end of the held samples.
-fn all_below(starts: &[i32], n: usize, held: u64) -> bool
-    requires { (n ≤ length starts.now) × (held ≤ longest_stream) }
-    ensures { result ≡ all_below held (take n starts.now) }
+// Whether the starts are all below the end of the held samples.
+fn all_below(starts: &[i32], held: u64) -> bool
+    requires { held ≤ longest_stream }
+    ensures { result ≡ all_below held starts.now }
 {
     let end = MIDDLE + held;
-    let mut i: usize = 0;
-    while i < n {
-        if end <= biased(starts[i]) {
+    for d in starts {
+        if end <= biased(*d) {
             return false;
         }
-        i += 1;
     }
     true
 }
 
-// Whether none of the first n starts is below −back.
-fn all_from(starts: &[i32], n: usize, back: u64) -> bool
-    requires { n ≤ length starts.now }
-    ensures { result ≡ all_from back (take n starts.now) }
+// Whether none of the starts is below −back.
+fn all_from(starts: &[i32], back: u64) -> bool
+    ensures { result ≡ all_from back starts.now }
 {
-    let oldest = minus(MIDDLE, back);
-    let mut i: usize = 0;
-    while i < n {
-        if biased(starts[i]) < oldest {
+    let oldest = MIDDLE.saturating_sub(back);
+    for d in starts {
+        if biased(*d) < oldest {
             return false;
         }
-        i += 1;
     }
     true
 }
 
-// Whether the first n starts are pairwise at least 0.3 s apart.
-fn apart(rate: u32, starts: &[i32], n: usize) -> bool
-    requires { n ≤ length starts.now }
-    ensures { result ≡ all_apart rate [] (take n starts.now) }
+// Whether the starts are pairwise at least 0.3 s apart.
+fn apart(rate: u32, starts: &[i32]) -> bool
+    ensures { result ≡ all_apart rate [] starts.now }
 {
-    let mut i: usize = 0;
-    while i < n {
-        if near(rate, starts, i, starts[i]) {
+    for (i, d) in starts.iter().enumerate() {
+        if near(rate, starts, i, *d) {
             return false;
         }
-        i += 1;
     }
     true
 }
 
 // What 01 and 02 ask of the starts of a state in order.
-pub fn in_order(s: Starts, rate: u32, base: u64, held: usize) -> bool
+pub fn in_order(s: &Starts, rate: u32, base: u64, held: usize) -> bool
     requires { held ≤ longest_stream }
-    ensures { result ≡ starts_ok rate base held s }
+    ensures { result ≡ starts_ok rate base held s.now }
 {
     let n = s.count;
     if MOST_STARTS < n {
         return false;
     }
-    let at = s.at;
-    let low = all_below(&at, n, held as u64);
-    let recent = all_from(&at, n, OLDEST_S * (rate as u64));
-    let real = all_from(&at, n, base);
-    let separate = apart(rate, &at, n);
+    let at = &s.at[..n];
+    let low = all_below(at, held as u64);
+    let recent = all_from(at, OLDEST_S * (rate as u64));
+    let real = all_from(at, base);
+    let separate = apart(rate, at);
     low & (recent & (real & separate))
 }

@@ -1,4 +1,5 @@
 -- Open messages in an array, on plain lists. Assumes nothing.
+use Rattle.std.proofs.Common.{None}
 use mathlib.Core.Bool.{Bool, ◌&&◌, ◌||◌, false, true}
 use mathlib.Core.List.{List, [], ◌++◌, ◌∷◌, append-nil, map}
 use mathlib.Core.Logic.{◌⊎◌, inl, inr, ⊎_elim}
@@ -11,7 +12,8 @@ use lib.Dec.{eqb}
 use lib.Ieee.{Float, binary32, binary64, nan, of_bits, of_int, round}
 use lib.IntN.{pos}
 use lib.ListN.{drop, get_or, length, length-append, set, take}
-use lib.Seq.{get_or-take, length-take-le, slice, slice-cons, slice_empty, take-append_seam, take-set-lt, take-suc}
+use lib.Seq.{drop-cons, drop-length, get_or-take, length-take-le, take-append_seam, take-length, take-set-lt, take-suc}
+use Rattle.std.specs.List.{list_any}
 use borrow.Author.Tests.{eq-eqb, eqb-false, eqb-true, le-leb, lt-leb, ne_eqb}
 use Rattle.floats.specs.Number.{num}
 use Rattle.ledger.specs.Causes.{all_fit, any_nan, entry_fits, entry_nan, most_waiting, unlike, waits}
@@ -27,8 +29,6 @@ use Rattle.receiver_waiting.specs.Waiting.{Checked, Counters, Seen, any_expires,
 use Rattle.ledger.specs.declared.Pending.{Pending}
 use Rattle.frame.specs.declared.UplinkFrame.{UplinkFrame}
 use Rattle.record.specs.declared.Reception.{Reception}
-use Rattle.frame.specs.declared.SingleBit.TheVariants.{Absent}
-use Rattle.record.specs.declared.FirstFrameEnd.TheVariants.{Known}
 use Rattle.receiver_waiting.specs.declared.Waiting.{Waiting}
 use Rattle.receiver_waiting.specs.declared.Looked.{Looked}
 use Rattle.receiver_waiting.specs.declared.Condition.{Condition}
@@ -47,13 +47,13 @@ outside-message =
             counter = 0;
             payload = [];
             payload_len = 0;
-            bit = Absent;
+            bit = None;
             downlink = false;
             control = false;
             auth = [];
             auth_len = 0;
             time = nan;
-            first_frame_end = Known nan;
+            first_frame_end = None;
             rssi = nan;
             spans = [];
             clock_error_ppm = pos 0;
@@ -65,18 +65,18 @@ outside-message =
 
 -- ---- a search
 
-module _ (l : List Pending) (n i d c : ℕ) (z : Pending) (here : i < n) (fits : n ≤ length l) where
-  pub find_hit : key_is d c (get_or l i z) ≡ true → find_key d c (slice i n l) ≡ 0
+module _ (l : List Pending) (i d c : ℕ) (z : Pending) (here : i < length l) where
+  pub find_hit : key_is d c (get_or l i z) ≡ true → find_key d c (drop i l) ≡ 0
   unfolding find_key
-  find_hit e = rw (slice-cons i n l z here fits, e) refl
+  find_hit e = rw (drop-cons l i z here, e) refl
 
-  pub find_miss : key_is d c (get_or l i z) ≡ false → find_key d c (slice i n l) ≡ suc (find_key d c (slice (i + 1) n l))
+  pub find_miss : key_is d c (get_or l i z) ≡ false → find_key d c (drop i l) ≡ suc (find_key d c (drop (i + 1) l))
   unfolding find_key
-  find_miss e = rw (slice-cons i n l z here fits, e, add-one) refl
+  find_miss e = rw (drop-cons l i z here, e, add-one) refl
 
-pub find_none : (l : List Pending) (n d c : ℕ) → find_key d c (slice n n l) ≡ 0
+pub find_none : (l : List Pending) (d c : ℕ) → find_key d c (drop (length l) l) ≡ 0
 unfolding find_key
-find_none l n d c = rw (slice_empty n l) refl
+find_none l d c = rw (drop-length l) refl
 
 -- ---- a frame joins
 
@@ -134,14 +134,14 @@ joined-few w t f e =
 
 -- ---- the end of a call
 
-module _ (l : List Pending) (n i : ℕ) (now : Float) (z : Pending) (here : i < n) (fits : n ≤ length l) where
-  pub expires_hit : expires now (get_or l i z) ≡ true → any_expires now (slice i n l) ≡ true
+module _ (l : List Pending) (i : ℕ) (now : Float) (z : Pending) (here : i < length l) where
+  pub expires_hit : expires now (get_or l i z) ≡ true → any_expires now (drop i l) ≡ true
   unfolding any_expires
-  expires_hit e = rw (slice-cons i n l z here fits, e) refl
+  expires_hit e = rw (drop-cons l i z here, e) refl
 
-  pub expires_miss : expires now (get_or l i z) ≡ false → any_expires now (slice i n l) ≡ any_expires now (slice (i + 1) n l)
+  pub expires_miss : expires now (get_or l i z) ≡ false → any_expires now (drop i l) ≡ any_expires now (drop (i + 1) l)
   unfolding any_expires
-  expires_miss e = rw (slice-cons i n l z here fits, e, add-one) refl
+  expires_miss e = rw (drop-cons l i z here, e, add-one) refl
 
 -- a push keeps every message where none is complete
 pub none_expires : (now : Float) (l : List Pending) → any_expires now l ≡ false → (chosen (leaves false now) l ≡ []) × (others (leaves false now) l ≡ l)
@@ -185,12 +185,12 @@ pub keep_none : (p : Pending → Bool) (ms old : List Pending) → Kept p ms old
 unfolding others
 keep_none p ms old = record { count = refl; places = refl }
 
-pub keep_all : (p : Pending → Bool) (ms : List Pending) (old : Waiting) (t : List Pending) (i n k : ℕ) → i ≡ n → Kept p ms old.messages t i k
-    → ◌≡◌ {A = Waiting} (record { messages = t; count = k }) (over old (others p (take n ms)))
+pub keep_all : (p : Pending → Bool) (ms : List Pending) (old : Waiting) (t : List Pending) (i k : ℕ) → i ≡ length ms → Kept p ms old.messages t i k
+    → ◌≡◌ {A = Waiting} (record { messages = t; count = k }) (over old (others p ms))
 unfolding over
-keep_all p ms old t i n k e s =
-    let c : length (others p (take n ms)) ≡ k = (rw e at s.count) in
-    let q : t ≡ others p (take n ms) ++ drop k old.messages = (rw e at s.places) in
+keep_all p ms old t i k e s =
+    let c : length (others p ms) ≡ k = (rw (e, take-length ms) at s.count) in
+    let q : t ≡ others p ms ++ drop k old.messages = (rw (e, take-length ms) at s.places) in
     rw (c, q) refl
 
 -- ---- one look at every message
@@ -231,53 +231,50 @@ or_false : (a : Bool) → a || false ≡ a
 or_false true = refl
 or_false false = refl
 
-module _ (l : List Pending) (n i : ℕ) (z : Pending) (here : i < n) (fits : n ≤ length l) (b r w : Bool) where
-  pub fit-turn : r ≡ entry_fits (get_or l i z) → b && all_fit by_entry (slice i n l) ≡ w → (b && r) && all_fit by_entry (slice (i + 1) n l) ≡ w
+module _ (l : List Pending) (i : ℕ) (z : Pending) (here : i < length l) (b r w : Bool) where
+  pub fit-turn : r ≡ entry_fits (get_or l i z) → b && all_fit by_entry (drop i l) ≡ w → (b && r) && all_fit by_entry (drop (i + 1) l) ≡ w
   unfolding all_fit
   fit-turn e p =
-      rw (e, add-one) (and_assoc b (entry_fits (get_or l i z)) (all_fit by_entry (slice (suc i) n l)) ∙ (rw (slice-cons i n l z here fits) at p))
+      rw (e, add-one) (and_assoc b (entry_fits (get_or l i z)) (all_fit by_entry (drop (suc i) l)) ∙ (rw (drop-cons l i z here) at p))
 
-  pub nan-turn : r ≡ entry_nan (get_or l i z) → b || any_nan by_entry (slice i n l) ≡ w → (b || r) || any_nan by_entry (slice (i + 1) n l) ≡ w
+  pub nan-turn : r ≡ entry_nan (get_or l i z) → b || any_nan by_entry (drop i l) ≡ w → (b || r) || any_nan by_entry (drop (i + 1) l) ≡ w
   unfolding any_nan
   nan-turn e p =
-      rw (e, add-one) (or_assoc b (entry_nan (get_or l i z)) (any_nan by_entry (slice (suc i) n l)) ∙ (rw (slice-cons i n l z here fits) at p))
+      rw (e, add-one) (or_assoc b (entry_nan (get_or l i z)) (any_nan by_entry (drop (suc i) l)) ∙ (rw (drop-cons l i z here) at p))
 
-  pub expires-turn : (now : Float) → r ≡ expires now (get_or l i z) → b || any_expires now (slice i n l) ≡ w → (b || r) || any_expires now (slice (i + 1) n l) ≡ w
+  pub expires-turn : (now : Float) → r ≡ expires now (get_or l i z) → b || any_expires now (drop i l) ≡ w → (b || r) || any_expires now (drop (i + 1) l) ≡ w
   unfolding any_expires
   expires-turn now e p =
-      rw (e, add-one) (or_assoc b (expires now (get_or l i z)) (any_expires now (slice (suc i) n l)) ∙ (rw (slice-cons i n l z here fits) at p))
+      rw (e, add-one) (or_assoc b (expires now (get_or l i z)) (any_expires now (drop (suc i) l)) ∙ (rw (drop-cons l i z here) at p))
 
-pub seen_is : (l : List Pending) (now : Float) (r : Looked) (n i : ℕ) → i ≡ n → n ≤ length l → take i r.keys ≡ map key_number (take i l) → Counters (take i l)
-    → r.fit && all_fit by_entry (slice i n l) ≡ all_fit by_entry (take n l) → r.nan || any_nan by_entry (slice i n l) ≡ any_nan by_entry (take n l)
-    → r.expires || any_expires now (slice i n l) ≡ any_expires now (take n l) → Seen (take n l) now r
+pub seen_is : (l : List Pending) (now : Float) (r : Looked) (i : ℕ) → i ≡ length l → take i r.keys ≡ map key_number (take i l) → Counters (take i l)
+    → r.fit && all_fit by_entry (drop i l) ≡ all_fit by_entry l → r.nan || any_nan by_entry (drop i l) ≡ any_nan by_entry l
+    → r.expires || any_expires now (drop i l) ≡ any_expires now l → Seen l now r
 unfolding all_fit any_nan any_expires
-seen_is l now r n i e h k c f a x =
+seen_is l now r i e k c f a x =
     record {
-      keys = rw (length-take-le n l h) (rw e at k);
-      counters = rw e at c;
-      fit = sym (and_true r.fit) ∙ (rw (e, slice_empty n l) at f);
-      nan = sym (or_false r.nan) ∙ (rw (e, slice_empty n l) at a);
-      expires = sym (or_false r.expires) ∙ (rw (e, slice_empty n l) at x);
+      keys = rw (e, take-length l) at k;
+      counters = rw (e, take-length l) at c;
+      fit = sym (and_true r.fit) ∙ (rw (e, drop-length l) at f);
+      nan = sym (or_false r.nan) ∙ (rw (e, drop-length l) at a);
+      expires = sym (or_false r.expires) ∙ (rw (e, drop-length l) at x);
     }
 
 -- ---- keys
 
-module _ (l : List ℕ) (n i : ℕ) (here : i < n) (fits : n ≤ length l) where
-  pub in_hit : (k : ℕ) → get_or l i 0 ≡ k → number_in k (slice i n l) ≡ true
-  unfolding number_in
-  in_hit k e = rw (slice-cons i n l 0 here fits, eq-eqb (get_or l i 0) k e) refl
+pub number_in_is : (k : ℕ) (l : List ℕ) → list_any (λ y. eqb y k) l ≡ number_in k l
+unfolding number_in
+number_in_is k [] = refl
+number_in_is k (x ∷ l) = ap (λ b. eqb x k || b) (number_in_is k l)
 
-  pub in_miss : (k : ℕ) → (get_or l i 0 ≡ k → ⊥) → number_in k (slice i n l) ≡ number_in k (slice (i + 1) n l)
-  unfolding number_in
-  in_miss k e = rw (slice-cons i n l 0 here fits, ne_eqb (get_or l i 0) k e, add-one) refl
-
-  pub distinct_not : number_in (get_or l i 0) (slice (i + 1) n l) ≡ true → distinct (slice i n l) ≡ false
+module _ (l : List ℕ) (i : ℕ) (here : i < length l) where
+  pub distinct_not : number_in (get_or l i 0) (drop (i + 1) l) ≡ true → distinct (drop i l) ≡ false
   unfolding distinct
-  distinct_not e = let q : number_in (get_or l i 0) (slice (suc i) n l) ≡ true = (rw add-one at e) in rw (slice-cons i n l 0 here fits, q) refl
+  distinct_not e = let q : number_in (get_or l i 0) (drop (suc i) l) ≡ true = (rw add-one at e) in rw (drop-cons l i 0 here, q) refl
 
-  pub distinct_more : number_in (get_or l i 0) (slice (i + 1) n l) ≡ false → distinct (slice i n l) ≡ distinct (slice (i + 1) n l)
+  pub distinct_more : number_in (get_or l i 0) (drop (i + 1) l) ≡ false → distinct (drop i l) ≡ distinct (drop (i + 1) l)
   unfolding distinct
-  distinct_more e = let q : number_in (get_or l i 0) (slice (suc i) n l) ≡ false = (rw add-one at e) in rw (slice-cons i n l 0 here fits, q, add-one) refl
+  distinct_more e = let q : number_in (get_or l i 0) (drop (suc i) l) ≡ false = (rw add-one at e) in rw (drop-cons l i 0 here, q, add-one) refl
 
 same_number : (d c e b : ℕ) → c < 65536 → b < 65536 → eqb d e && eqb c b ≡ eqb (d * 65536 + c) (e * 65536 + b)
 same_number d c e b hc hb =

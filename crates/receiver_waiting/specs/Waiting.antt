@@ -1,5 +1,5 @@
 -- What an array of open messages stands for, and 01's order of a state as far as its messages go. Assumes nothing.
-use Rattle.std.specs.Prelude.{◌≡◌, List, [], ◌∷◌, ◌++◌, map, Bool, true, false, not, ◌&&◌, ◌||◌, cond, ℕ, suc, ◌+◌, ◌*◌, ◌<◌, length, take, drop, replicate, leb, eqb, pos, Float}
+use Rattle.std.specs.Prelude.{◌≡◌, List, [], ◌∷◌, ◌++◌, map, Bool, true, false, not, ◌&&◌, ◌||◌, cond, ℕ, suc, ◌+◌, ◌*◌, ◌<◌, length, take, drop, replicate, leb, eqb, pos, Float, None}
 use Rattle.floats.specs.Number.{num}
 use Rattle.ledger.specs.Merge.{expires}
 use Rattle.ledger.specs.Ledger.{by_entry}
@@ -7,8 +7,6 @@ use Rattle.ledger.specs.Causes.{most_waiting, unlike, all_fit, any_nan}
 use Rattle.ledger.specs.Room.{open_places}
 use Rattle.ledger.specs.declared.Pending.{Pending}
 use Rattle.record.specs.declared.FrameSpan.{FrameSpan}
-use Rattle.frame.specs.declared.SingleBit.TheVariants.{Absent}
-use Rattle.record.specs.declared.FirstFrameEnd.TheVariants.{Unknown}
 use Rattle.receiver_waiting.specs.declared.Waiting.{Waiting}
 use Rattle.receiver_waiting.specs.declared.Looked.{Looked}
 use Rattle.receiver_waiting.specs.declared.Condition.{Condition}
@@ -48,13 +46,13 @@ blank =
             counter = 0;
             payload = replicate 12 0;
             payload_len = 0;
-            bit = Absent;
+            bit = None;
             downlink = false;
             control = false;
             auth = replicate 5 0;
             auth_len = 0;
             time = num 0;
-            first_frame_end = Unknown;
+            first_frame_end = None;
             rssi = num 0;
             spans = blank_span ∷ blank_span ∷ blank_span ∷ [];
             clock_error_ppm = pos 0;

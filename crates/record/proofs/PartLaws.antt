@@ -2,11 +2,11 @@
 use mathlib.Core.Path.{◌≡◌, refl, sym, ap, ap₂, ◌∙◌}
 use mathlib.Core.Bool.{Bool, true, false, cond}
 use mathlib.Core.List.{List, [], ◌∷◌, ◌++◌, append_assoc, append-nil}
-use Prim.Native.Nat.{ℕ, suc, ◌+◌, ◌-◌, ◌/◌, ◌%◌, ◌≤◌, ◌<◌}
-use native.Mathlib.Nat.{sub-zero, min-le_right}
+use Prim.Native.Nat.{ℕ, ◌+◌, ◌-◌, ◌/◌, ◌%◌, ◌≤◌, ◌<◌}
+use native.Mathlib.Nat.{min-le_right}
 use native.Mathlib.Omega.{arith}
 use lib.Dec.{eqb}
-use lib.ListN.{length, take, set, length-append, length-replicate, length-take}
+use lib.ListN.{length, take, length-append, length-replicate, length-take}
 use lib.Seq.{sets, length-sets, take_all, length-take-le}
 use borrow.Author.Tests.{eq-eqb, ne_eqb}
 use lib.IntN.{ℤ}
@@ -27,23 +27,6 @@ follow l at a o b o' k e f g = f ∙ ap (λ (x : List ℕ). sets x k b) e ∙ se
 -- writing keeps the length
 pub kept : (o l : List ℕ) (k : ℕ) (p : List ℕ) → o ≡ sets l k p → length o ≡ length l
 kept o l k p e = ap length e ∙ length-sets l k p
-
--- ---- zeros, one by one
-
-module _ (l : List ℕ) (at n i : ℕ) where
-  abbrev pub zeros_left : List ℕ
-  zeros_left = sets l (at + i) (spare (n - i))
-
-  pub spare-step : i < n → sets (set l (at + i) 0) (at + (i + 1)) (spare (n - (i + 1))) ≡ zeros_left
-  spare-step h =
-      ap (λ (k : ℕ). sets (set l (at + i) 0) k (spare (n - (i + 1)))) (let e : at + (i + 1) ≡ suc (at + i) = omega arith in e)
-      ∙ sym (ap (λ (k : ℕ). sets l (at + i) (spare k)) (let e : n - i ≡ suc (n - (i + 1)) = omega arith in e))
-
-  pub spare_end : n ≤ i → zeros_left ≡ l
-  spare_end h = ap (λ (k : ℕ). sets l (at + i) (spare k)) (let e : n - i ≡ 0 = omega arith in e)
-
-pub spare_start : (l : List ℕ) (at n : ℕ) → sets l (at + 0) (spare (n - 0)) ≡ sets l at (spare n)
-spare_start l at n = ap (λ (k : ℕ). sets l k (spare (n - 0))) (let e : at + 0 ≡ at = omega arith in e) ∙ ap (λ (k : ℕ). sets l at (spare k)) (sub-zero n)
 
 -- ---- an array of which the first bytes count
 

@@ -1,12 +1,12 @@
 -- What the C function answers and leaves in its record (01: '0 and the record (clock, RSSI, times and start 0), 255 and nothing written for no frame, or a refusal'). Assumes nothing.
-use Rattle.std.specs.Prelude.{ℕ, cond, List, ltb, length, pos}
+use Rattle.std.specs.Prelude.{ℕ, cond, List, ltb, length, pos, Option, None, Some}
 use Rattle.std.proofs.lemmas.List.Edits.{sets}
 use Rattle.std.specs.Float.{binary32, binary64}
 use Rattle.std.specs.Float.Ieee.{of_bits}
 use Rattle.limits.specs.Limits.{short, record_size}
-use Rattle.frame.specs.Decode.{number_of, uplink_answer}
-use Rattle.frame.specs.declared.Outcome.{Outcome}
-use Rattle.frame.specs.declared.Outcome.TheVariants.{Refused, Nothing, Frame}
+use Rattle.limits.specs.Answer.{Answer, refused, accepted}
+use Rattle.frame.specs.Decode.{uplink_answer}
+use Rattle.frame.specs.declared.UplinkFrame.{UplinkFrame}
 use Rattle.record.specs.Record.{frame_record}
 use Rattle.record.specs.declared.Reception.{Reception}
 
@@ -14,15 +14,20 @@ use Rattle.record.specs.declared.Reception.{Reception}
 abbrev pub unheard : Reception
 unheard = record { clock_error_ppm = pos 0; rssi = of_bits binary32 0; time = of_bits binary64 0; end = of_bits binary64 0; start = 0; depth = 0 }
 
-unfoldable pub decode_number : List ℕ → List ℕ → ℕ
-decode_number bits out = cond (ltb (length out) record_size) short (number_of (uplink_answer bits).outcome)
+-- the number that C is told of an answer: 0 with a frame, 255 for no frame, or a refusal's
+abbrev pub number_of : Answer (Option UplinkFrame) → ℕ
+number_of (refused n) = n
+number_of (accepted None) = 255
+number_of (accepted (Some f)) = 0
 
--- a list by an outcome: written where there is a frame
-abbrev pub by_outcome : Outcome → List ℕ → List ℕ → List ℕ
-by_outcome (Refused n) written was = was
-by_outcome Nothing written was = was
-by_outcome Frame written was = written
+unfoldable pub decode_number : List ℕ → List ℕ → ℕ
+decode_number bits out = cond (ltb (length out) record_size) short (number_of (uplink_answer bits))
+
+-- the record after it: written where there is a frame
+abbrev pub record_by : Answer (Option UplinkFrame) → List ℕ → List ℕ
+record_by (refused n) was = was
+record_by (accepted None) was = was
+record_by (accepted (Some f)) was = sets was 0 (frame_record f unheard)
 
 unfoldable pub decode_record : List ℕ → List ℕ → List ℕ
-decode_record bits out =
-    cond (ltb (length out) record_size) out (by_outcome (uplink_answer bits).outcome (sets out 0 (frame_record (uplink_answer bits).frame unheard)) out)
+decode_record bits out = cond (ltb (length out) record_size) out (record_by (uplink_answer bits) out)

@@ -1,18 +1,14 @@
 -- The 120-byte event record, by 01's table: little-endian, spare bytes 0. A frame's and a message's are the same seven parts. Assumes nothing.
-use Rattle.std.specs.Prelude.{ℕ, ◌+◌, Bool, cond, List, ◌∷◌, ◌++◌, eqb, length, take, replicate, get_or, ℤ, Float}
+use Rattle.std.specs.Prelude.{ℕ, ◌+◌, Bool, cond, List, ◌∷◌, ◌++◌, eqb, length, take, replicate, get_or, ℤ, Float, Option, None, Some}
 use Rattle.std.specs.Float.{nan, binary32, binary64}
 use Rattle.std.specs.Float.Ieee.{of_bits}
 use Rattle.endian.specs.Bytes.{bytes_of, bits_of, signed_bits}
 use Rattle.frame.specs.Fields.{padded}
 use Rattle.frame.specs.declared.Repair.{Repair}
-use Rattle.frame.specs.declared.Repair.TheVariants.{Unchanged, Inserted, Deleted, Flipped}
-use Rattle.frame.specs.declared.SingleBit.{SingleBit}
-use Rattle.frame.specs.declared.SingleBit.TheVariants.{Absent, Is}
+use Rattle.frame.specs.declared.Repair.TheVariants.{Inserted, Deleted, Flipped}
 use Rattle.frame.specs.declared.UplinkFrame.{UplinkFrame}
 use Rattle.record.specs.declared.Reception.{Reception}
 use Rattle.record.specs.declared.FrameSpan.{FrameSpan}
-use Rattle.record.specs.declared.FirstFrameEnd.{FirstFrameEnd}
-use Rattle.record.specs.declared.FirstFrameEnd.TheVariants.{Known, Unknown}
 use Rattle.record.specs.declared.SigfoxMessage.{SigfoxMessage}
 use Rattle.record.specs.declared.parts.Head.{Head}
 use Rattle.record.specs.declared.parts.Marks.{Marks}
@@ -36,13 +32,13 @@ message_kind = 2
 abbrev pub flag : ℕ → Bool → ℕ
 flag w b = cond b w 0
 
-abbrev pub bit_flags : SingleBit → ℕ
-bit_flags Absent = 0
-bit_flags (Is b) = 8 + flag 16 b
+abbrev pub bit_flags : Option Bool → ℕ
+bit_flags None = 0
+bit_flags (Some b) = 8 + flag 16 b
 
-abbrev pub known_flag : FirstFrameEnd → ℕ
-known_flag (Known t) = 32
-known_flag Unknown = 0
+abbrev pub known_flag : Option Float → ℕ
+known_flag (Some t) = 32
+known_flag None = 0
 
 abbrev pub frame_flags : UplinkFrame → ℕ
 frame_flags f = flag 1 f.downlink + flag 2 f.control + flag 4 f.crc_ok + bit_flags f.bit
@@ -52,17 +48,17 @@ abbrev pub message_flags : SigfoxMessage → ℕ
 message_flags m = flag 1 m.downlink + flag 2 m.control + 4 + bit_flags m.bit + known_flag m.first_frame_end
 
 -- byte 5: repair 0 none, 1 inserted false, 2 inserted true, 3 deleted, 4 flipped; 6-7: its place
-abbrev pub repair_number : Repair → ℕ
-repair_number Unchanged = 0
-repair_number (Inserted b i) = cond b 2 1
-repair_number (Deleted i) = 3
-repair_number (Flipped i) = 4
+abbrev pub repair_number : Option Repair → ℕ
+repair_number None = 0
+repair_number (Some (Inserted b i)) = cond b 2 1
+repair_number (Some (Deleted i)) = 3
+repair_number (Some (Flipped i)) = 4
 
-abbrev pub repair_place : Repair → ℕ
-repair_place Unchanged = 0
-repair_place (Inserted b i) = i
-repair_place (Deleted i) = i
-repair_place (Flipped i) = i
+abbrev pub repair_place : Option Repair → ℕ
+repair_place None = 0
+repair_place (Some (Inserted b i)) = i
+repair_place (Some (Deleted i)) = i
+repair_place (Some (Flipped i)) = i
 
 -- byte 1 of a message: sum of 1, 2, 4 for ranks 0, 1, 2; 255 is no span
 abbrev pub no_rank : ℕ
@@ -107,9 +103,9 @@ rank_bytes a b c = a ∷ b ∷ c ∷ spare 1
 unfoldable pub time_bytes : Float → Float → List ℕ
 time_bytes time end = bytes_of 8 (bits_of binary64 time) ++ bytes_of 8 (bits_of binary64 end)
 
-abbrev pub end_of : FirstFrameEnd → Float
-end_of (Known t) = t
-end_of Unknown = of_bits binary64 0
+abbrev pub end_of : Option Float → Float
+end_of (Some t) = t
+end_of None = of_bits binary64 0
 
 -- 64-111: three spans; 'unused spans are 0'
 unfoldable pub span_bytes : FrameSpan → List ℕ

@@ -2,8 +2,7 @@
 ghost use Rattle.std.specs.Prelude.{◌≡◌, cond, ◌+◌, ◌≤◌, ◌<◌};
 ghost use Rattle.record.specs.Record.{flag, bit_flags, known_flag, rank_bit, repair_number, repair_place, end_of};
 
-use crate::FirstFrameEnd;
-use frame::{Repair, SingleBit};
+use frame::Repair;
 
 fn flag_if(w: u8, b: bool) -> u8
     ensures { (result ≡ flag w b) × (result ≤ w) }
@@ -11,33 +10,33 @@ fn flag_if(w: u8, b: bool) -> u8
     if b { w } else { 0 }
 }
 
-fn bit_flags(bit: SingleBit) -> u8
+fn bit_flags(bit: Option<bool>) -> u8
     ensures { (result ≡ bit_flags bit) × (result ≤ 24) }
 {
     match bit {
-        SingleBit::Absent => 0,
-        SingleBit::Is(b) => if b { 24 } else { 8 },
+        None => 0,
+        Some(b) => if b { 24 } else { 8 },
     }
 }
 
-fn known_flag(e: FirstFrameEnd) -> u8
+fn known_flag(e: Option<f64>) -> u8
     ensures { (result ≡ known_flag e) × (result ≤ 32) }
 {
     match e {
-        FirstFrameEnd::Known(_) => 32,
-        FirstFrameEnd::Unknown => 0,
+        Some(_) => 32,
+        None => 0,
     }
 }
 
 // Byte 2 of a frame.
-pub fn frame_flags(downlink: bool, control: bool, ok: bool, bit: SingleBit) -> u8
+pub fn frame_flags(downlink: bool, control: bool, ok: bool, bit: Option<bool>) -> u8
     ensures { result ≡ flag 1 downlink + flag 2 control + flag 4 ok + bit_flags bit }
 {
     flag_if(1, downlink) + flag_if(2, control) + flag_if(4, ok) + bit_flags(bit)
 }
 
 // Byte 2 of a message, whose CRC is right.
-pub fn message_flags(downlink: bool, control: bool, bit: SingleBit, e: FirstFrameEnd) -> u8
+pub fn message_flags(downlink: bool, control: bool, bit: Option<bool>, e: Option<f64>) -> u8
     ensures { result ≡ flag 1 downlink + flag 2 control + 4 + bit_flags bit + known_flag e }
 {
     flag_if(1, downlink) + flag_if(2, control) + 4 + bit_flags(bit) + known_flag(e)
@@ -63,35 +62,35 @@ pub fn mask_of(a: u8, b: u8, c: u8) -> u8
 }
 
 // Byte 5: how a frame was repaired.
-pub fn repair_number(how: Repair) -> u8
+pub fn repair_number(how: Option<Repair>) -> u8
     ensures { result ≡ repair_number how }
 {
     match how {
-        Repair::Unchanged => 0,
-        Repair::Inserted(b, _) => if b { 2 } else { 1 },
-        Repair::Deleted(_) => 3,
-        Repair::Flipped(_) => 4,
+        None => 0,
+        Some(Repair::Inserted(b, _)) => if b { 2 } else { 1 },
+        Some(Repair::Deleted(_)) => 3,
+        Some(Repair::Flipped(_)) => 4,
     }
 }
 
 // Bytes 6 and 7: at which bit.
-pub fn repair_place(how: Repair) -> usize
+pub fn repair_place(how: Option<Repair>) -> usize
     ensures { result ≡ repair_place how }
 {
     match how {
-        Repair::Unchanged => 0,
-        Repair::Inserted(_, i) => i,
-        Repair::Deleted(i) => i,
-        Repair::Flipped(i) => i,
+        None => 0,
+        Some(Repair::Inserted(_, i)) => i,
+        Some(Repair::Deleted(i)) => i,
+        Some(Repair::Flipped(i)) => i,
     }
 }
 
 // Bytes 56 to 63 of a message: the end of its first frame, 0 where it is not known.
-pub fn end_of(e: FirstFrameEnd) -> f64
+pub fn end_of(e: Option<f64>) -> f64
     ensures { result ≡ end_of e }
 {
     match e {
-        FirstFrameEnd::Known(t) => t,
-        FirstFrameEnd::Unknown => 0.0,
+        Some(t) => t,
+        None => 0.0,
     }
 }

@@ -13,8 +13,9 @@ pub mod read; // readers
 pub mod spans; // spans that are handed in
 
 use fields::{end_of, frame_flags, mask_of, message_flags, repair_number, repair_place};
-use frame::{Outcome, SingleBit, UplinkFrame};
-use parts::{Head, Marks, put_front, put_middle, put_spans, put_spare};
+use frame::UplinkFrame;
+use limits::Refusal;
+use parts::{Content, Head, Marks, put_front, put_middle, put_spans, put_spare};
 
 // Byte 0 of a record.
 pub const FRAME: u8 = 1;
@@ -45,26 +46,19 @@ pub struct FrameSpan {
     pub end: f64,
 }
 
-// The end of a message's first frame (receiver.rs, Option<f64>).
-#[derive(Clone, Copy)]
-pub enum FirstFrameEnd {
-    Known(f64),
-    Unknown,
-}
-
 #[derive(Clone, Copy)]
 pub struct SigfoxMessage {
     pub device_id: u32,
     pub counter: u16,
     pub payload: [u8; 12],
     pub payload_len: u8,
-    pub bit: SingleBit,
+    pub bit: Option<bool>,
     pub downlink: bool,
     pub control: bool,
     pub auth: [u8; 5],
     pub auth_len: u8,
     pub time: f64,
-    pub first_frame_end: FirstFrameEnd,
+    pub first_frame_end: Option<f64>,
     pub rssi: f32,
     pub spans: [FrameSpan; 3],
     pub clock_error_ppm: i32,
@@ -96,24 +90,22 @@ pub fn put_frame(f: UplinkFrame, r: Reception, out: &mut [u8], at: usize)
 {
     let payload = f.payload;
     let auth = f.auth;
-    put_front(
-        out,
-        at,
-        frame_head(f),
-        f.device_id,
-        f.counter,
-        &payload,
-        &auth,
-        Marks {
+    let content = Content {
+        device: f.device_id,
+        counter: f.counter,
+        payload,
+        auth,
+        marks: Marks {
             depth: r.depth,
             shift: 0,
         },
-        r.clock_error_ppm,
-        r.rssi,
-    );
+        ppm: r.clock_error_ppm,
+        rssi: r.rssi,
+    };
+    put_front(out, at, frame_head(f), content);
     put_middle(out, at + 44, NO_RANK, NO_RANK, NO_RANK, r.time, r.end);
     put_spare(out, at + 64, 48);
-    endian::put_u64(out, at + 112, r.start);
+    endian::put(out, at + 112, r.start);
 }
 
 fn message_head(m: SigfoxMessage) -> Head
@@ -140,56 +132,57 @@ pub fn put_message(m: SigfoxMessage, mark: u8, out: &mut [u8], at: usize)
     requires { at + record_size ≤ length out.old }
     ensures { out.new ≡ sets out.old at (message_record mark m) }
 {
-    let payload = m.payload;
-    let auth = m.auth;
     let end = m.first_frame_end;
     let a = m.spans[0];
     let b = m.spans[1];
     let c = m.spans[2];
-    put_front(
-        out,
-        at,
-        message_head(m),
-        m.device_id,
-        m.counter,
-        &payload,
-        &auth,
-        Marks {
+    let payload = m.payload;
+    let auth = m.auth;
+    let content = Content {
+        device: m.device_id,
+        counter: m.counter,
+        payload,
+        auth,
+        marks: Marks {
             depth: m.depth,
             shift: mark,
         },
-        m.clock_error_ppm,
-        m.rssi,
-    );
+        ppm: m.clock_error_ppm,
+        rssi: m.rssi,
+    };
+    put_front(out, at, message_head(m), content);
     put_middle(out, at + 44, a.rank, b.rank, c.rank, m.time, end_of(end));
     put_spans(out, at + 64, a, b, c);
-    endian::put_u64(out, at + 112, m.start);
+    endian::put(out, at + 112, m.start);
 }
+
+// What the C function answers where the bits hold no frame.
+const NO_FRAME: u8 = 255;
 
 // Decodes bits, a byte 0 or 1 each, into one record: 0 and the record, 255 and nothing written for no frame, or a refusal.
 pub fn sigfox_decode_bits(bits: &[u8], record: &mut [u8]) -> u8
     ensures { (result ≡ decode_number bits.now «record».old) × («record».new ≡ decode_record bits.now «record».old) }
 {
     if record.len() < limits::RECORD {
-        return limits::SHORT;
+        return u8::from(Refusal::Short);
     }
-    let decoded = frame::decode_uplink_bits(bits);
-    let outcome = decoded.outcome;
-    match outcome {
-        Outcome::Refused(n) => n,
-        Outcome::Nothing => 255,
-        Outcome::Frame => {
-            let heard = Reception {
-                clock_error_ppm: 0,
-                rssi: 0.0,
-                time: 0.0,
-                end: 0.0,
-                start: 0,
-                depth: 0,
-            };
-            let found = decoded.frame;
-            put_frame(found, heard, record, 0);
-            0
+    let found = match frame::decode_uplink_bits(bits) {
+        Err(refusal) => {
+            return u8::from(refusal);
         }
-    }
+        Ok(found) => found,
+    };
+    let Some(f) = found else {
+        return NO_FRAME;
+    };
+    let heard = Reception {
+        clock_error_ppm: 0,
+        rssi: 0.0,
+        time: 0.0,
+        end: 0.0,
+        start: 0,
+        depth: 0,
+    };
+    put_frame(f, heard, record, 0);
+    0
 }

@@ -25,16 +25,24 @@ pub struct Marks {
     pub shift: u8,
 }
 
+// Bytes 8 to 43, besides the lengths of payload and authentication, which the head has.
+#[derive(Clone, Copy)]
+pub struct Content {
+    pub device: u32,
+    pub counter: u16,
+    pub payload: [u8; 12],
+    pub auth: [u8; 5],
+    pub marks: Marks,
+    pub ppm: i32,
+    pub rssi: f32,
+}
+
 // Bytes that mean nothing are 0.
 pub fn put_spare(out: &mut [u8], at: usize, n: usize)
     requires { at + n ≤ length out.old }
     ensures { out.new ≡ sets out.old at (spare n) }
 {
-    let mut i: usize = 0;
-    while i < n {
-        out[at + i] = 0;
-        i += 1;
-    }
+    out[at..at + n].fill(0);
 }
 
 // An array of which `len` bytes count, and 0 in its other places.
@@ -61,7 +69,7 @@ pub fn put_head(out: &mut [u8], at: usize, h: Head)
     put_byte(out, at + 3, h.payload_len);
     put_byte(out, at + 4, h.auth_len);
     put_byte(out, at + 5, h.repair);
-    endian::put_u16(out, at + 6, (h.place % 65536) as u16);
+    endian::put(out, at + 6, (h.place % 65536) as u16);
 }
 
 pub fn put_marks(out: &mut [u8], at: usize, k: Marks)
@@ -74,26 +82,16 @@ pub fn put_marks(out: &mut [u8], at: usize, k: Marks)
 }
 
 // Bytes 8 to 35.
-pub fn put_identity(
-    out: &mut [u8],
-    at: usize,
-    device: u32,
-    counter: u16,
-    payload_len: u8,
-    payload: &[u8],
-    auth_len: u8,
-    auth: &[u8],
-    k: Marks,
-)
-    requires { (at + 28 ≤ length out.old) × (length payload.now ≡ 12) × (length auth.now ≡ 5) }
-    ensures { out.new ≡ sets out.old at (identity_bytes device counter payload_len payload.now auth_len auth.now k) }
+pub fn put_identity(out: &mut [u8], at: usize, h: Head, x: Content)
+    requires { at + 28 ≤ length out.old }
+    ensures { out.new ≡ sets out.old at (identity_bytes x.device x.counter h.payload_len x.payload h.auth_len x.auth x.marks) }
 {
-    endian::put_u32(out, at, device);
-    endian::put_u16(out, at + 4, counter);
+    endian::put(out, at, x.device);
+    endian::put(out, at + 4, x.counter);
     put_spare(out, at + 6, 2);
-    put_up_to(out, at + 8, payload_len as usize, payload);
-    put_up_to(out, at + 20, auth_len as usize, auth);
-    put_marks(out, at + 25, k);
+    put_up_to(out, at + 8, h.payload_len as usize, &x.payload);
+    put_up_to(out, at + 20, h.auth_len as usize, &x.auth);
+    put_marks(out, at + 25, x.marks);
 }
 
 // Bytes 36 to 43.
@@ -101,8 +99,8 @@ pub fn put_levels(out: &mut [u8], at: usize, ppm: i32, rssi: f32)
     requires { at + 8 ≤ length out.old }
     ensures { out.new ≡ sets out.old at (level_bytes ppm rssi) }
 {
-    endian::put_i32(out, at, ppm);
-    endian::put_f32(out, at + 4, rssi);
+    endian::put(out, at, ppm);
+    endian::put(out, at + 4, rssi);
 }
 
 // Bytes 44 to 47: the ranks of the spans.
@@ -121,8 +119,8 @@ pub fn put_times(out: &mut [u8], at: usize, time: f64, end: f64)
     requires { at + 16 ≤ length out.old }
     ensures { out.new ≡ sets out.old at (time_bytes time end) }
 {
-    endian::put_f64(out, at, time);
-    endian::put_f64(out, at + 8, end);
+    endian::put(out, at, time);
+    endian::put(out, at + 8, end);
 }
 
 // A span in its 16 bytes, 0 where there is none.
@@ -148,36 +146,15 @@ pub fn put_spans(out: &mut [u8], at: usize, a: FrameSpan, b: FrameSpan, c: Frame
 }
 
 // Bytes 0 to 43.
-pub fn put_front(
-    out: &mut [u8],
-    at: usize,
-    h: Head,
-    device: u32,
-    counter: u16,
-    payload: &[u8],
-    auth: &[u8],
-    k: Marks,
-    ppm: i32,
-    rssi: f32,
-)
-    requires { (at + 44 ≤ length out.old) × (length payload.now ≡ 12) × (length auth.now ≡ 5) }
+pub fn put_front(out: &mut [u8], at: usize, h: Head, x: Content)
+    requires { at + 44 ≤ length out.old }
     ensures { out.new
         ≡ sets out.old at (head_bytes h
-        ++ (identity_bytes device counter h.payload_len payload.now h.auth_len auth.now k ++ level_bytes ppm rssi)) }
+        ++ (identity_bytes x.device x.counter h.payload_len x.payload h.auth_len x.auth x.marks ++ level_bytes x.ppm x.rssi)) }
 {
     put_head(out, at, h);
-    put_identity(
-        out,
-        at + 8,
-        device,
-        counter,
-        h.payload_len,
-        payload,
-        h.auth_len,
-        auth,
-        k,
-    );
-    put_levels(out, at + 36, ppm, rssi);
+    put_identity(out, at + 8, h, x);
+    put_levels(out, at + 36, x.ppm, x.rssi);
 }
 
 // Bytes 44 to 63.

@@ -56,7 +56,7 @@ pub fn place_of(r: &[u8]) -> u16
     requires { record_size ≤ length r.now }
     ensures { result ≡ place_of r.now }
 {
-    endian::get_u16(r, 6)
+    endian::get::<u16>(r, 6)
 }
 
 // Bytes 8 to 11.
@@ -64,7 +64,7 @@ pub fn device_of(r: &[u8]) -> u32
     requires { record_size ≤ length r.now }
     ensures { result ≡ device_of r.now }
 {
-    endian::get_u32(r, 8)
+    endian::get::<u32>(r, 8)
 }
 
 // Bytes 12 and 13.
@@ -72,7 +72,7 @@ pub fn counter_of(r: &[u8]) -> u16
     requires { record_size ≤ length r.now }
     ensures { result ≡ counter_of r.now }
 {
-    endian::get_u16(r, 12)
+    endian::get::<u16>(r, 12)
 }
 
 // Half decibels of the dips' depth; 0 where there were none.
@@ -96,7 +96,7 @@ pub fn ppm_of(r: &[u8]) -> i32
     requires { record_size ≤ length r.now }
     ensures { result ≡ ppm_of r.now }
 {
-    endian::get_i32(r, 36)
+    endian::get::<i32>(r, 36)
 }
 
 // Bytes 40 to 43, in dBm.
@@ -104,7 +104,7 @@ pub fn rssi_of(r: &[u8]) -> f32
     requires { record_size ≤ length r.now }
     ensures { result ≡ rssi_of r.now }
 {
-    endian::get_f32(r, 40)
+    endian::get::<f32>(r, 40)
 }
 
 // Bytes 48 to 55, in seconds of the stream.
@@ -112,7 +112,7 @@ pub fn time_of(r: &[u8]) -> f64
     requires { record_size ≤ length r.now }
     ensures { result ≡ time_of r.now }
 {
-    endian::get_f64(r, 48)
+    endian::get::<f64>(r, 48)
 }
 
 // The end of a frame, the first-frame end of a message.
@@ -120,7 +120,7 @@ pub fn end_of(r: &[u8]) -> f64
     requires { record_size ≤ length r.now }
     ensures { result ≡ end_of r.now }
 {
-    endian::get_f64(r, 56)
+    endian::get::<f64>(r, 56)
 }
 
 // Bytes 112 to 119: the first sample of a frame.
@@ -128,7 +128,7 @@ pub fn start_of(r: &[u8]) -> u64
     requires { record_size ≤ length r.now }
     ensures { result ≡ start_of r.now }
 {
-    endian::get_u64(r, 112)
+    endian::get::<u64>(r, 112)
 }
 
 // The rank of span i, 255 for none.
@@ -144,7 +144,7 @@ pub fn span_time_of(r: &[u8], i: usize) -> f64
     requires { (record_size ≤ length r.now) × (i < 3) }
     ensures { result ≡ span_time_of r.now i }
 {
-    endian::get_f64(r, 64 + 16 * i)
+    endian::get::<f64>(r, 64 + 16 * i)
 }
 
 // When span i ends.
@@ -152,5 +152,5 @@ pub fn span_end_of(r: &[u8], i: usize) -> f64
     requires { (record_size ≤ length r.now) × (i < 3) }
     ensures { result ≡ span_end_of r.now i }
 {
-    endian::get_f64(r, 72 + 16 * i)
+    endian::get::<f64>(r, 72 + 16 * i)
 }

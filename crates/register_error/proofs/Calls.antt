@@ -1,4 +1,5 @@
 -- A grown tracker holds the readings of the register values that it was given, and calls of frame1 keep to the bound. Assumes nothing.
+use Rattle.std.proofs.Common.{Option, Some}
 use mathlib.Core.Path.{◌≡◌, refl, sym, ap, ◌∙◌, subst}
 use mathlib.Core.Bool.{Bool, true, false, cond, ◌&&◌}
 use mathlib.Core.List.{List, [], ◌∷◌, ◌++◌, map}
@@ -7,7 +8,7 @@ use native.Mathlib.Omega.{arith}
 use lib.Dec.{ltb}
 use lib.ListN.{length}
 use lib.Ieee.{Float}
-use Rattle.limits.specs.Answer.{accepted, answer}
+use Rattle.limits.specs.Answer.{accepted, answer, said_by}
 use Rattle.cfo.specs.Cfo.{reading_hz}
 use Rattle.frequency_signal.specs.Seconds.{settling, kept as within}
 use Rattle.frequency_signal.specs.Heard.{heard}
@@ -15,14 +16,12 @@ use Rattle.frequency_lists.specs.Lists.{Reading, Tuning, cfo_every, last_or, rea
 use Rattle.frequency_lists.specs.Marks.{retained}
 use Rattle.frequency_lists.proofs.Gather.{map-retained}
 use Rattle.frequency_measure.specs.Measured.{readings_of, frame1}
-use Rattle.frequency_measure.specs.declared.Frequency.{Frequency}
-use Rattle.frequency_measure.specs.declared.Frequency.TheVariants.{Hz}
 use Rattle.record.specs.declared.FrameSpan.{FrameSpan}
 use Rattle.record.specs.Spans.{spans_ok}
 use Rattle.frequency.specs.declared.FrequencyTracker.{FrequencyTracker}
 use Rattle.frequency.specs.Lent.{Lists, lists, tunings_of, tracker, packed, stored}
 use Rattle.frequency.specs.Order.{cause_frame}
-use Rattle.frequency.specs.Calls.{fresh, held_readings, said_first}
+use Rattle.frequency.specs.Calls.{fresh, held_readings}
 use Rattle.frequency.specs.Grown.{Grown, new, tuned, samples, cfo, next}
 use Rattle.frequency.specs.Tracker as T
 use Rattle.frequency.proofs.Grown.{sound, counts_of, unpack}
@@ -190,14 +189,14 @@ grown-holds s l g e =
 
 -- ---- the calls
 
-told : (x : Frequency) (k a : ℕ) → accepted (Hz a) ≡ answer k x → x ≡ Hz a
+told : (x : (Option ℕ)) (k a : ℕ) → accepted (Some a) ≡ answer k x → x ≡ Some a
 unfolding answer
 told x zero a e = cc
 told x (suc k) a e = absurd (let z : ◌≡◌ {A = ℕ} 0 1 = cc in omega arith)
 
 answers : (s : FrequencyTracker) (l : Lists) (raw : List RawReading) (spans : List FrameSpan) (downlink : Bool) (a : ℕ) (out out' : List Float)
     → Holds s l raw → Called s l spans downlink a out out' → Answers s.rate raw spans downlink a
-unfolding said_first
+unfolding said_by
 answers s l raw spans downlink a out out' h c =
     let k = cause_frame s l.at l.lo l.hz (length out) (spans_ok spans) in
     record {

@@ -1,4 +1,5 @@
 -- The examples, computed. Assumes nothing.
+use Rattle.std.proofs.Common.{Some}
 use mathlib.Core.Path.{◌≡◌, refl, sym, subst}
 use mathlib.Core.Bool.{false}
 use mathlib.Core.List.{List, [], ◌∷◌, map}
@@ -14,7 +15,6 @@ use Rattle.cfo.specs.Cfo.{signed, reading_hz, round_hz}
 use Rattle.frequency_lists.specs.Lists.{last_or}
 use Rattle.frequency_lists.specs.Marks.{retained}
 use Rattle.frequency_measure.specs.Measured.{median, frame1}
-use Rattle.frequency_measure.specs.declared.Frequency.TheVariants.{Hz}
 use Rattle.register_error.specs.Bound.{RawReading, reading_of, distance, Corresponding, end, next, ReadTwice, frame1_readings, Answers, least, Bound}
 use Rattle.register_error.specs.Examples.{on_air, read_at, readings, steady, step_off, lowest, highest, Instance, Examples}
 
@@ -46,23 +46,23 @@ wide_pairs = let p = near_by 120 0xfc4 60 far in next (p 1500) (next (p 1508) (n
     far : distance (signed 0xfc4) (signed 60) ≤ 120
     far = omega arith
 
-answer : (raw : List RawReading) (a : ℕ) → frame1 1000 (map reading_of raw) on_air false ≡ Hz a → Answers 1000 raw on_air false a
+answer : (raw : List RawReading) (a : ℕ) → frame1 1000 (map reading_of raw) on_air false ≡ Some a → Answers 1000 raw on_air false a
 unfolding frame1
 answer raw a h = record { path = refl; answer = h }
 
-steady-answer : frame1 1000 (map reading_of steady) on_air false ≡ Hz 868130131
+steady-answer : frame1 1000 (map reading_of steady) on_air false ≡ Some 868130131
 unfolding frame1 reading_hz round_hz median kth key place sorted insert last_or retained round_half_up floor magnitude add sub mul div lt le eq round of_int of_bits to_bits to_unsigned
 steady-answer = refl
 
-off-answer : frame1 1000 (map reading_of step_off) on_air false ≡ Hz 868130263
+off-answer : frame1 1000 (map reading_of step_off) on_air false ≡ Some 868130263
 unfolding frame1 reading_hz round_hz median kth key place sorted insert last_or retained round_half_up floor magnitude add sub mul div lt le eq round of_int of_bits to_bits to_unsigned
 off-answer = refl
 
-lowest-answer : frame1 1000 (map reading_of lowest) on_air false ≡ Hz 868122124
+lowest-answer : frame1 1000 (map reading_of lowest) on_air false ≡ Some 868122124
 unfolding frame1 reading_hz round_hz median kth key place sorted insert last_or retained round_half_up floor magnitude add sub mul div lt le eq round of_int of_bits to_bits to_unsigned
 lowest-answer = refl
 
-highest-answer : frame1 1000 (map reading_of highest) on_air false ≡ Hz 868137876
+highest-answer : frame1 1000 (map reading_of highest) on_air false ≡ Some 868137876
 unfolding frame1 reading_hz round_hz median kth key place sorted insert last_or retained round_half_up floor magnitude add sub mul div lt le eq round of_int of_bits to_bits to_unsigned
 highest-answer = refl
 

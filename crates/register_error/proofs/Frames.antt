@@ -1,4 +1,5 @@
 -- frame1's direct path takes the median of the register values that count. Assumes nothing.
+use Rattle.std.proofs.Common.{Option, None, Some}
 use mathlib.Core.Path.{◌≡◌, refl, sym, ap, ◌∙◌, subst}
 use mathlib.Core.Bool.{Bool, true, false, cond}
 use mathlib.Core.List.{List, [], ◌∷◌, map}
@@ -6,16 +7,14 @@ use Prim.Native.Nat.{ℕ, ◌≤◌}
 use native.Mathlib.Omega.{arith}
 use borrow.Author.Tests.{leb-true, eqb-true}
 use lib.Dec.{leb, eqb}
+use Rattle.std.proofs.lemmas.Option.{none-some}
 use lib.ListN.{length, length-map}
 use lib.Ieee.{Float}
 use Rattle.cfo.specs.Cfo.{round_hz}
 use Rattle.frequency_lists.specs.Lists.{Reading, last_or}
 use Rattle.frequency_lists.specs.Marks.{retained}
-use Rattle.frequency_measure.specs.Measured.{fewest, median, inside, first_of, past_of, pick_measured, pick_frequency, near, frame_of, frame_frequency, direct, of_rank}
-use Rattle.frequency_measure.specs.declared.Frequency.{Frequency}
-use Rattle.frequency_measure.specs.declared.Frequency.TheVariants.{Nothing, Hz}
-use Rattle.frequency_measure.specs.declared.Measured.{Measured}
-use Rattle.frequency_measure.specs.declared.Measured.TheVariants.{Unmeasured, Found}
+use Rattle.frequency_measure.specs.Measured.{fewest, measured, median, inside, first_of, past_of, near, frame_of, frame_frequency, direct, of_rank}
+use Rattle.frequency_measure.specs.declared.FrameFrequency.{FrameFrequency}
 use Rattle.record.specs.declared.FrameSpan.{FrameSpan}
 use Rattle.register_error.specs.Bound.{RawReading, reading_of, in_frame, against_last, frame1_readings, Answers}
 use Rattle.register_error.proofs.Medians.{hz}
@@ -26,9 +25,9 @@ Against lo [] = Unit
 Against lo (r ∷ l) = (r.lo ≡ lo) × Against lo l
 
 -- a measured frame is the median of five register values or more, all against its receiver frequency
-abbrev Taken : Measured → List RawReading → Type 0
-Taken Unmeasured l = Unit
-Taken (Found h lo) l = (h ≡ median (map hz l)) × (5 ≤ length l) × Against lo l
+abbrev Taken : (Option FrameFrequency) → List RawReading → Type 0
+Taken None l = Unit
+Taken (Some f) l = (f.hz ≡ median (map hz l)) × (5 ≤ length l) × Against f.lo l
 
 against_kept : (lo : ℕ) (l : List RawReading) → Against lo (retained (map (λ (r : RawReading). eqb r.lo lo) l) l)
 unfolding retained
@@ -61,10 +60,10 @@ hzs (x ∷ l) = ap (λ (z : List Float). hz x ∷ z) (hzs l)
 
 -- ---- a frame
 
-picked : (l : List Float) (m : List RawReading) (lo : ℕ) → l ≡ map hz m → Against lo m → Taken (pick_measured (leb fewest (length l)) (Found (median l) lo) Unmeasured) m
+picked : (l : List Float) (m : List RawReading) (lo : ℕ) → l ≡ map hz m → Against lo m → Taken (cond (leb fewest (length l)) (Some (measured (median l) lo)) None) m
 picked l m lo e h = go (leb fewest (length l)) (leb-true fewest (length l))
   where
-    go : (t : Bool) → (t ≡ true → fewest ≤ length l) → Taken (pick_measured t (Found (median l) lo) Unmeasured) m
+    go : (t : Bool) → (t ≡ true → fewest ≤ length l) → Taken (cond t (Some (measured (median l) lo)) None) m
     go true f = (ap median e, subst (λ (n : ℕ). 5 ≤ n) (ap length e ∙ length-map m hz) (f refl), h)
     go false f = tt
 
@@ -96,14 +95,11 @@ unfolding of_rank frame1_readings
 rank-taken rate [] l = tt
 rank-taken rate (f ∷ spans) l = go (eqb f.rank 0) (frame_frequency rate (map reading_of l) f.time f.end) (of_rank rate (map reading_of l) spans 0) (frame-taken rate f l) (rank-taken rate spans l)
   where
-    go : (t : Bool) (a b : Measured) → Taken a (against_last (in_frame rate f l)) → Taken b (frame1_readings rate spans l) → Taken (pick_measured t a b) (cond t (against_last (in_frame rate f l)) (frame1_readings rate spans l))
+    go : (t : Bool) (a b : (Option FrameFrequency)) → Taken a (against_last (in_frame rate f l)) → Taken b (frame1_readings rate spans l) → Taken (cond t a b) (cond t (against_last (in_frame rate f l)) (frame1_readings rate spans l))
     go true a b h k = h
     go false a b h k = k
 
 -- ---- frame 1
-
-clash : (n : ℕ) → Frequency.Nothing ≡ Hz n → ⊥
-clash n e = let z : ◌≡◌ {A = ℕ} 0 1 = cc in omega arith
 
 -- what an answer tells of the readings that count
 pub record Told (l : List RawReading) (a : ℕ) : Type 0 where
@@ -113,14 +109,14 @@ pub record Told (l : List RawReading) (a : ℕ) : Type 0 where
   pub close : near (median (map hz l)) lo ≡ true
   pub is : round_hz (median (map hz l)) ≡ a
 
-direct-taken : (m : Measured) (l : List RawReading) (a : ℕ) → Taken m l → direct m ≡ Hz a → Told l a
+direct-taken : (m : (Option FrameFrequency)) (l : List RawReading) (a : ℕ) → Taken m l → direct m ≡ Some a → Told l a
 unfolding direct
-direct-taken Unmeasured l a h e = absurd (clash a e)
-direct-taken (Found h lo) l a k e = go (near h lo) refl e
+direct-taken None l a h e = absurd (none-some a e)
+direct-taken (Some f) l a k e = go (near f.hz f.lo) refl e
   where
-    go : (t : Bool) → near h lo ≡ t → pick_frequency t (Hz (round_hz h)) Nothing ≡ Hz a → Told l a
-    go true n e = record { lo = lo; against = k.2; some = k.1; close = ap (λ (x : Float). near x lo) (sym k.0) ∙ n; is = ap round_hz (sym k.0) ∙ cc }
-    go false n e = absurd (clash a e)
+    go : (t : Bool) → near f.hz f.lo ≡ t → cond t (Some (round_hz f.hz)) None ≡ Some a → Told l a
+    go true n e = record { lo = f.lo; against = k.2; some = k.1; close = ap (λ (x : Float). near x f.lo) (sym k.0) ∙ n; is = ap round_hz (sym k.0) ∙ cc }
+    go false n e = absurd (none-some a e)
 
 pub answer_is : (rate : ℕ) (l : List RawReading) (spans : List FrameSpan) (downlink : Bool) (a : ℕ) → Answers rate l spans downlink a → Told (frame1_readings rate spans l) a
 answer_is rate l spans downlink a h = direct-taken (of_rank rate (map reading_of l) spans 0) (frame1_readings rate spans l) a (rank-taken rate spans l) (sym h.path ∙ h.answer)

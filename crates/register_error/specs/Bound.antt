@@ -1,12 +1,11 @@
 -- Change request 14, how far an error of the register can move frame 1's frequency: 'At the step of 122.0703125 Hz the two answers differ by at most d×1562500/11904 + 2 Hz.'
 -- What is assumed: `ReadTwice`, `Answers`. What follows: `Within`. The claim: `Bound`. Readings and answers are by the definitions that `cfo`, `frame_frequency` and `frame1` are proved equal to. Assumes nothing.
-use Rattle.std.specs.Prelude.{ℕ, ◌+◌, ◌*◌, ◌^◌, ◌≤◌, ◌<◌, ◌≡◌, Bool, cond, List, [], ◌∷◌, map, eqb, ℤ, pos, ◌-ℤ◌, nat_abs, Float}
+use Rattle.std.specs.Prelude.{ℕ, ◌+◌, ◌*◌, ◌^◌, ◌≤◌, ◌<◌, ◌≡◌, Bool, cond, List, [], ◌∷◌, map, eqb, ℤ, pos, ◌-ℤ◌, nat_abs, Float, Some}
 use Rattle.floats.specs.Number.{near}
 use Rattle.cfo.specs.Cfo.{signed, reading_hz}
 use Rattle.frequency_lists.specs.Lists.{Reading, last_or}
 use Rattle.frequency_lists.specs.Marks.{retained}
 use Rattle.frequency_measure.specs.Measured.{first_of, past_of, inside, direct, of_rank, frame1}
-use Rattle.frequency_measure.specs.declared.Frequency.TheVariants.{Hz}
 use Rattle.record.specs.declared.FrameSpan.{FrameSpan}
 
 -- ---- register values, and the readings in Hz that `cfo` makes of them
@@ -71,10 +70,10 @@ U32 (r ∷ l) = (r.lo < 2 ^ 32) × U32 l
 abbrev pub DirectPath : ℕ → List Reading → List FrameSpan → Bool → Type 0
 DirectPath rate readings spans downlink = frame1 rate readings spans downlink ≡ direct (of_rank rate readings spans 0)
 
--- 'the direct frame 1 path gives an answer': a Hz, so there are five readings or more and their median lies within 10 kHz of the receiver frequency
+-- 'the direct frame 1 path gives an answer': some Hz, so there are five readings or more and their median lies within 10 kHz of the receiver frequency
 pub record Answers (rate : ℕ) (raw : List RawReading) (spans : List FrameSpan) (downlink : Bool) (a : ℕ) : Type 0 where
   pub path : DirectPath rate (map reading_of raw) spans downlink
-  pub answer : frame1 rate (map reading_of raw) spans downlink ≡ Hz a
+  pub answer : frame1 rate (map reading_of raw) spans downlink ≡ Some a
 
 -- ---- what follows
 

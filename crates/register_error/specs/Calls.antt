@@ -1,12 +1,11 @@
 -- The claim of the tracker's exported calls: two calls of frame1, on trackers that were given such register values by `cfo`, keep to the bound. Assumes nothing.
-use Rattle.std.specs.Prelude.{ℕ, ◌+◌, ◌≡◌, Bool, cond, ◌&&◌, List, [], ◌∷◌, ◌++◌, map, ltb, length, Float}
+use Rattle.std.specs.Prelude.{ℕ, ◌+◌, ◌≡◌, Bool, cond, ◌&&◌, List, [], ◌∷◌, ◌++◌, map, ltb, length, Float, Some, Ok}
 use Rattle.frequency_signal.specs.Seconds.{settling, kept}
 use Rattle.frequency_signal.specs.Heard.{heard}
 use Rattle.frequency_lists.specs.Lists.{Tuning, cfo_every, last_or}
 use Rattle.frequency_lists.specs.Marks.{retained}
 use Rattle.record.specs.declared.FrameSpan.{FrameSpan}
 use Rattle.frequency.specs.declared.FrequencyTracker.{FrequencyTracker}
-use Rattle.frequency.specs.declared.Frame1.TheVariants as first
 use Rattle.frequency.specs.Lent.{Lists, tracker}
 use Rattle.frequency.specs.Tracker as T
 use Rattle.frequency.specs.Calls.{held_readings, Frame1End}
@@ -49,7 +48,7 @@ GrownHolds = (s : FrequencyTracker) (l : Lists) (g : Grown s l) → s.step_hz �
 -- a call, as frame1's contract has it, that answers a Hz by the direct path
 pub record Called (s : FrequencyTracker) (l : Lists) (spans : List FrameSpan) (downlink : Bool) (a : ℕ) (out out' : List Float) : Type 0 where
   pub path : DirectPath s.rate (held_readings s l.at l.lo l.hz) spans downlink
-  pub call : Frame1End s spans downlink l.at l.lo l.hz out (first.Hz a) out'
+  pub call : Frame1End s spans downlink l.at l.lo l.hz out (Ok (Some a)) out'
 
 -- on any two trackers that hold readings of register values, given states too
 abbrev pub CallsBound : ℕ → Type 0

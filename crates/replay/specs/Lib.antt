@@ -1,4 +1,4 @@
 -- The definitions that the contracts of `replay` cite.
 pub mod Text
-pub mod Floats
+pub mod Numbers
 pub mod Front

@@ -1,16 +1,24 @@
 // What the replay programs read their cases with and print their lines with. docs/REPLAY.md has the formats.
 #![tactic(auto)]
 
-ghost use Rattle.std.specs.Prelude.{◌≡◌, ◌+◌, ◌*◌, ◌≤◌, ◌<◌, length};
+ghost use Rattle.std.specs.Prelude.{◌≡◌, ◌+◌, ◌*◌, ◌≤◌, ◌<◌, length, IfSome};
 ghost use Rattle.std.proofs.lemmas.List.Edits.{sets};
 ghost use Rattle.std.specs.Float.{binary32, binary64};
 ghost use Rattle.endian.specs.Bytes.{signed_of};
 ghost use Rattle.replay.specs.Text.{plain_bits, hex_digit, hex_text};
-ghost use Rattle.replay.specs.Floats.{floats_from};
+ghost use Rattle.replay.specs.Numbers.{numbers_from};
 ghost use Rattle.replay.specs.Front.{Front};
+
+use endian::LittleEndian;
+use limits::Refusal;
+use record::{FrameSpan, NO_RANK};
+use std::num::{f32_to_bits_with_nan, f64_to_bits_with_nan};
 
 // A proved loop has to end, and nothing says that the input does: the most cases of a run.
 pub const MOST_CASES: u64 = 0x1_0000_0000_0000;
+
+// Numbers that are read together: 4096 bytes at most.
+const NUMBERS: usize = 512;
 
 // The first bytes of a case: all of them, only some, or none, where the input had ended.
 #[derive(Clone, Copy)]
@@ -19,25 +27,6 @@ pub enum Head {
     Cut,
     End,
 }
-
-// A list read: whether the input had all of it, and how many elements at the front of the slice are its own.
-#[derive(Clone, Copy)]
-pub struct Kept {
-    pub whole: bool,
-    pub count: usize,
-}
-
-// A frame's span in the input, and whether all of it was there.
-#[derive(Clone, Copy)]
-pub struct Span {
-    pub whole: bool,
-    pub rank: u8,
-    pub time: f64,
-    pub end: f64,
-}
-
-// The rank that says that there is no span in a place.
-pub const NO_RANK: u8 = 255;
 
 // The next bytes of standard input, where a case starts.
 pub fn read_head(rt: &impl Input, bytes: &mut [u8]) -> Head {
@@ -56,191 +45,106 @@ pub fn read_part(rt: &impl Input, bytes: &mut [u8]) -> bool {
     reading::read_full(rt, bytes) == bytes.len()
 }
 
-// The next n bytes of standard input into the front of a slice; how many there were.
-fn fetch(rt: &impl Input, bytes: &mut [u8], n: usize) -> usize
-    requires { n ≤ length bytes.old }
-    ensures { length bytes.new ≡ length bytes.old }
+// The numbers at the start of some bytes, as many as `out` has places.
+fn store<T: LittleEndian>(bytes: &[u8], out: &mut [T])
+    requires { T.SIZE * length out.old ≤ length bytes.now }
+    ensures { out.new ≡ sets out.old 0 (numbers_from T.SIZE T.of_pattern (length out.old) 0 bytes.now) }
 {
-    reading::read_full(rt, &mut bytes[..n])
-}
-
-// The floats of a chunk's first 4·n bytes, at a place of `out`; those that have no place are passed over.
-fn store_f32s(bytes: &[u8], n: usize, out: &mut [f32], at: usize)
-    requires { (4 * n ≤ length bytes.now) × (at ≤ 0x100000000) × (n ≤ 1024) }
-    ensures { out.new ≡ sets out.old at (floats_from n 0 bytes.now) }
-{
-    let mut i: usize = 0;
-    while i < n {
-        if at + i < out.len() {
-            out[at + i] = endian::get_f32(bytes, 4 * i);
-            i += 1;
-        } else {
-            i += 1;
-        }
+    for (i, x) in out.iter_mut().enumerate() {
+        *x = endian::get(bytes, T::SIZE * i);
     }
 }
 
-// The next n floats of standard input, 1,024 at most; false where it ends first.
-fn read_chunk(rt: &impl Input, n: usize, out: &mut [f32], at: usize) -> bool
-    requires { (n ≤ 1024) × (at ≤ 0x100000000) }
-    ensures { length out.new ≡ length out.old }
+// The next numbers of standard input, as many as `out` has places; false where it ends first.
+fn read_chunk<T: LittleEndian>(rt: &impl Input, out: &mut [T]) -> bool
+    requires { length out.old ≤ NUMBERS }
 {
     let mut bytes = [0u8; 4096];
-    let size = 4 * n;
-    if fetch(rt, &mut bytes, size) < size {
+    let size = T::SIZE * out.len();
+    if !read_part(rt, &mut bytes[..size]) {
         return false;
     }
-    store_f32s(&bytes, n, out, at);
+    store(&bytes, out);
     true
 }
 
-// The next `end` floats of standard input: those for which `out` has a place are kept there.
-fn read_n_f32s(rt: &impl Input, end: usize, out: &mut [f32]) -> Kept
-    requires { end < 0x100000000 }
-    ensures { Front result.count out.new }
+// The next n numbers of standard input, those kept for which `out` has a place: how many. None where the input ends first.
+pub fn read_n<T: LittleEndian>(rt: &impl Input, n: usize, out: &mut [T]) -> Option<usize>
+    requires { n < 0x100000000 }
+    ensures { IfSome result (λ k. Front k out.new) }
 {
-    let mut at: usize = 0;
-    while at < end {
-        let n = whole::least(end - at, 1024);
-        if !read_chunk(rt, n, out, at) {
-            return Kept {
-                whole: false,
-                count: 0,
-            };
-        }
-        at += n;
-    }
-    Kept {
-        whole: true,
-        count: whole::least(end, out.len()),
-    }
-}
-
-// The next `end` bytes of standard input: those for which `out` has a place are kept there.
-pub fn read_n_bytes(rt: &impl Input, end: usize, out: &mut [u8]) -> Kept
-    ensures { Front result.count out.new }
-{
-    let kept = whole::least(end, out.len());
-    if fetch(rt, out, kept) < kept {
-        return Kept {
-            whole: false,
-            count: 0,
-        };
-    }
-    Kept {
-        whole: skip(rt, end - kept),
-        count: kept,
-    }
-}
-
-// A count, and that many floats, in standard input.
-pub fn read_f32s(rt: &impl Input, out: &mut [f32]) -> Kept
-    ensures { Front result.count out.new }
-{
-    let mut count = [0u8; 4];
-    if !read_part(rt, &mut count) {
-        return Kept {
-            whole: false,
-            count: 0,
-        };
-    }
-    read_n_f32s(rt, endian::get_u32(&count, 0) as usize, out)
-}
-
-// A count, and that many bytes, in standard input.
-pub fn read_bytes(rt: &impl Input, out: &mut [u8]) -> Kept
-    ensures { Front result.count out.new }
-{
-    let mut count = [0u8; 4];
-    if !read_part(rt, &mut count) {
-        return Kept {
-            whole: false,
-            count: 0,
-        };
-    }
-    read_n_bytes(rt, endian::get_u32(&count, 0) as usize, out)
-}
-
-// The next `end` 16-bit numbers of standard input: those for which `out` has a place are kept there.
-fn read_n_u16s(rt: &impl Input, end: usize, out: &mut [u16]) -> Kept
-    ensures { Front result.count out.new }
-{
-    let mut i: usize = 0;
-    while i < end {
-        let mut two = [0u8; 2];
-        if !read_part(rt, &mut two) {
-            return Kept {
-                whole: false,
-                count: 0,
-            };
-        }
-        if i < out.len() {
-            out[i] = endian::get_u16(&two, 0);
-            i += 1;
-        } else {
-            i += 1;
+    let kept = n.min(out.len());
+    for part in out[..kept].chunks_mut(NUMBERS) {
+        if !read_chunk(rt, part) {
+            return None;
         }
     }
-    Kept {
-        whole: true,
-        count: whole::least(end, out.len()),
-    }
+    skip(rt, T::SIZE * (n - kept)).then_some(kept)
 }
 
-// A count, and that many 16-bit numbers, in standard input.
-pub fn read_u16s(rt: &impl Input, out: &mut [u16]) -> Kept
-    ensures { Front result.count out.new }
+// The same of bytes.
+pub fn read_n_bytes(rt: &impl Input, n: usize, out: &mut [u8]) -> Option<usize>
+    ensures { IfSome result (λ k. Front k out.new) }
 {
-    let mut count = [0u8; 4];
-    if !read_part(rt, &mut count) {
-        return Kept {
-            whole: false,
-            count: 0,
-        };
+    let kept = n.min(out.len());
+    if !read_part(rt, &mut out[..kept]) {
+        return None;
     }
-    read_n_u16s(rt, endian::get_u32(&count, 0) as usize, out)
+    skip(rt, n - kept).then_some(kept)
+}
+
+// A count in standard input.
+fn read_count(rt: &impl Input) -> Option<u32> {
+    let mut count = [0u8; 4];
+    read_part(rt, &mut count).then_some(endian::get(&count, 0))
+}
+
+// A count, and that many numbers, in standard input, those kept for which `out` has a place: how many. None where the input ends first.
+pub fn read_list<T: LittleEndian>(rt: &impl Input, out: &mut [T]) -> Option<usize>
+    ensures { IfSome result (λ k. Front k out.new) }
+{
+    read_n(rt, read_count(rt)? as usize, out)
+}
+
+// The same of bytes.
+pub fn read_bytes(rt: &impl Input, out: &mut [u8]) -> Option<usize>
+    ensures { IfSome result (λ k. Front k out.new) }
+{
+    read_n_bytes(rt, read_count(rt)? as usize, out)
 }
 
 // A signed number from its two's complement.
 pub fn signed64(n: u64) -> i64
     ensures { result ≡ signed_of 64 n }
 {
-    if n < 0x8000_0000_0000_0000 {
-        return n as i64;
-    }
-    !((u64::MAX - n) as i64)
+    n.cast_signed()
 }
 
-// A rank, a time and an end in standard input; where they aren't wanted, no span.
-pub fn read_span(rt: &impl Input, wanted: bool) -> Span {
-    if wanted {
-        let mut part = [0u8; 17];
-        let whole = read_part(rt, &mut part);
-        return Span {
-            whole: whole,
-            rank: part[0],
-            time: endian::get_f64(&part, 1),
-            end: endian::get_f64(&part, 9),
-        };
+// A rank, a time and an end in standard input; where they aren't wanted, no span. None where the input ends first.
+pub fn read_span(rt: &impl Input, wanted: bool) -> Option<FrameSpan> {
+    if !wanted {
+        return Some(FrameSpan {
+            rank: NO_RANK,
+            time: 0.0,
+            end: 0.0,
+        });
     }
-    Span {
-        whole: true,
-        rank: NO_RANK,
-        time: 0.0,
-        end: 0.0,
-    }
+    let mut part = [0u8; 17];
+    read_part(rt, &mut part).then_some(FrameSpan {
+        rank: part[0],
+        time: endian::get(&part, 1),
+        end: endian::get(&part, 9),
+    })
 }
 
 // Reads over the next n bytes; false where the input ends first.
 fn skip(rt: &impl Input, n: usize) -> bool {
-    let mut left = n;
-    while left > 0 {
+    for at in (0..n).step_by(4096) {
         let mut bytes = [0u8; 4096];
-        let size = whole::least(left, 4096);
-        if fetch(rt, &mut bytes, size) < size {
+        let size = (n - at).min(4096);
+        if !read_part(rt, &mut bytes[..size]) {
             return false;
         }
-        left -= size;
     }
     true
 }
@@ -252,7 +156,7 @@ pub fn plain32(x: f32) -> u32
     if x == 0.0 {
         return 0;
     }
-    endian::bits_of_f32(x)
+    f32_to_bits_with_nan(x)
 }
 
 // The same of binary64.
@@ -262,7 +166,7 @@ pub fn plain64(x: f64) -> u64
     if x == 0.0 {
         return 0;
     }
-    endian::bits_of_f64(x)
+    f64_to_bits_with_nan(x)
 }
 
 fn hex_digit(d: u8) -> u8
@@ -277,12 +181,9 @@ pub fn hex_text(bytes: &[u8], out: &mut [u8])
     requires { 2 * length bytes.now ≤ length out.old }
     ensures { out.new ≡ sets out.old 0 (hex_text bytes.now) }
 {
-    let mut i: usize = 0;
-    while i < bytes.len() {
-        let b = bytes[i];
-        out[2 * i] = hex_digit(b / 16);
-        out[2 * i + 1] = hex_digit(b % 16);
-        i += 1;
+    for (i, b) in bytes.iter().enumerate() {
+        out[2 * i] = hex_digit(*b / 16);
+        out[2 * i + 1] = hex_digit(*b % 16);
     }
 }
 
@@ -293,16 +194,12 @@ pub fn print(rt: &impl Print, text: &[u8]) {
 
 // A number in decimal.
 pub fn print_number(rt: &impl Print, n: u64) {
-    let mut text = [0u8; 20];
-    let count = io::decimal(n, &mut text);
-    print(rt, &text[..count]);
+    let _ = print!(rt; "{n}");
 }
 
 // A number in so many hexadecimal digits.
 pub fn print_hex(rt: &impl Print, n: u64, width: usize) {
-    let mut text = [0u8; 16];
-    let count = io::hex(n, width, &mut text);
-    print(rt, &text[..count]);
+    let _ = print!(rt; "{n:0width$x}");
 }
 
 // A float as the digits of its pattern.
@@ -315,25 +212,14 @@ pub fn print_f64(rt: &impl Print, x: f64) {
     print_hex(rt, plain64(x), 16);
 }
 
-// A signed number in decimal, from its two's complement.
+// A signed number in decimal.
 pub fn print_signed(rt: &impl Print, z: i32) {
-    let bits = endian::bits_of_i32(z) as u64;
-    if bits < 0x8000_0000 {
-        print_number(rt, bits);
-        return;
-    }
-    print(rt, b"-");
-    print_number(rt, 0x1_0000_0000 - bits);
+    let _ = print!(rt; "{z}");
 }
 
-// The same of 64 bits; `!z` is -(z + 1).
+// The same of 64 bits.
 pub fn print_i64(rt: &impl Print, z: i64) {
-    if z >= 0 {
-        print_number(rt, z as u64);
-        return;
-    }
-    print(rt, b"-");
-    print_number(rt, (!z) as u64 + 1);
+    let _ = print!(rt; "{z}");
 }
 
 // The first n bytes of a text.
@@ -346,11 +232,9 @@ pub fn print_front(rt: &impl Print, text: &[u8], n: usize)
 // Bits as digits 0 and 1, 1,024 at most, as many as `n` says.
 pub fn print_digits(rt: &impl Print, bits: &[u8], n: usize) {
     let mut text = [0u8; 1024];
-    let end = whole::least(whole::least(n, bits.len()), 1024);
-    let mut i: usize = 0;
-    while i < end {
-        text[i] = 48 + bits[i] % 2;
-        i += 1;
+    let end = n.min(bits.len()).min(1024);
+    for (digit, bit) in text.iter_mut().zip(&bits[..end]) {
+        *digit = b'0' + *bit % 2;
     }
     print_front(rt, &text, end);
 }
@@ -358,20 +242,13 @@ pub fn print_digits(rt: &impl Print, bits: &[u8], n: usize) {
 // Bytes as hexadecimal digits, 120 at most, as many as `n` says.
 pub fn print_bytes(rt: &impl Print, bytes: &[u8], n: usize) {
     let mut text = [0u8; 240];
-    let end = whole::least(whole::least(n, bytes.len()), 120);
+    let end = n.min(bytes.len()).min(120);
     hex_text(&bytes[..end], &mut text);
     print_front(rt, &text, 2 * end);
 }
 
 // Bytes that `print_slice` prints together.
 const PART: usize = 100;
-
-// A part of a slice's first n bytes, as many as are printed together.
-fn print_part(rt: &impl Print, bytes: &[u8], from: usize, n: usize)
-    requires { (from ≤ n) × (n ≤ length bytes.now) }
-{
-    print_bytes(rt, &bytes[from..n], PART);
-}
 
 // The first n bytes of a slice as hexadecimal digits, `-` where there are none.
 pub fn print_slice(rt: &impl Print, bytes: &[u8], n: usize)
@@ -380,10 +257,8 @@ pub fn print_slice(rt: &impl Print, bytes: &[u8], n: usize)
     if n == 0 {
         print(rt, b"-");
     }
-    let mut from: usize = 0;
-    while from < n {
-        print_part(rt, bytes, from, n);
-        from += PART;
+    for part in bytes[..n].chunks(PART) {
+        print_bytes(rt, part, PART);
     }
 }
 
@@ -394,7 +269,12 @@ pub fn print_end(rt: &impl Print) -> bool {
 }
 
 // The line of a refused call; the run goes on.
-pub fn print_refusal(rt: &impl Print, n: u8) -> bool {
+pub fn print_refusal(rt: &impl Print, refusal: Refusal) -> bool {
+    print_refusal_number(rt, u8::from(refusal))
+}
+
+// The same of an answer to C, which is the refusal's number.
+pub fn print_refusal_number(rt: &impl Print, n: u8) -> bool {
     print(rt, b"R ");
     print_number(rt, n as u64);
     print_end(rt)

@@ -12,7 +12,7 @@ fn print_answer(rt: &impl Print, answer: u8, out: &mut [u8; 120]) -> bool {
         return replay::print_end(rt);
     }
     if answer != 0 {
-        return replay::print_refusal(rt, answer);
+        return replay::print_refusal_number(rt, answer);
     }
     replay::print(rt, b"0 ");
     replay_records::print_record(rt, out);
@@ -22,11 +22,9 @@ fn print_answer(rt: &impl Print, answer: u8, out: &mut [u8; 120]) -> bool {
 fn case(rt: &(impl Input + Print), head: &[u8; 2]) -> bool {
     let mut bits = [0u8; 1025];
     let mut out = [0u8; 120];
-    let kept = replay::read_n_bytes(rt, endian::get_u16(head, 0) as usize, &mut bits);
-    if !kept.whole {
+    let Some(n) = replay::read_n_bytes(rt, endian::get::<u16>(head, 0) as usize, &mut bits) else {
         return replay::print_short(rt);
-    }
-    let n = kept.count;
+    };
     let answer = record::sigfox_decode_bits(&bits[..n], &mut out);
     print_answer(rt, answer, &mut out)
 }
@@ -41,11 +39,9 @@ fn turn(rt: &(impl Input + Print)) -> bool {
 }
 
 fn main(rt: HostRuntime) {
-    let mut left = replay::MOST_CASES;
-    while left > 0 {
+    for _ in 0..replay::MOST_CASES {
         if !turn(&rt) {
             return;
         }
-        left -= 1;
     }
 }

@@ -2,8 +2,8 @@
 #![tactic(auto)]
 
 use bursts::Burst;
-use demod::{BurstFrame, DecodedFrame};
-use frame::Outcome;
+use demod::DecodedFrame;
+use limits::Refusal;
 use record::Reception;
 use replay::Head;
 
@@ -30,24 +30,20 @@ fn print_frame(rt: &impl Print, d: DecodedFrame) -> bool {
     replay::print_end(rt)
 }
 
-fn print_answer(rt: &impl Print, answer: BurstFrame) -> bool {
-    let outcome = answer.outcome;
-    match outcome {
-        Outcome::Refused(n) => replay::print_refusal(rt, n),
-        Outcome::Nothing => replay::print_none(rt),
-        Outcome::Frame => {
-            let decoded = answer.decoded;
-            print_frame(rt, decoded)
-        }
+fn print_answer(rt: &impl Print, answer: Result<Option<DecodedFrame>, Refusal>) -> bool {
+    match answer {
+        Err(refusal) => replay::print_refusal(rt, refusal),
+        Ok(None) => replay::print_none(rt),
+        Ok(Some(decoded)) => print_frame(rt, decoded),
     }
 }
 
 fn burst_of(head: &[u8; 36]) -> Burst {
     Burst {
-        start: endian::get_u64(head, 12) as usize,
-        end: endian::get_u64(head, 20) as usize,
-        peak_dbm: endian::get_f32(head, 28),
-        floor_dbm: endian::get_f32(head, 32),
+        start: endian::get::<u64>(head, 12) as usize,
+        end: endian::get::<u64>(head, 20) as usize,
+        peak_dbm: endian::get::<f32>(head, 28),
+        floor_dbm: endian::get::<f32>(head, 32),
     }
 }
 
@@ -55,13 +51,11 @@ fn case(rt: &(impl Input + Print), head: &[u8; 36]) -> bool {
     let mut dbm = [0.0f32; 48001];
     let mut scratch32 = [0.0f32; 48000];
     let mut scratch64 = [0.0f64; limits::SCRATCH64];
-    let kept = replay::read_f32s(rt, &mut dbm);
-    if !kept.whole {
+    let Some(n) = replay::read_list(rt, &mut dbm) else {
         return replay::print_short(rt);
-    }
-    let n = kept.count;
-    let rate = endian::get_u32(head, 0);
-    let t0 = endian::get_f64(head, 4);
+    };
+    let rate = endian::get::<u32>(head, 0);
+    let t0 = endian::get::<f64>(head, 4);
     let burst = burst_of(head);
     print_answer(
         rt,
@@ -79,11 +73,9 @@ fn turn(rt: &(impl Input + Print)) -> bool {
 }
 
 fn main(rt: HostRuntime) {
-    let mut left = replay::MOST_CASES;
-    while left > 0 {
+    for _ in 0..replay::MOST_CASES {
         if !turn(&rt) {
             return;
         }
-        left -= 1;
     }
 }

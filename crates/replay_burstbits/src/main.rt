@@ -4,26 +4,18 @@
 use clock::BurstBits;
 use replay::Head;
 
-fn print_bits(
-    rt: &impl Print,
-    count: usize,
-    points: usize,
-    ppm: i32,
-    period: f64,
-    level: f32,
-    bits: &[u8],
-) -> bool {
-    replay::print_number(rt, count as u64);
+fn print_bits(rt: &impl Print, b: BurstBits, bits: &[u8]) -> bool {
+    replay::print_number(rt, b.count as u64);
     replay::print(rt, b" ");
-    replay::print_number(rt, points as u64);
+    replay::print_number(rt, b.points as u64);
     replay::print(rt, b" ");
-    replay::print_signed(rt, ppm);
+    replay::print_signed(rt, b.clock_error_ppm);
     replay::print(rt, b" ");
-    replay::print_f64(rt, period);
+    replay::print_f64(rt, b.period);
     replay::print(rt, b" ");
-    replay::print_f32(rt, level);
+    replay::print_f32(rt, b.level);
     replay::print(rt, b" ");
-    replay::print_digits(rt, bits, count);
+    replay::print_digits(rt, bits, b.count);
     replay::print_end(rt)
 }
 
@@ -32,18 +24,14 @@ fn case(rt: &(impl Input + Print), head: &[u8; 4]) -> bool {
     let mut bits = [0u8; 1024];
     let mut scratch32 = [0.0f32; 48000];
     let mut scratch64 = [0.0f64; limits::SCRATCH64];
-    let kept = replay::read_f32s(rt, &mut seg);
-    if !kept.whole {
+    let Some(n) = replay::read_list(rt, &mut seg) else {
         return replay::print_short(rt);
-    }
-    let n = kept.count;
-    let rate = endian::get_u32(head, 0);
+    };
+    let rate = endian::get::<u32>(head, 0);
     match clock::burst_bits(&seg[..n], rate, &mut bits, &mut scratch32, &mut scratch64) {
-        BurstBits::Refused(n) => replay::print_refusal(rt, n),
-        BurstBits::Nothing => replay::print_none(rt),
-        BurstBits::Bits(count, period, ppm, level, points, _) => {
-            print_bits(rt, count, points, ppm, period, level, &bits)
-        }
+        Err(refusal) => replay::print_refusal(rt, refusal),
+        Ok(None) => replay::print_none(rt),
+        Ok(Some(b)) => print_bits(rt, b, &bits),
     }
 }
 
@@ -57,11 +45,9 @@ fn turn(rt: &(impl Input + Print)) -> bool {
 }
 
 fn main(rt: HostRuntime) {
-    let mut left = replay::MOST_CASES;
-    while left > 0 {
+    for _ in 0..replay::MOST_CASES {
         if !turn(&rt) {
             return;
         }
-        left -= 1;
     }
 }

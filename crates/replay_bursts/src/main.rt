@@ -1,7 +1,8 @@
 // The noise floor and the bursts of samples, one case after another (docs/REPLAY.md, `bursts`).
 #![tactic(auto)]
 
-use bursts::{Burst, BurstOptions, Level, NextBurst};
+use bursts::{Burst, BurstOptions};
+use limits::Refusal;
 use replay::Head;
 
 // What a case hands to `find_bursts` besides its samples.
@@ -13,9 +14,8 @@ struct Asked {
 }
 
 // A burst found, or none.
-fn next(dbm: &[f32], asked: Asked, from: usize) -> NextBurst {
-    let options = asked.options;
-    bursts::find_bursts(dbm, asked.rate, options, asked.floor, from)
+fn next(dbm: &[f32], asked: Asked, from: usize) -> Result<Option<Burst>, Refusal> {
+    bursts::find_bursts(dbm, asked.rate, asked.options, asked.floor, from)
 }
 
 fn print_burst(rt: &impl Print, b: Burst) -> bool {
@@ -31,25 +31,23 @@ fn print_burst(rt: &impl Print, b: Burst) -> bool {
 
 // Goes through the bursts, which are no more than the samples, and counts them; prints them where it is to.
 fn walk(rt: &impl Print, dbm: &[f32], asked: Asked, show: bool) -> usize {
-    let mut n: usize = 0;
     let mut from: usize = 0;
-    while n < dbm.len() {
-        let NextBurst::Found(b) = next(dbm, asked, from) else {
+    for n in 0..dbm.len() {
+        let Ok(Some(b)) = next(dbm, asked, from) else {
             return n;
         };
         if show {
             print_burst(rt, b);
         }
         from = b.end;
-        n += 1;
     }
-    n
+    dbm.len()
 }
 
 fn print_bursts(rt: &impl Print, dbm: &[f32], asked: Asked, noise: f32) -> bool {
     match next(dbm, asked, 0) {
-        NextBurst::Refused(n) => replay::print_refusal(rt, n),
-        _ => {
+        Err(refusal) => replay::print_refusal(rt, refusal),
+        Ok(_) => {
             replay::print(rt, b"B ");
             replay::print_number(rt, walk(rt, dbm, asked, false) as u64);
             replay::print(rt, b" ");
@@ -66,16 +64,16 @@ fn floor_of(head: &[u8; 33], noise: f32) -> f32 {
     if head[28] == 1 {
         return noise;
     }
-    endian::get_f32(head, 29)
+    endian::get::<f32>(head, 29)
 }
 
 fn asked_of(head: &[u8; 33], noise: f32) -> Asked {
     Asked {
-        rate: endian::get_u32(head, 0),
+        rate: endian::get::<u32>(head, 0),
         options: BurstOptions {
-            above_db: endian::get_f64(head, 4),
-            min_ms: endian::get_f64(head, 12),
-            gap_ms: endian::get_f64(head, 20),
+            above_db: endian::get::<f64>(head, 4),
+            min_ms: endian::get::<f64>(head, 12),
+            gap_ms: endian::get::<f64>(head, 20),
         },
         floor: floor_of(head, noise),
     }
@@ -84,14 +82,12 @@ fn asked_of(head: &[u8; 33], noise: f32) -> Asked {
 fn case(rt: &(impl Input + Print), head: &[u8; 33]) -> bool {
     let mut dbm = [0.0f32; 48001];
     let mut scratch = [0.0f32; 48001];
-    let kept = replay::read_f32s(rt, &mut dbm);
-    if !kept.whole {
+    let Some(n) = replay::read_list(rt, &mut dbm) else {
         return replay::print_short(rt);
-    }
-    let n = kept.count;
+    };
     match bursts::noise_floor(&dbm[..n], &mut scratch) {
-        Level::Refused(n) => replay::print_refusal(rt, n),
-        Level::Dbm(noise) => print_bursts(rt, &dbm[..n], asked_of(head, noise), noise),
+        Err(refusal) => replay::print_refusal(rt, refusal),
+        Ok(noise) => print_bursts(rt, &dbm[..n], asked_of(head, noise), noise),
     }
 }
 
@@ -105,11 +101,9 @@ fn turn(rt: &(impl Input + Print)) -> bool {
 }
 
 fn main(rt: HostRuntime) {
-    let mut left = replay::MOST_CASES;
-    while left > 0 {
+    for _ in 0..replay::MOST_CASES {
         if !turn(&rt) {
             return;
         }
-        left -= 1;
     }
 }

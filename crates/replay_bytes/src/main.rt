@@ -3,7 +3,8 @@
 
 ghost use Rattle.std.specs.Prelude.{◌≤◌, length};
 
-use bytewise::{ConvState, Undone};
+use bytewise::ConvState;
+use limits::Refusal;
 use replay::Head;
 
 // frame.rs's number of a state: the last bit counts 2, the one before it 1.
@@ -15,15 +16,7 @@ fn state_of(n: u8) -> ConvState {
 }
 
 fn print_state(rt: &impl Print, s: ConvState) {
-    if s.last {
-        replay::print_number(rt, if s.second { 3 } else { 2 });
-        return;
-    }
-    replay::print_number(rt, if s.second { 1 } else { 0 });
-}
-
-fn long(x: u8) -> usize {
-    x as usize
+    replay::print_number(rt, 2 * u64::from(s.last) + u64::from(s.second));
 }
 
 // The first m bits as digits, `-` where there are none.
@@ -36,7 +29,7 @@ fn print_rest(rt: &impl Print, bits: &[u8], m: usize) {
 
 fn print_answer(
     rt: &impl Print,
-    answer: Undone,
+    answer: Result<ConvState, Refusal>,
     out: &[u8],
     n: usize,
     out_rest: &[u8],
@@ -45,8 +38,8 @@ fn print_answer(
     requires { (n ≤ length out.now) × (n ≤ 129) }
 {
     match answer {
-        Undone::Refused(number) => replay::print_refusal(rt, number),
-        Undone::Done(s) => {
+        Err(refusal) => replay::print_refusal(rt, refusal),
+        Ok(s) => {
             replay::print(rt, b"Y ");
             replay::print_slice(rt, out, n);
             replay::print(rt, b" ");
@@ -61,21 +54,17 @@ fn print_answer(
 // A byte more than a call takes is kept, so that the call refuses and not the program.
 fn case(rt: &(impl Input + Print), head: &[u8; 2]) -> bool {
     let mut bytes = [0u8; 129];
-    let b = replay::read_bytes(rt, &mut bytes);
-    if !b.whole {
+    let Some(n) = replay::read_bytes(rt, &mut bytes) else {
         return replay::print_short(rt);
-    }
+    };
     let mut count = [0u8; 1];
     if !replay::read_part(rt, &mut count) {
         return replay::print_short(rt);
     }
     let mut rest = [0u8; 255];
-    let r = replay::read_n_bytes(rt, long(count[0]), &mut rest);
-    if !r.whole {
+    let Some(m) = replay::read_n_bytes(rt, usize::from(count[0]), &mut rest) else {
         return replay::print_short(rt);
-    }
-    let n = b.count;
-    let m = r.count;
+    };
     let mut out = [0u8; 129];
     let mut out_rest = [0u8; 255];
     let answer = bytewise::deconvolve_bytes(
@@ -99,11 +88,9 @@ fn turn(rt: &(impl Input + Print)) -> bool {
 }
 
 fn main(rt: HostRuntime) {
-    let mut left = replay::MOST_CASES;
-    while left > 0 {
+    for _ in 0..replay::MOST_CASES {
         if !turn(&rt) {
             return;
         }
-        left -= 1;
     }
 }

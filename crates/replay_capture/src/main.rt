@@ -1,7 +1,6 @@
 // The frames of a capture as records, one case after another (docs/REPLAY.md, `capture`).
 #![tactic(auto)]
 
-use demod::{Captured, Floor};
 use replay::Head;
 
 fn print_records(rt: &impl Print, count: usize, events: &mut [u8; 30720]) -> bool {
@@ -11,11 +10,12 @@ fn print_records(rt: &impl Print, count: usize, events: &mut [u8; 30720]) -> boo
     replay_records::print_records(rt, events, count)
 }
 
-fn floor_of(head: &[u8; 17]) -> Floor {
+// The floor given, none where it is to be measured.
+fn floor_of(head: &[u8; 17]) -> Option<f32> {
     if head[12] == 1 {
-        return Floor::Measured;
+        return None;
     }
-    Floor::Given(endian::get_f32(head, 13))
+    Some(endian::get::<f32>(head, 13))
 }
 
 fn case(rt: &(impl Input + Print), head: &[u8; 17]) -> bool {
@@ -23,13 +23,11 @@ fn case(rt: &(impl Input + Print), head: &[u8; 17]) -> bool {
     let mut events = [0u8; 30720];
     let mut scratch32 = [0.0f32; 48000];
     let mut scratch64 = [0.0f64; limits::SCRATCH64];
-    let kept = replay::read_f32s(rt, &mut dbm);
-    if !kept.whole {
+    let Some(n) = replay::read_list(rt, &mut dbm) else {
         return replay::print_short(rt);
-    }
-    let n = kept.count;
-    let rate = endian::get_u32(head, 0);
-    let t0 = endian::get_f64(head, 4);
+    };
+    let rate = endian::get::<u32>(head, 0);
+    let t0 = endian::get::<f64>(head, 4);
     let floor = floor_of(head);
     match demod::decode_capture(
         &dbm[..n],
@@ -40,8 +38,8 @@ fn case(rt: &(impl Input + Print), head: &[u8; 17]) -> bool {
         &mut scratch32,
         &mut scratch64,
     ) {
-        Captured::Refused(n) => replay::print_refusal(rt, n),
-        Captured::Count(n) => print_records(rt, n, &mut events),
+        Err(refusal) => replay::print_refusal(rt, refusal),
+        Ok(n) => print_records(rt, n, &mut events),
     }
 }
 
@@ -55,11 +53,9 @@ fn turn(rt: &(impl Input + Print)) -> bool {
 }
 
 fn main(rt: HostRuntime) {
-    let mut left = replay::MOST_CASES;
-    while left > 0 {
+    for _ in 0..replay::MOST_CASES {
         if !turn(&rt) {
             return;
         }
-        left -= 1;
     }
 }

@@ -1,8 +1,6 @@
 // Dips with their depths, and the median depth of a burst's bits, one case a line (docs/REPLAY.md, `depths`).
 #![tactic(auto)]
 
-use clock::BurstBits;
-use dips::DipCount;
 use replay::Head;
 
 // The longest scratch that is lent.
@@ -11,7 +9,7 @@ const MOST_SCRATCH: usize = 6001;
 fn print_dips(rt: &impl Print, dips: &[f64; limits::SCRATCH64], n: usize) -> bool {
     replay::print(rt, b"D ");
     replay::print_number(rt, n as u64);
-    let end = whole::least(n, dips::DEPTHS);
+    let end = n.min(dips::DEPTHS);
     let mut i: usize = 0;
     while i < end {
         replay::print(rt, b" ");
@@ -30,16 +28,14 @@ fn dips_row(rt: &(impl Input + Print)) -> bool {
     }
     let mut seg = [0.0f32; 48001];
     let mut dips = [0.0f64; limits::SCRATCH64];
-    let kept = replay::read_f32s(rt, &mut seg);
-    if !kept.whole {
+    let Some(n) = replay::read_list(rt, &mut seg) else {
         return replay::print_short(rt);
-    }
-    let n = kept.count;
-    let rate = endian::get_u32(&head, 0);
-    let level = endian::get_f64(&head, 4);
+    };
+    let rate = endian::get::<u32>(&head, 0);
+    let level = endian::get::<f64>(&head, 4);
     match dips::find_dips(&seg[..n], rate, level, &mut dips) {
-        DipCount::Refused(n) => replay::print_refusal(rt, n),
-        DipCount::Count(n) => print_dips(rt, &dips, n),
+        Err(refusal) => replay::print_refusal(rt, refusal),
+        Ok(n) => print_dips(rt, &dips, n),
     }
 }
 
@@ -60,13 +56,11 @@ fn bits_row(rt: &(impl Input + Print)) -> bool {
     let mut bits = [0u8; 1024];
     let mut scratch32 = [0.0f32; 48000];
     let mut scratch64 = [0.0f64; 6001];
-    let kept = replay::read_f32s(rt, &mut seg);
-    if !kept.whole {
+    let Some(n) = replay::read_list(rt, &mut seg) else {
         return replay::print_short(rt);
-    }
-    let n = kept.count;
-    let rate = endian::get_u32(&head, 0);
-    let room = whole::least(endian::get_u16(&head, 4) as usize, MOST_SCRATCH);
+    };
+    let rate = endian::get::<u32>(&head, 0);
+    let room = usize::from(endian::get::<u16>(&head, 4)).min(MOST_SCRATCH);
     match clock::burst_bits(
         &seg[..n],
         rate,
@@ -74,9 +68,9 @@ fn bits_row(rt: &(impl Input + Print)) -> bool {
         &mut scratch32,
         &mut scratch64[..room],
     ) {
-        BurstBits::Refused(n) => replay::print_refusal(rt, n),
-        BurstBits::Nothing => replay::print_none(rt),
-        BurstBits::Bits(_, _, _, _, points, depth) => print_bits(rt, points, depth),
+        Err(refusal) => replay::print_refusal(rt, refusal),
+        Ok(None) => replay::print_none(rt),
+        Ok(Some(b)) => print_bits(rt, b.points, b.depth),
     }
 }
 

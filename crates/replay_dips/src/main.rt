@@ -1,18 +1,15 @@
 // The dips of samples, one case a line (docs/REPLAY.md, `dips`).
 #![tactic(auto)]
 
-use dips::DipCount;
 use replay::Head;
 
 fn print_dips(rt: &impl Print, dips: &[f64], n: usize) -> bool {
     replay::print(rt, b"D ");
     replay::print_number(rt, n as u64);
-    let end = whole::least(n, dips.len());
-    let mut i: usize = 0;
-    while i < end {
+    let end = n.min(dips.len());
+    for i in 0..end {
         replay::print(rt, b" ");
         replay::print_f64(rt, dips[i]);
-        i += 1;
     }
     replay::print_end(rt)
 }
@@ -20,16 +17,14 @@ fn print_dips(rt: &impl Print, dips: &[f64], n: usize) -> bool {
 fn case(rt: &(impl Input + Print), head: &[u8; 12]) -> bool {
     let mut seg = [0.0f32; 48001];
     let mut dips = [0.0f64; limits::SCRATCH64];
-    let kept = replay::read_f32s(rt, &mut seg);
-    if !kept.whole {
+    let Some(n) = replay::read_list(rt, &mut seg) else {
         return replay::print_short(rt);
-    }
-    let n = kept.count;
-    let rate = endian::get_u32(head, 0);
-    let level = endian::get_f64(head, 4);
+    };
+    let rate = endian::get::<u32>(head, 0);
+    let level = endian::get::<f64>(head, 4);
     match dips::find_dips(&seg[..n], rate, level, &mut dips) {
-        DipCount::Refused(n) => replay::print_refusal(rt, n),
-        DipCount::Count(n) => print_dips(rt, &dips, n),
+        Err(refusal) => replay::print_refusal(rt, refusal),
+        Ok(n) => print_dips(rt, &dips, n),
     }
 }
 
@@ -43,11 +38,9 @@ fn turn(rt: &(impl Input + Print)) -> bool {
 }
 
 fn main(rt: HostRuntime) {
-    let mut left = replay::MOST_CASES;
-    while left > 0 {
+    for _ in 0..replay::MOST_CASES {
         if !turn(&rt) {
             return;
         }
-        left -= 1;
     }
 }

@@ -3,7 +3,7 @@
 
 ghost use Rattle.std.specs.Prelude.{◌+◌, ◌≤◌, length};
 
-use fleet_sheet::{NUMBERS, Sheet};
+use fleet_sheet::NUMBERS;
 use replay::Head;
 
 // The longest list that is lent.
@@ -13,25 +13,17 @@ fn print_row(rt: &impl Print, rows: &[i64], at: usize)
     requires { at + 9 ≤ length rows.now }
 {
     replay::print_i64(rt, rows[at]);
-    let mut j: usize = 1;
-    while j < NUMBERS {
+    for j in 1..NUMBERS {
         replay::print(rt, b" ");
         replay::print_i64(rt, rows[at + j]);
-        j += 1;
     }
     replay::print_end(rt);
 }
 
 // A line a row, as many as `n` says, of those that the list can hold.
 fn print_rows(rt: &impl Print, rows: &[i64], n: usize) {
-    let most = rows.len() / NUMBERS;
-    let mut p: usize = 0;
-    while p < most {
-        if p == n {
-            return;
-        }
+    for p in 0..n.min(rows.len() / NUMBERS) {
         print_row(rt, rows, NUMBERS * p);
-        p += 1;
     }
 }
 
@@ -40,13 +32,9 @@ fn print_kept(rt: &impl Print, rows: &[i64], from: usize, places: usize, fill: i
     requires { places ≤ length rows.now }
 {
     let mut count: u64 = 0;
-    let mut i = from;
-    while i < places {
+    for i in from..places {
         if rows[i] == fill {
             count = std::num::wrapping_add_u64(count, 1);
-            i += 1;
-        } else {
-            i += 1;
         }
     }
     replay::print(rt, b"K ");
@@ -60,16 +48,16 @@ fn report_into(rt: &impl Print, records: &[u8], rows: &mut [i64], places: usize,
 {
     let sheet = fleet_sheet::fleet_report(records, &mut rows[..places]);
     match sheet {
-        Sheet::Refused(n) => {
-            replay::print_refusal(rt, n);
+        Err(refusal) => {
+            replay::print_refusal(rt, refusal);
             print_kept(rt, rows, 0, places, fill)
         }
-        Sheet::Rows(n) => {
+        Ok(n) => {
             replay::print(rt, b"F ");
             replay::print_number(rt, n as u64);
             replay::print_end(rt);
             print_rows(rt, rows, n);
-            let from = whole::least(n, fleet_sheet::MOST_DEVICES);
+            let from = n.min(fleet_sheet::MOST_DEVICES);
             print_kept(rt, rows, NUMBERS * from, places, fill)
         }
     }
@@ -77,14 +65,12 @@ fn report_into(rt: &impl Print, records: &[u8], rows: &mut [i64], places: usize,
 
 fn case(rt: &(impl Input + Print), head: &[u8; 10]) -> bool {
     let mut records = [0u8; 120000];
-    let k = replay::read_bytes(rt, &mut records);
-    if !k.whole {
+    let Some(n) = replay::read_bytes(rt, &mut records) else {
         return replay::print_short(rt);
-    }
-    let n = k.count;
-    let fill = replay::signed64(endian::get_u64(head, 2));
+    };
+    let fill = replay::signed64(endian::get::<u64>(head, 2));
     let mut rows = [fill; 2400];
-    let places = whole::least(endian::get_u16(head, 0) as usize, MOST_PLACES);
+    let places = usize::from(endian::get::<u16>(head, 0)).min(MOST_PLACES);
     report_into(rt, &records[..n], &mut rows, places, fill)
 }
 
@@ -98,11 +84,9 @@ fn turn(rt: &(impl Input + Print)) -> bool {
 }
 
 fn main(rt: HostRuntime) {
-    let mut left = replay::MOST_CASES;
-    while left > 0 {
+    for _ in 0..replay::MOST_CASES {
         if !turn(&rt) {
             return;
         }
-        left -= 1;
     }
 }

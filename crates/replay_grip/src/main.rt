@@ -3,21 +3,21 @@
 
 ghost use Rattle.std.specs.Prelude.{◌≤◌, length};
 
-use grip::{Air, Nearest};
+use limits::Refusal;
 use replay::Head;
 
 // The longest list that is lent.
 const MOST_PLACES: usize = 1000;
 
-fn print_nearest(rt: &impl Print, answer: Nearest) -> bool {
+fn print_nearest(rt: &impl Print, answer: Result<Option<usize>, Refusal>) -> bool {
     match answer {
-        Nearest::Refused(n) => replay::print_refusal(rt, n),
-        Nearest::Record(n) => {
+        Ok(Some(n)) => {
             replay::print(rt, b"N ");
             replay::print_number(rt, n as u64);
             replay::print_end(rt)
         }
-        Nearest::Nothing => replay::print_none(rt),
+        Ok(None) => replay::print_none(rt),
+        Err(refusal) => replay::print_refusal(rt, refusal),
     }
 }
 
@@ -27,13 +27,11 @@ fn nearest(rt: &(impl Input + Print)) -> bool {
         return replay::print_short(rt);
     }
     let mut records = [0u8; 120000];
-    let k = replay::read_bytes(rt, &mut records);
-    if !k.whole {
+    let Some(n) = replay::read_bytes(rt, &mut records) else {
         return replay::print_short(rt);
-    }
-    let n = k.count;
-    let time = endian::get_f64(&head, 0);
-    let within = endian::get_f64(&head, 8);
+    };
+    let time = endian::get::<f64>(&head, 0);
+    let within = endian::get::<f64>(&head, 8);
     print_nearest(rt, grip::nearest_message(&records[..n], time, within))
 }
 
@@ -42,13 +40,9 @@ fn print_kept(rt: &impl Print, numbers: &[u32], from: usize, places: usize, fill
     requires { places ≤ length numbers.now }
 {
     let mut count: u64 = 0;
-    let mut i = from;
-    while i < places {
+    for i in from..places {
         if numbers[i] == fill {
             count = std::num::wrapping_add_u64(count, 1);
-            i += 1;
-        } else {
-            i += 1;
         }
     }
     replay::print(rt, b"K ");
@@ -59,21 +53,11 @@ fn print_kept(rt: &impl Print, numbers: &[u32], from: usize, places: usize, fill
 // The first n numbers, of those that the list can hold, in a line.
 fn print_numbers(rt: &impl Print, numbers: &[u32], n: usize) {
     replay::print(rt, b"A");
-    let mut p: usize = 0;
-    while p < numbers.len() {
-        if p == n {
-            replay::print_end(rt);
-            return;
-        }
+    for number in numbers.iter().take(n) {
         replay::print(rt, b" ");
-        replay::print_number(rt, wide(numbers[p]));
-        p += 1;
+        replay::print_number(rt, u64::from(*number));
     }
     replay::print_end(rt);
-}
-
-fn wide(x: u32) -> u64 {
-    x as u64
 }
 
 // The call, on the first places of a list.
@@ -89,11 +73,11 @@ fn hear_into(
 {
     let air = grip::on_air(records, instant, &mut numbers[..places]);
     match air {
-        Air::Refused(n) => {
-            replay::print_refusal(rt, n);
+        Err(refusal) => {
+            replay::print_refusal(rt, refusal);
             print_kept(rt, numbers, 0, places, fill)
         }
-        Air::Numbers(n) => {
+        Ok(n) => {
             if n == 0 {
                 replay::print_none(rt);
             } else {
@@ -110,15 +94,13 @@ fn on_air(rt: &(impl Input + Print)) -> bool {
         return replay::print_short(rt);
     }
     let mut records = [0u8; 120000];
-    let k = replay::read_bytes(rt, &mut records);
-    if !k.whole {
+    let Some(n) = replay::read_bytes(rt, &mut records) else {
         return replay::print_short(rt);
-    }
-    let n = k.count;
-    let instant = endian::get_f64(&head, 0);
-    let fill = endian::get_u32(&head, 10);
+    };
+    let instant = endian::get::<f64>(&head, 0);
+    let fill = endian::get::<u32>(&head, 10);
     let mut numbers = [fill; 1000];
-    let places = whole::least(endian::get_u16(&head, 8) as usize, MOST_PLACES);
+    let places = usize::from(endian::get::<u16>(&head, 8)).min(MOST_PLACES);
     hear_into(rt, &records[..n], instant, &mut numbers, places, fill)
 }
 
@@ -140,11 +122,9 @@ fn turn(rt: &(impl Input + Print)) -> bool {
 }
 
 fn main(rt: HostRuntime) {
-    let mut left = replay::MOST_CASES;
-    while left > 0 {
+    for _ in 0..replay::MOST_CASES {
         if !turn(&rt) {
             return;
         }
-        left -= 1;
     }
 }

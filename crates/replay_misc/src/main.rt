@@ -1,32 +1,26 @@
 // The small functions, one case a line (docs/REPLAY.md, `misc`).
 #![tactic(auto)]
 
-use bursts::Level;
-use cfo::StepHz;
-use coding::Coded;
 use frame::control::ControlMessage;
 use frame::header::UplinkHeader;
-use receiver_message::Estimated;
-use record::FirstFrameEnd;
+use limits::Refusal;
 use replay::Head;
 
 // CRC-16 of bytes.
 fn crc16_row(rt: &(impl Input + Print)) -> bool {
     let mut data = [0u8; 4096];
-    let kept = replay::read_bytes(rt, &mut data);
-    if !kept.whole {
+    let Some(n) = replay::read_bytes(rt, &mut data) else {
         return replay::print_short(rt);
-    }
-    let n = kept.count;
+    };
     replay::print(rt, b"crc16 ");
     replay::print_hex(rt, coding::crc16(&data[..n]) as u64, 4);
     replay::print_end(rt)
 }
 
-fn print_coded(rt: &impl Print, name: &[u8], coded: Coded, out: &[u8]) -> bool {
+fn print_coded(rt: &impl Print, name: &[u8], coded: Result<usize, Refusal>, out: &[u8]) -> bool {
     match coded {
-        Coded::Refused(n) => replay::print_refusal(rt, n),
-        Coded::Done(n) => {
+        Err(refusal) => replay::print_refusal(rt, refusal),
+        Ok(n) => {
             replay::print(rt, name);
             replay::print_digits(rt, out, n);
             replay::print_end(rt)
@@ -42,11 +36,9 @@ fn coding_row(rt: &(impl Input + Print), undo: bool) -> bool {
     }
     let mut bits = [0u8; 1025];
     let mut out = [0u8; 1025];
-    let kept = replay::read_bytes(rt, &mut bits);
-    if !kept.whole {
+    let Some(n) = replay::read_bytes(rt, &mut bits) else {
         return replay::print_short(rt);
-    }
-    let n = kept.count;
+    };
     if undo {
         let coded = coding::deconvolve(&bits[..n], rank[0], &mut out);
         return print_coded(rt, b"deconvolve ", coded, &out);
@@ -55,20 +47,16 @@ fn coding_row(rt: &(impl Input + Print), undo: bool) -> bool {
     print_coded(rt, b"convolve ", coded, &out)
 }
 
-fn print_header(rt: &impl Print, header: UplinkHeader, out: &[u8]) -> bool {
+fn print_header(rt: &impl Print, header: Result<UplinkHeader, Refusal>, out: &[u8]) -> bool {
     match header {
-        UplinkHeader::Refused(n) => replay::print_refusal(rt, n),
-        UplinkHeader::Made {
-            size,
-            class,
-            auth_size,
-        } => {
+        Err(refusal) => replay::print_refusal(rt, refusal),
+        Ok(h) => {
             replay::print(rt, b"header ");
-            replay::print_bytes(rt, out, size);
+            replay::print_bytes(rt, out, h.size);
             replay::print(rt, b" ");
-            replay::print_number(rt, class as u64);
+            replay::print_number(rt, u64::from(h.class));
             replay::print(rt, b" ");
-            replay::print_number(rt, auth_size as u64);
+            replay::print_number(rt, u64::from(h.auth_size));
             replay::print_end(rt)
         }
     }
@@ -81,11 +69,9 @@ fn uplink_header_row(rt: &(impl Input + Print)) -> bool {
     }
     let mut payload = [0u8; 13];
     let mut out = [0u8; 18];
-    let kept = replay::read_bytes(rt, &mut payload);
-    if !kept.whole {
+    let Some(n) = replay::read_bytes(rt, &mut payload) else {
         return replay::print_short(rt);
-    }
-    let n = kept.count;
+    };
     let header = frame::header::uplink_header(
         replay_records::uplinks::fields_of(&head),
         &payload[..n],
@@ -104,17 +90,19 @@ fn print_control(rt: &impl Print, kind: &[u8], idle: u16, tx: u16, temperature: 
     replay::print_f64(rt, temperature);
 }
 
-fn print_message(rt: &impl Print, m: ControlMessage) -> bool {
+fn print_message(rt: &impl Print, m: Option<ControlMessage>) -> bool {
     match m {
-        ControlMessage::Unknown => {
+        None => {
             replay::print(rt, b"control -");
             replay::print_end(rt)
         }
-        ControlMessage::KeepAlive {
-            voltage_idle_mv,
-            voltage_tx_mv,
-            temperature_c,
-        } => {
+        Some(
+            ControlMessage::KeepAlive {
+                voltage_idle_mv,
+                voltage_tx_mv,
+                temperature_c,
+            },
+        ) => {
             print_control(
                 rt,
                 b"control 0 ",
@@ -125,12 +113,14 @@ fn print_message(rt: &impl Print, m: ControlMessage) -> bool {
             replay::print(rt, b" -");
             replay::print_end(rt)
         }
-        ControlMessage::DownlinkConfirmation {
-            voltage_idle_mv,
-            voltage_tx_mv,
-            temperature_c,
-            downlink_rssi_dbm,
-        } => {
+        Some(
+            ControlMessage::DownlinkConfirmation {
+                voltage_idle_mv,
+                voltage_tx_mv,
+                temperature_c,
+                downlink_rssi_dbm,
+            },
+        ) => {
             print_control(
                 rt,
                 b"control 1 ",
@@ -147,11 +137,9 @@ fn print_message(rt: &impl Print, m: ControlMessage) -> bool {
 
 fn decode_control_row(rt: &(impl Input + Print)) -> bool {
     let mut payload = [0u8; 4096];
-    let kept = replay::read_bytes(rt, &mut payload);
-    if !kept.whole {
+    let Some(n) = replay::read_bytes(rt, &mut payload) else {
         return replay::print_short(rt);
-    }
-    let n = kept.count;
+    };
     print_message(rt, frame::control::decode_control(&payload[..n]))
 }
 
@@ -160,9 +148,9 @@ fn cfo_step_hz_row(rt: &(impl Input + Print)) -> bool {
     if !replay::read_part(rt, &mut head) {
         return replay::print_short(rt);
     }
-    match cfo::cfo_step_hz(head[0], endian::get_u32(&head, 1)) {
-        StepHz::Refused(n) => replay::print_refusal(rt, n),
-        StepHz::Hz(x) => {
+    match cfo::cfo_step_hz(head[0], endian::get::<u32>(&head, 1)) {
+        Err(refusal) => replay::print_refusal(rt, refusal),
+        Ok(x) => {
             replay::print(rt, b"step ");
             replay::print_f64(rt, x);
             replay::print_end(rt)
@@ -176,7 +164,7 @@ fn cfo_signed_row(rt: &(impl Input + Print)) -> bool {
         return replay::print_short(rt);
     }
     replay::print(rt, b"signed ");
-    replay::print_signed(rt, cfo::cfo_signed(endian::get_u16(&head, 0)));
+    replay::print_signed(rt, cfo::cfo_signed(endian::get::<u16>(&head, 0)));
     replay::print_end(rt)
 }
 
@@ -186,7 +174,7 @@ fn trig_row(rt: &(impl Input + Print)) -> bool {
     if !replay::read_part(rt, &mut head) {
         return replay::print_short(rt);
     }
-    let a = endian::get_f64(&head, 0);
+    let a = endian::get::<f64>(&head, 0);
     replay::print(rt, b"trig ");
     replay::print_f64(rt, floats::sin64(a));
     replay::print(rt, b" ");
@@ -199,8 +187,8 @@ fn atan2_row(rt: &(impl Input + Print)) -> bool {
     if !replay::read_part(rt, &mut head) {
         return replay::print_short(rt);
     }
-    let s = endian::get_f64(&head, 0);
-    let c = endian::get_f64(&head, 8);
+    let s = endian::get::<f64>(&head, 0);
+    let c = endian::get::<f64>(&head, 8);
     replay::print(rt, b"atan2 ");
     replay::print_f64(rt, floats::atan2_64(s, c));
     replay::print_end(rt)
@@ -212,21 +200,19 @@ fn round_row(rt: &(impl Input + Print)) -> bool {
         return replay::print_short(rt);
     }
     replay::print(rt, b"round ");
-    replay::print_f64(rt, floats::round_half_up(endian::get_f64(&head, 0)));
+    replay::print_f64(rt, floats::round_half_up(endian::get::<f64>(&head, 0)));
     replay::print_end(rt)
 }
 
 fn noise_floor_row(rt: &(impl Input + Print)) -> bool {
     let mut dbm = [0.0f32; 48001];
     let mut scratch = [0.0f32; 48001];
-    let kept = replay::read_f32s(rt, &mut dbm);
-    if !kept.whole {
+    let Some(n) = replay::read_list(rt, &mut dbm) else {
         return replay::print_short(rt);
-    }
-    let n = kept.count;
+    };
     match bursts::noise_floor(&dbm[..n], &mut scratch) {
-        Level::Refused(n) => replay::print_refusal(rt, n),
-        Level::Dbm(x) => {
+        Err(refusal) => replay::print_refusal(rt, refusal),
+        Ok(x) => {
             replay::print(rt, b"floor ");
             replay::print_f32(rt, x);
             replay::print_end(rt)
@@ -234,13 +220,13 @@ fn noise_floor_row(rt: &(impl Input + Print)) -> bool {
     }
 }
 
-fn print_first_frame_end(rt: &impl Print, e: FirstFrameEnd) -> bool {
+fn print_first_frame_end(rt: &impl Print, e: Option<f64>) -> bool {
     match e {
-        FirstFrameEnd::Unknown => {
+        None => {
             replay::print(rt, b"ffe -");
             replay::print_end(rt)
         }
-        FirstFrameEnd::Known(t) => {
+        Some(t) => {
             replay::print(rt, b"ffe ");
             replay::print_f64(rt, t);
             replay::print_end(rt)
@@ -253,14 +239,12 @@ fn estimate_first_frame_end_row(rt: &(impl Input + Print)) -> bool {
     if !replay::read_part(rt, &mut part) {
         return replay::print_short(rt);
     }
-    let spans = replay_records::spans::read_spans(rt, part[0]);
-    if !spans.whole {
+    let Some(spans) = replay_records::spans::read_spans(rt, part[0]) else {
         return replay::print_short(rt);
-    }
-    let three = spans.three;
-    match receiver_message::estimate_first_frame_end(three) {
-        Estimated::Refused(n) => replay::print_refusal(rt, n),
-        Estimated::End(e) => print_first_frame_end(rt, e),
+    };
+    match receiver_message::estimate_first_frame_end(spans) {
+        Err(refusal) => replay::print_refusal(rt, refusal),
+        Ok(end) => print_first_frame_end(rt, end),
     }
 }
 
@@ -293,11 +277,9 @@ fn turn(rt: &(impl Input + Print)) -> bool {
 }
 
 fn main(rt: HostRuntime) {
-    let mut left = replay::MOST_CASES;
-    while left > 0 {
+    for _ in 0..replay::MOST_CASES {
         if !turn(&rt) {
             return;
         }
-        left -= 1;
     }
 }

@@ -1,37 +1,11 @@
 // A state that is handed in: base, unscanned count, held samples, starts, and of each message that waits its record and the time of the frame that joined last.
 ghost use Rattle.std.specs.Prelude.{◌<◌, ◌≤◌};
 
-use frame::SingleBit;
 use ledger::Pending;
 use receiver::SigfoxReceiver;
 use receiver_starts::Starts;
 use receiver_waiting::Waiting;
-use record::{FirstFrameEnd, FrameSpan, NO_RANK, SigfoxMessage, read};
-
-// A state, and whether the input had all of it.
-#[derive(Clone, Copy)]
-pub struct Given {
-    pub whole: bool,
-    pub receiver: SigfoxReceiver,
-}
-
-#[derive(Clone, Copy)]
-struct GivenStarts {
-    whole: bool,
-    starts: Starts,
-}
-
-#[derive(Clone, Copy)]
-struct GivenWaiting {
-    whole: bool,
-    waiting: Waiting,
-}
-
-fn small(n: u8) -> usize
-    ensures { result < 256 }
-{
-    n as usize
-}
+use record::{FrameSpan, NO_RANK, SigfoxMessage, read};
 
 fn least(a: u64, b: u64) -> u64
     ensures { (result ≤ a) × (result ≤ b) }
@@ -41,7 +15,7 @@ fn least(a: u64, b: u64) -> u64
 
 // n samples after the first held one, or the farthest i32.
 fn after(n: u64) -> i32 {
-    endian::i32_of_bits(least(n, 0x7fff_ffff) as u32)
+    (least(n, 0x7fff_ffff) as u32).cast_signed()
 }
 
 // n samples before it, or the farthest i32.
@@ -50,7 +24,7 @@ fn before(n: u64) -> i32 {
     if k == 0 {
         return 0;
     }
-    endian::i32_of_bits(u32::MAX - k + 1)
+    (u32::MAX - k + 1).cast_signed()
 }
 
 // A start in two's complement less the base, or the nearest i32 to it.
@@ -64,37 +38,38 @@ fn distance(start: u64, base: u64) -> i32 {
     before(least(u64::MAX - start, 0xffff_ffff) + least(base, 0xffff_ffff) + 1)
 }
 
-// A count, and that many starts; those past the last place are read over.
-fn read_starts(rt: &impl Input, starts: Starts, base: u64) -> GivenStarts {
+// A count, and that many starts; those past the last place are read over. None where the input ends first.
+fn read_starts(rt: &impl Input, starts: Starts, base: u64) -> Option<Starts> {
     let mut count = [0u8; 1];
-    let mut whole = replay::read_part(rt, &mut count);
-    let n = small(count[0]);
+    if !replay::read_part(rt, &mut count) {
+        return None;
+    }
     let mut t = starts;
-    t.count = n;
-    let mut i: usize = 0;
-    while i < n {
+    t.count = usize::from(count[0]);
+    for i in 0..t.count {
         let mut part = [0u8; 8];
-        whole = whole & replay::read_part(rt, &mut part);
-        if i < 96 {
-            t.at[i] = distance(endian::get_u64(&part, 0), base);
+        if !replay::read_part(rt, &mut part) {
+            return None;
         }
-        i += 1;
+        if i < 96 {
+            t.at[i] = distance(endian::get(&part, 0), base);
+        }
     }
-    GivenStarts { whole, starts: t }
+    Some(t)
 }
 
-fn bit_of(flags: u8) -> SingleBit {
+fn bit_of(flags: u8) -> Option<bool> {
     if flags / 8 % 2 == 0 {
-        return SingleBit::Absent;
+        return None;
     }
-    SingleBit::Is(flags / 16 % 2 == 1)
+    Some(flags / 16 % 2 == 1)
 }
 
-fn end_of(flags: u8, end: f64) -> FirstFrameEnd {
+fn end_of(flags: u8, end: f64) -> Option<f64> {
     if flags / 32 % 2 == 0 {
-        return FirstFrameEnd::Unknown;
+        return None;
     }
-    FirstFrameEnd::Known(end)
+    Some(end)
 }
 
 fn span_of(r: &[u8; 120], i: usize) -> FrameSpan
@@ -158,52 +133,46 @@ fn message_of(r: &[u8; 120]) -> SigfoxMessage {
     }
 }
 
-// A count, and for each message its record and the time of the frame that joined last; those past the last place are read over.
-fn read_waiting(rt: &impl Input, waiting: Waiting) -> GivenWaiting {
+// A count, and for each message its record and the time of the frame that joined last; those past the last place are read over. None where the input ends first.
+fn read_waiting(rt: &impl Input, waiting: Waiting) -> Option<Waiting> {
     let mut count = [0u8; 1];
-    let mut whole = replay::read_part(rt, &mut count);
-    let n = small(count[0]);
+    if !replay::read_part(rt, &mut count) {
+        return None;
+    }
     let mut t = waiting;
-    t.count = n;
-    let mut i: usize = 0;
-    while i < n {
+    t.count = usize::from(count[0]);
+    for i in 0..t.count {
         let mut r = [0u8; 120];
         let mut part = [0u8; 8];
-        let a = replay::read_part(rt, &mut r);
-        let b = replay::read_part(rt, &mut part);
-        whole = whole & (a & b);
+        if !replay::read_part(rt, &mut r) || !replay::read_part(rt, &mut part) {
+            return None;
+        }
         if i < receiver_waiting::OPEN_PLACES {
             let message = message_of(&r);
             t.messages[i] = Pending {
                 message,
-                last: endian::get_f64(&part, 0),
+                last: endian::get(&part, 0),
             };
         }
-        i += 1;
     }
-    GivenWaiting { whole, waiting: t }
+    Some(t)
 }
 
-// The state of the input, for a rate; its samples go into the buffer.
-pub fn read_state(rt: &impl Input, rate: u32, samples: &mut [f32; 48001]) -> Given {
+// The state of the input, for a rate; its samples go into the buffer. None where the input ends first.
+pub fn read_state(
+    rt: &impl Input,
+    rate: u32,
+    samples: &mut [f32; 48001],
+) -> Option<SigfoxReceiver> {
     let mut head = [0u8; 12];
-    let first = replay::read_part(rt, &mut head);
-    let kept = replay::read_f32s(rt, samples);
-    let mut receiver = SigfoxReceiver::new(rate);
-    let starts = receiver.starts;
-    let base = endian::get_u64(&head, 0);
-    let s = read_starts(rt, starts, base);
-    let waiting = receiver.waiting;
-    let w = read_waiting(rt, waiting);
-    receiver.base = base;
-    receiver.unscanned = endian::get_u32(&head, 8) as usize;
-    receiver.held = kept.count;
-    let given_starts = s.starts;
-    receiver.starts = given_starts;
-    let given_waiting = w.waiting;
-    receiver.waiting = given_waiting;
-    Given {
-        whole: first & (kept.whole & (s.whole & w.whole)),
-        receiver,
+    if !replay::read_part(rt, &mut head) {
+        return None;
     }
+    let mut receiver = SigfoxReceiver::new(rate);
+    receiver.base = endian::get(&head, 0);
+    receiver.unscanned = endian::get::<u32>(&head, 8) as usize;
+    receiver.held = replay::read_list(rt, samples)?;
+    receiver.starts = read_starts(rt, receiver.starts, receiver.base)?;
+    receiver.waiting = read_waiting(rt, receiver.waiting)?;
+    Some(receiver)
 }

@@ -8,212 +8,182 @@ mod lines; // what is printed
 use crate::block::read_block;
 use crate::given::read_state;
 use crate::lines::print_answer;
-use receiver::{Received, SigfoxReceiver};
+use limits::Refusal;
+use receiver::SigfoxReceiver;
 use replay::Head;
 
-// Between two calls: whether shifts stand behind their arguments, whether there may be another one, how many there were, and the receiver.
+// Between two calls: whether shifts stand behind their arguments, how many there were, and the receiver.
 #[derive(Clone, Copy)]
 struct State {
     shifted: bool,
-    open: bool,
     index: u64,
     receiver: SigfoxReceiver,
 }
 
-fn short(rt: &impl Print, s: State) -> State {
-    let mut t = s;
-    t.open = replay::print_short(rt);
-    t
-}
-
-fn ended(s: State) -> State {
-    let mut t = s;
-    t.open = false;
-    t
-}
-
-// The state after a call, its lines printed.
-fn after(rt: &impl Print, s: State, name: &[u8], r: Received, events: &mut [u8; 30720]) -> State {
-    let mut t = s;
-    let next = r.receiver;
-    t.receiver = next;
-    t.index = std::num::wrapping_add_u64(s.index, 1);
-    if r.refused != 0 {
-        t.open = replay::print_refusal(rt, r.refused);
-        return t;
+// The lines of a call; whether there may be another one.
+fn after(
+    rt: &impl Print,
+    s: &mut State,
+    name: &[u8],
+    answer: Result<usize, Refusal>,
+    events: &mut [u8; 30720],
+) -> bool {
+    let index = s.index;
+    s.index = index.wrapping_add(1);
+    match answer {
+        Ok(count) => print_answer(rt, index, name, count, &s.receiver, events),
+        Err(refusal) => replay::print_refusal(rt, refusal),
     }
-    t.open = print_answer(rt, s.index, name, r.count, next, events);
-    t
 }
 
 fn push(
     rt: &(impl Input + Print),
-    s: State,
+    s: &mut State,
     samples: &mut [f32; 48001],
     events: &mut [u8; 30720],
     scratch32: &mut [f32; 48000],
     scratch64: &mut [f64; limits::SCRATCH64],
-) -> State {
+) -> bool {
     let mut dbm = [0.0f32; 48001];
     let mut closed = [0u32; 64];
-    let kept = replay::read_f32s(rt, &mut dbm);
-    let behind = read_block(rt, s.shifted, &mut closed);
-    if !(kept.whole & behind.whole) {
-        return short(rt, s);
-    }
-    let n = kept.count;
-    let dates = behind.dates;
-    let shifts = behind.shifts;
-    let receiver = s.receiver;
-    let r = receiver.push(
+    let Some(n) = replay::read_list(rt, &mut dbm) else {
+        return replay::print_short(rt);
+    };
+    let Some(behind) = read_block(rt, s.shifted, &mut closed) else {
+        return replay::print_short(rt);
+    };
+    let answer = s.receiver.push(
         &dbm[..n],
-        shifts,
-        &closed[..dates],
+        behind.shifts,
+        &closed[..behind.dates],
         samples,
         events,
         scratch32,
         scratch64,
     );
-    after(rt, s, b"push", r, events)
+    after(rt, s, b"push", answer, events)
 }
 
 fn push_raw(
     rt: &(impl Input + Print),
-    s: State,
+    s: &mut State,
     samples: &mut [f32; 48001],
     events: &mut [u8; 30720],
     scratch32: &mut [f32; 48000],
     scratch64: &mut [f64; limits::SCRATCH64],
-) -> State {
+) -> bool {
     let mut raw = [0u8; 48001];
     let mut closed = [0u32; 64];
-    let kept = replay::read_bytes(rt, &mut raw);
-    let behind = read_block(rt, s.shifted, &mut closed);
-    if !(kept.whole & behind.whole) {
-        return short(rt, s);
-    }
-    let n = kept.count;
-    let dates = behind.dates;
-    let shifts = behind.shifts;
-    let receiver = s.receiver;
-    let r = receiver.push_raw(
+    let Some(n) = replay::read_bytes(rt, &mut raw) else {
+        return replay::print_short(rt);
+    };
+    let Some(behind) = read_block(rt, s.shifted, &mut closed) else {
+        return replay::print_short(rt);
+    };
+    let answer = s.receiver.push_raw(
         &raw[..n],
-        shifts,
-        &closed[..dates],
+        behind.shifts,
+        &closed[..behind.dates],
         samples,
         events,
         scratch32,
         scratch64,
     );
-    after(rt, s, b"push_raw", r, events)
+    after(rt, s, b"push_raw", answer, events)
 }
 
 fn flush(
     rt: &(impl Input + Print),
-    s: State,
+    s: &mut State,
     samples: &mut [f32; 48001],
     events: &mut [u8; 30720],
     scratch32: &mut [f32; 48000],
     scratch64: &mut [f64; limits::SCRATCH64],
-) -> State {
+) -> bool {
     let mut closed = [0u32; 64];
-    let behind = read_block(rt, s.shifted, &mut closed);
-    if !behind.whole {
-        return short(rt, s);
-    }
-    let dates = behind.dates;
-    let shifts = behind.shifts;
-    let receiver = s.receiver;
-    let r = receiver.flush(
-        shifts,
-        &closed[..dates],
+    let Some(behind) = read_block(rt, s.shifted, &mut closed) else {
+        return replay::print_short(rt);
+    };
+    let answer = s.receiver.flush(
+        behind.shifts,
+        &closed[..behind.dates],
         samples,
         events,
         scratch32,
         scratch64,
     );
-    after(rt, s, b"flush", r, events)
+    after(rt, s, b"flush", answer, events)
 }
 
 // A state that is handed in takes the place of the receiver's; the next call judges it.
-fn take_over(rt: &(impl Input + Print), s: State, samples: &mut [f32; 48001]) -> State {
-    let g = read_state(rt, s.receiver.rate, samples);
-    if !g.whole {
-        return short(rt, s);
-    }
-    let mut t = s;
-    let receiver = g.receiver;
-    t.receiver = receiver;
-    t
+fn take_over(rt: &(impl Input + Print), s: &mut State, samples: &mut [f32; 48001]) -> bool {
+    let Some(receiver) = read_state(rt, s.receiver.rate, samples) else {
+        return replay::print_short(rt);
+    };
+    s.receiver = receiver;
+    true
 }
 
 fn call(
     rt: &(impl Input + Print),
-    s: State,
+    s: &mut State,
     number: u8,
     samples: &mut [f32; 48001],
     events: &mut [u8; 30720],
     scratch32: &mut [f32; 48000],
     scratch64: &mut [f64; limits::SCRATCH64],
-) -> State {
+) -> bool {
     match number {
         0 => push(rt, s, samples, events, scratch32, scratch64),
         1 => push_raw(rt, s, samples, events, scratch32, scratch64),
         2 => flush(rt, s, samples, events, scratch32, scratch64),
         3 => take_over(rt, s, samples),
-        _ => short(rt, s),
+        _ => replay::print_short(rt),
     }
 }
 
 fn turn(
     rt: &(impl Input + Print),
-    s: State,
+    s: &mut State,
     samples: &mut [f32; 48001],
     events: &mut [u8; 30720],
     scratch32: &mut [f32; 48000],
     scratch64: &mut [f64; limits::SCRATCH64],
-) -> State {
+) -> bool {
     let mut head = [0u8; 1];
     match replay::read_head(rt, &mut head) {
-        Head::End => ended(s),
-        Head::Cut => short(rt, s),
+        Head::End => false,
+        Head::Cut => replay::print_short(rt),
         Head::Whole => call(rt, s, head[0], samples, events, scratch32, scratch64),
     }
 }
 
-// The rate of the input, and a fresh receiver of it.
-fn start(rt: &impl Input, shifted: bool) -> State {
-    let mut head = [0u8; 4];
-    let whole = replay::read_part(rt, &mut head);
-    let receiver = SigfoxReceiver::new(endian::get_u32(&head, 0));
-    State {
-        shifted,
-        open: whole,
-        index: 0,
-        receiver,
-    }
-}
-
-// The program `events`, or `shifts`.
+// The program `events`, or `shifts`: the rate of the input, and call by call.
 pub fn run(rt: &(impl Input + Print), shifted: bool) {
     let mut samples = [0.0f32; 48001];
     let mut events = [0u8; 30720];
     let mut scratch32 = [0.0f32; 48000];
     let mut scratch64 = [0.0f64; limits::SCRATCH64];
-    let mut s = start(rt, shifted);
-    let mut left = replay::MOST_CASES;
-    while left > 0 {
-        if !s.open {
-            return;
-        }
-        s = turn(
+    let mut head = [0u8; 4];
+    if !replay::read_part(rt, &mut head) {
+        return;
+    }
+    let receiver = SigfoxReceiver::new(endian::get(&head, 0));
+    let mut s = State {
+        shifted,
+        index: 0,
+        receiver,
+    };
+    for _ in 0..replay::MOST_CASES {
+        if !turn(
             rt,
-            s,
+            &mut s,
             &mut samples,
             &mut events,
             &mut scratch32,
             &mut scratch64,
-        );
-        left -= 1;
+        ) {
+            return;
+        }
     }
 }

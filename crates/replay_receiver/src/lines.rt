@@ -6,7 +6,7 @@ use receiver_waiting::Waiting;
 
 // The sample at a distance from the base; one that no state has after an accepted call is printed as 0 or as the largest number.
 fn sample(base: u64, d: i32) -> u64 {
-    let n = endian::bits_of_i32(d) as u64;
+    let n = u64::from(d.cast_unsigned());
     if n < 0x8000_0000 {
         return if base <= u64::MAX - n {
             base + n
@@ -18,16 +18,10 @@ fn sample(base: u64, d: i32) -> u64 {
     if k <= base { base - k } else { 0 }
 }
 
-fn print_starts(rt: &impl Print, s: Starts, base: u64) {
-    let n = s.count;
-    let mut i: usize = 0;
-    while i < receiver_starts::MOST_STARTS {
-        if i == n {
-            return;
-        }
+fn print_starts(rt: &impl Print, s: &Starts, base: u64) {
+    for d in s.at.iter().take(s.count) {
         replay::print(rt, b" ");
-        replay::print_number(rt, sample(base, s.at[i]));
-        i += 1;
+        replay::print_number(rt, sample(base, *d));
     }
 }
 
@@ -42,15 +36,9 @@ fn print_message(rt: &impl Print, p: Pending) {
     replay::print_f64(rt, p.last);
 }
 
-fn print_waiting(rt: &impl Print, w: Waiting) {
-    let n = w.count;
-    let mut i: usize = 0;
-    while i < receiver_waiting::OPEN_PLACES {
-        if i == n {
-            return;
-        }
-        print_message(rt, w.messages[i]);
-        i += 1;
+fn print_waiting(rt: &impl Print, w: &Waiting) {
+    for p in w.messages.iter().take(w.count) {
+        print_message(rt, *p);
     }
 }
 
@@ -59,17 +47,15 @@ fn print_field(rt: &impl Print, n: u64) {
     replay::print_number(rt, n);
 }
 
-fn print_state(rt: &impl Print, r: SigfoxReceiver) -> bool {
-    let starts = r.starts;
-    let waiting = r.waiting;
+fn print_state(rt: &impl Print, r: &SigfoxReceiver) -> bool {
     replay::print(rt, b"S");
     print_field(rt, r.held as u64);
     print_field(rt, r.base);
     print_field(rt, r.unscanned as u64);
-    print_field(rt, starts.count as u64);
-    print_starts(rt, starts, r.base);
-    print_field(rt, waiting.count as u64);
-    print_waiting(rt, waiting);
+    print_field(rt, r.starts.count as u64);
+    print_starts(rt, &r.starts, r.base);
+    print_field(rt, r.waiting.count as u64);
+    print_waiting(rt, &r.waiting);
     replay::print_end(rt)
 }
 
@@ -79,7 +65,7 @@ pub fn print_answer(
     index: u64,
     name: &[u8],
     count: usize,
-    r: SigfoxReceiver,
+    r: &SigfoxReceiver,
     events: &mut [u8; 30720],
 ) -> bool {
     replay::print(rt, b"C");

@@ -1,19 +1,11 @@
--- What a case of the input says of a span and of an uplink (docs/REPLAY.md). Assumes nothing.
-use Rattle.std.specs.Prelude.{ℕ, not, cond, List, eqb, get_or}
+-- What a case of the input says of an uplink (docs/REPLAY.md). Assumes nothing.
+use Rattle.std.specs.Prelude.{ℕ, not, cond, List, eqb, get_or, Option, None, Some, Bool}
 use Rattle.endian.specs.Bytes.{number_at}
-use Rattle.frame.specs.declared.SingleBit.{SingleBit}
-use Rattle.frame.specs.declared.SingleBit.TheVariants.{Absent, Is}
 use Rattle.frame.specs.declared.header.UplinkFields.{UplinkFields}
-use Rattle.record.specs.declared.FrameSpan.{FrameSpan}
-use Rattle.replay.specs.declared.Span.{Span}
-
--- a span that was read
-abbrev pub span_from : Span → FrameSpan
-span_from s = record { rank = s.rank; time = s.time; end = s.end }
 
 -- a single bit: 0 for none, 1 for false, 2 for true
-abbrev pub bit_from : ℕ → SingleBit
-bit_from n = cond (eqb n 0) Absent (Is (eqb n 2))
+abbrev pub bit_from : ℕ → Option Bool
+bit_from n = cond (eqb n 0) None (Some (eqb n 2))
 
 -- u32 device, u16 counter, u8 bit, u8 downlink
 abbrev pub fields_from : List ℕ → UplinkFields

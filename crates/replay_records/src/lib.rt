@@ -29,16 +29,16 @@ fn unsign32(record: &mut [u8], at: usize)
     requires { at + 4 ≤ length «record».old }
     ensures { «record».new ≡ unsigned_at 4 at «record».old }
 {
-    let n = unsigned32(endian::get_u32(record, at));
-    endian::put_u32(record, at, n);
+    let n = unsigned32(endian::get::<u32>(record, at));
+    endian::put(record, at, n);
 }
 
 fn unsign64(record: &mut [u8], at: usize)
     requires { at + 8 ≤ length «record».old }
     ensures { «record».new ≡ unsigned_at 8 at «record».old }
 {
-    let n = unsigned64(endian::get_u64(record, at));
-    endian::put_u64(record, at, n);
+    let n = unsigned64(endian::get::<u64>(record, at));
+    endian::put(record, at, n);
 }
 
 // A record with no zero's sign.
@@ -79,13 +79,8 @@ fn print_line(rt: &impl Print, events: &mut [u8], i: usize)
 // A line a record, as many as `count` says, of those that the buffer can hold.
 pub fn print_records(rt: &impl Print, events: &mut [u8], count: usize) -> bool {
     let most = events.len() / limits::RECORD;
-    let mut i: usize = 0;
-    while i < most {
-        if i == count {
-            return true;
-        }
+    for i in 0..count.min(most) {
         print_line(rt, events, i);
-        i += 1;
     }
     true
 }

@@ -1,77 +1,61 @@
 // The lines of the tracker's answers.
-use frequency::{Frame1, FrameFrequency, Freq, FrequencyTracker};
-use frequency_measure::Frequency;
-use frequency_signal::{Floor, Sample};
+use frequency::FrequencyTracker;
+use frequency_measure::FrameFrequency;
 
-fn print_frequency(rt: &impl Print, f: Frequency) {
-    match f {
-        Frequency::Nothing => {
-            replay::print(rt, b"-");
+// A value, or this text.
+fn print_index(rt: &impl Print, index: Option<u64>, none: &[u8]) {
+    match index {
+        None => {
+            replay::print(rt, none);
         }
-        Frequency::Hz(hz) => {
-            replay::print_number(rt, hz as u64);
-        }
-    }
-}
-
-fn print_floor(rt: &impl Print, f: Floor) {
-    match f {
-        Floor::Unknown => {
-            replay::print(rt, b"-");
-        }
-        Floor::Dbm(x) => {
-            replay::print_f64(rt, x);
-        }
-    }
-}
-
-fn print_sample(rt: &impl Print, s: Sample, never: &[u8]) {
-    match s {
-        Sample::Never => {
-            replay::print(rt, never);
-        }
-        Sample::At(i) => {
+        Some(i) => {
             replay::print_number(rt, i);
         }
     }
 }
 
-fn hz_of(answer: Freq) -> u64 {
-    match answer {
-        Freq::Refused(_) => 0,
-        Freq::Hz(hz) => hz as u64,
+fn print_frequency(rt: &impl Print, f: Option<u32>) {
+    match f {
+        None => {
+            replay::print(rt, b"-");
+        }
+        Some(hz) => {
+            replay::print_number(rt, u64::from(hz));
+        }
+    }
+}
+
+fn print_floor(rt: &impl Print, floor: Option<f64>) {
+    match floor {
+        None => {
+            replay::print(rt, b"-");
+        }
+        Some(x) => {
+            replay::print_f64(rt, x);
+        }
     }
 }
 
 // The line of `tuned`: the frequency, and how many tunings are held.
-pub fn print_tuned(rt: &impl Print, answer: Freq, tunings: usize) -> bool {
+pub fn print_tuned(rt: &impl Print, hz: u32, tunings: usize) -> bool {
     replay::print(rt, b"tuned ");
-    replay::print_number(rt, hz_of(answer));
+    replay::print_number(rt, u64::from(hz));
     replay::print(rt, b" ");
     replay::print_number(rt, tunings as u64);
     replay::print_end(rt)
 }
 
 // The line of `freq`.
-pub fn print_freq(rt: &impl Print, answer: Freq) -> bool {
-    match answer {
-        Freq::Refused(n) => replay::print_refusal(rt, n),
-        Freq::Hz(hz) => {
-            replay::print(rt, b"since_freq ");
-            replay::print_number(rt, hz as u64);
-            replay::print_end(rt)
-        }
-    }
+pub fn print_freq(rt: &impl Print, hz: u32) -> bool {
+    replay::print(rt, b"since_freq ");
+    replay::print_number(rt, u64::from(hz));
+    replay::print_end(rt)
 }
 
 // The line of `samples`: what the tracker holds.
 pub fn print_samples(rt: &impl Print, t: FrequencyTracker) -> bool {
-    let signal = t.signal;
-    let floor = signal.floor;
-    let from = signal.frame_from;
-    let last = signal.last_signal;
     replay::print(rt, b"samples ");
-    replay::print_number(rt, signal.n);
+    replay::print_number(rt, t.signal.n);
     replay::print(rt, b" ");
     replay::print_number(rt, t.line_start);
     replay::print(rt, b" ");
@@ -79,11 +63,11 @@ pub fn print_samples(rt: &impl Print, t: FrequencyTracker) -> bool {
     replay::print(rt, b" ");
     replay::print_number(rt, t.tunings as u64);
     replay::print(rt, b" ");
-    print_floor(rt, floor);
+    print_floor(rt, t.signal.floor);
     replay::print(rt, b" ");
-    print_sample(rt, from, b"-1");
+    print_index(rt, t.signal.frame_from, b"-1");
     replay::print(rt, b" ");
-    print_sample(rt, last, b"-");
+    print_index(rt, t.signal.last_signal, b"-");
     replay::print_end(rt)
 }
 
@@ -98,12 +82,8 @@ fn print_reading(rt: &impl Print, at: u64, lo: u32, hz: f64) {
 
 // The reading at a place that all three lists have.
 fn print_place(rt: &impl Print, i: usize, at: &[u64], lo: &[u32], hz: &[f64]) {
-    if i < at.len() {
-        if i < lo.len() {
-            if i < hz.len() {
-                print_reading(rt, at[i], lo[i], hz[i]);
-            }
-        }
+    if i < at.len() && i < lo.len() && i < hz.len() {
+        print_reading(rt, at[i], lo[i], hz[i]);
     }
 }
 
@@ -118,47 +98,22 @@ pub fn print_readings(rt: &impl Print, n: usize, at: &[u64], lo: &[u32], hz: &[f
     replay::print_end(rt)
 }
 
-fn print_u64s(rt: &impl Print, xs: &[u64]) {
+// How many numbers there are, and each of them.
+fn print_list<T: Copy, F: Fn(T)>(rt: &impl Print, xs: &[T], print_one: F)
+    requires { F.IsAlwaysCallable print_one }
+{
     replay::print(rt, b" ");
     replay::print_number(rt, xs.len() as u64);
-    let mut i: usize = 0;
-    while i < xs.len() {
+    for x in xs {
         replay::print(rt, b" ");
-        replay::print_number(rt, xs[i]);
-        i += 1;
-    }
-}
-
-fn wide(x: u32) -> u64 {
-    x as u64
-}
-
-fn print_u32s(rt: &impl Print, xs: &[u32]) {
-    replay::print(rt, b" ");
-    replay::print_number(rt, xs.len() as u64);
-    let mut i: usize = 0;
-    while i < xs.len() {
-        replay::print(rt, b" ");
-        replay::print_number(rt, wide(xs[i]));
-        i += 1;
-    }
-}
-
-fn print_f64s(rt: &impl Print, xs: &[f64]) {
-    replay::print(rt, b" ");
-    replay::print_number(rt, xs.len() as u64);
-    let mut i: usize = 0;
-    while i < xs.len() {
-        replay::print(rt, b" ");
-        replay::print_f64(rt, xs[i]);
-        i += 1;
+        print_one(*x);
     }
 }
 
 // Every place of the five lists, and what is asked for.
 pub fn print_lists(
     rt: &impl Print,
-    requested: Frequency,
+    requested: Option<u32>,
     at: &[u64],
     lo: &[u32],
     hz: &[f64],
@@ -167,56 +122,41 @@ pub fn print_lists(
 ) -> bool {
     replay::print(rt, b"lists ");
     print_frequency(rt, requested);
-    print_u64s(rt, at);
-    print_u32s(rt, lo);
-    print_f64s(rt, hz);
-    print_u64s(rt, tuned);
-    print_u32s(rt, freq);
+    print_list(rt, at, |x| replay::print_number(rt, x));
+    print_list(rt, lo, |x| replay::print_number(rt, u64::from(x)));
+    print_list(rt, hz, |x| replay::print_f64(rt, x));
+    print_list(rt, tuned, |x| replay::print_number(rt, x));
+    print_list(rt, freq, |x| replay::print_number(rt, u64::from(x)));
     replay::print_end(rt)
 }
 
 // The line of `next_tuning`.
-pub fn print_next(rt: &impl Print, tune: Frequency, retuned: bool) -> bool {
+pub fn print_next(rt: &impl Print, tune: Option<u32>, retuned: bool) -> bool {
     replay::print(rt, b"next ");
     print_frequency(rt, tune);
-    if retuned {
-        replay::print(rt, b" 1");
-        return replay::print_end(rt);
-    }
-    replay::print(rt, b" 0");
+    replay::print(rt, if retuned { b" 1" } else { b" 0" });
     replay::print_end(rt)
 }
 
 // The line of `frame_frequency`.
-pub fn print_frame_frequency(rt: &impl Print, answer: FrameFrequency) -> bool {
-    match answer {
-        FrameFrequency::Refused(n) => replay::print_refusal(rt, n),
-        FrameFrequency::Unknown => {
-            replay::print(rt, b"ff -");
-            replay::print_end(rt)
+pub fn print_frame_frequency(rt: &impl Print, found: Option<FrameFrequency>) -> bool {
+    replay::print(rt, b"ff ");
+    match found {
+        None => {
+            replay::print(rt, b"-");
         }
-        FrameFrequency::Found(hz, lo) => {
-            replay::print(rt, b"ff ");
-            replay::print_f64(rt, hz);
+        Some(f) => {
+            replay::print_f64(rt, f.hz);
             replay::print(rt, b" ");
-            replay::print_number(rt, lo as u64);
-            replay::print_end(rt)
+            replay::print_number(rt, u64::from(f.lo));
         }
     }
+    replay::print_end(rt)
 }
 
 // The line of `frame1`.
-pub fn print_frame1(rt: &impl Print, answer: Frame1) -> bool {
-    match answer {
-        Frame1::Refused(n) => replay::print_refusal(rt, n),
-        Frame1::Unknown => {
-            replay::print(rt, b"frame1 -");
-            replay::print_end(rt)
-        }
-        Frame1::Hz(hz) => {
-            replay::print(rt, b"frame1 ");
-            replay::print_number(rt, hz as u64);
-            replay::print_end(rt)
-        }
-    }
+pub fn print_frame1(rt: &impl Print, f: Option<u32>) -> bool {
+    replay::print(rt, b"frame1 ");
+    print_frequency(rt, f);
+    replay::print_end(rt)
 }

@@ -1,8 +1,6 @@
 // The frequency tracker, one call a line (docs/REPLAY.md, `tracker`).
 #![tactic(auto)]
 
-ghost use Rattle.std.specs.Prelude.{◌≤◌};
-
 mod given; // a tracker that is handed in
 mod lines; // what is printed
 
@@ -12,8 +10,9 @@ use crate::lines::{
     print_samples, print_tuned,
 };
 use frequency::FrequencyTracker;
+use limits::Refusal;
 use replay::Head;
-use replay_records::spans::{read_spans, span_of};
+use replay_records::spans::read_spans;
 
 // The program's places for readings and for tunings.
 const READINGS: usize = 8000;
@@ -23,131 +22,85 @@ const TUNINGS: usize = 64;
 // The call that hands in a tracker.
 const GIVEN: u8 = 7;
 
-// Between two calls: whether there may be another one, the refusal of `new` or 0, how much of each list is lent, and the tracker.
+// Between two calls: whether there may be another one, how much of each list is lent, and the tracker, or why there is none.
 #[derive(Clone, Copy)]
 struct State {
     open: bool,
-    refused: u8,
     lengths: Lengths,
-    tracker: FrequencyTracker,
+    tracker: Result<FrequencyTracker, Refusal>,
 }
 
-fn going(s: State, open: bool) -> State {
-    let mut t = s;
-    t.open = open;
-    t
-}
+// ---- each call reads what is handed in, asks the tracker, and prints; it answers whether there may be another one
 
-fn short(rt: &impl Print, s: State) -> State {
-    going(s, replay::print_short(rt))
-}
-
-fn refused(rt: &impl Print, s: State, n: u8) -> State {
-    going(s, replay::print_refusal(rt, n))
-}
-
-// The state with the tracker that an accepted call gave back.
-fn after(s: State, tracker: FrequencyTracker, open: bool) -> State {
-    let mut t = s;
-    t.tracker = tracker;
-    t.open = open;
-    t
-}
-
-fn tuned(rt: &(impl Input + Print), s: State, tuned: &mut [u64], freq: &mut [u32]) -> State {
+fn tuned(
+    rt: &(impl Input + Print),
+    s: &mut State,
+    tuned: &mut [u64],
+    freq: &mut [u32],
+) -> Result<bool, Refusal> {
     let mut part = [0u8; 4];
     if !replay::read_part(rt, &mut part) {
-        return short(rt, s);
+        return Ok(replay::print_short(rt));
     }
-    if s.refused != 0 {
-        return refused(rt, s, s.refused);
-    }
-    let tracker = s.tracker;
-    let r = tracker.tuned(endian::get_u32(&part, 0), tuned, freq);
-    if r.refused != 0 {
-        return refused(rt, s, r.refused);
-    }
-    let next = r.tracker;
-    let answer = next.freq(tuned, freq);
-    after(s, next, print_tuned(rt, answer, next.tunings))
+    let mut t = s.tracker?;
+    t.tuned(endian::get::<u32>(&part, 0), tuned, freq)?;
+    s.tracker = Ok(t);
+    let hz = t.freq(tuned, freq).unwrap_or(0);
+    Ok(print_tuned(rt, hz, t.tunings))
 }
 
 fn samples(
     rt: &(impl Input + Print),
-    s: State,
+    s: &mut State,
     at: &mut [u64],
     lo: &mut [u32],
     hz: &mut [f64],
     tuned: &mut [u64],
     freq: &mut [u32],
-) -> State {
+) -> Result<bool, Refusal> {
     let mut dbm = [0.0f32; 48001];
-    let kept = replay::read_f32s(rt, &mut dbm);
-    if !kept.whole {
-        return short(rt, s);
-    }
-    if s.refused != 0 {
-        return refused(rt, s, s.refused);
-    }
-    let n = kept.count;
-    let tracker = s.tracker;
-    let r = tracker.samples(&dbm[..n], at, lo, hz, tuned, freq);
-    if r.refused != 0 {
-        return refused(rt, s, r.refused);
-    }
-    let next = r.tracker;
-    after(s, next, print_samples(rt, next))
+    let Some(n) = replay::read_list(rt, &mut dbm) else {
+        return Ok(replay::print_short(rt));
+    };
+    let mut t = s.tracker?;
+    t.samples(&dbm[..n], at, lo, hz, tuned, freq)?;
+    s.tracker = Ok(t);
+    Ok(print_samples(rt, t))
 }
 
 fn cfo(
     rt: &(impl Input + Print),
-    s: State,
+    s: &mut State,
     at: &mut [u64],
     lo: &mut [u32],
     hz: &mut [f64],
     tuned: &[u64],
     freq: &[u32],
-) -> State {
+) -> Result<bool, Refusal> {
     let mut raw = [0u16; 4097];
-    let kept = replay::read_u16s(rt, &mut raw);
-    if !kept.whole {
-        return short(rt, s);
-    }
-    if s.refused != 0 {
-        return refused(rt, s, s.refused);
-    }
-    let n = kept.count;
-    let tracker = s.tracker;
-    let r = tracker.cfo(&raw[..n], at, lo, hz, tuned, freq);
-    if r.refused != 0 {
-        return refused(rt, s, r.refused);
-    }
-    let next = r.tracker;
-    after(s, next, print_readings(rt, next.readings, at, lo, hz))
+    let Some(n) = replay::read_list(rt, &mut raw) else {
+        return Ok(replay::print_short(rt));
+    };
+    let mut t = s.tracker?;
+    t.cfo(&raw[..n], at, lo, hz, tuned, freq)?;
+    s.tracker = Ok(t);
+    Ok(print_readings(rt, t.readings, at, lo, hz))
 }
 
 fn next_tuning(
     rt: &impl Print,
-    s: State,
+    s: &mut State,
     at: &[u64],
     lo: &[u32],
     hz: &[f64],
     tuned: &[u64],
     freq: &[u32],
     scratch: &mut [f64],
-) -> State {
-    if s.refused != 0 {
-        return refused(rt, s, s.refused);
-    }
-    let tracker = s.tracker;
-    let r = tracker.next_tuning(at, lo, hz, tuned, freq, scratch);
-    if r.refused != 0 {
-        return refused(rt, s, r.refused);
-    }
-    let next = r.tracker;
-    let tune = r.tune;
-    let signal = next.signal;
-    after(s, next, print_next(rt, tune, signal.retuned))
+) -> Result<bool, Refusal> {
+    let mut t = s.tracker?;
+    let tune = t.next_tuning(at, lo, hz, tuned, freq, scratch)?;
+    s.tracker = Ok(t);
+    Ok(print_next(rt, tune, t.signal.retuned))
 }
 
 fn frame_frequency(
@@ -157,17 +110,13 @@ fn frame_frequency(
     lo: &[u32],
     hz: &[f64],
     scratch: &mut [f64],
-) -> State {
-    let one = replay::read_span(rt, true);
-    if !one.whole {
-        return short(rt, s);
-    }
-    if s.refused != 0 {
-        return refused(rt, s, s.refused);
-    }
-    let tracker = s.tracker;
-    let answer = tracker.frame_frequency(span_of(one), at, lo, hz, scratch);
-    going(s, print_frame_frequency(rt, answer))
+) -> Result<bool, Refusal> {
+    let Some(span) = replay::read_span(rt, true) else {
+        return Ok(replay::print_short(rt));
+    };
+    let t = s.tracker?;
+    let found = t.frame_frequency(span, at, lo, hz, scratch)?;
+    Ok(print_frame_frequency(rt, found))
 }
 
 fn frame1(
@@ -177,30 +126,22 @@ fn frame1(
     lo: &[u32],
     hz: &[f64],
     scratch: &mut [f64],
-) -> State {
+) -> Result<bool, Refusal> {
     let mut part = [0u8; 2];
     if !replay::read_part(rt, &mut part) {
-        return short(rt, s);
+        return Ok(replay::print_short(rt));
     }
-    let spans = read_spans(rt, part[1]);
-    if !spans.whole {
-        return short(rt, s);
-    }
-    if s.refused != 0 {
-        return refused(rt, s, s.refused);
-    }
-    let tracker = s.tracker;
-    let three = spans.three;
-    let answer = tracker.frame1(three, part[0] != 0, at, lo, hz, scratch);
-    going(s, print_frame1(rt, answer))
+    let Some(spans) = read_spans(rt, part[1]) else {
+        return Ok(replay::print_short(rt));
+    };
+    let t = s.tracker?;
+    let f = t.frame1(spans, part[0] != 0, at, lo, hz, scratch)?;
+    Ok(print_frame1(rt, f))
 }
 
-fn freq(rt: &impl Print, s: State, tuned: &[u64], freq: &[u32]) -> State {
-    if s.refused != 0 {
-        return refused(rt, s, s.refused);
-    }
-    let tracker = s.tracker;
-    going(s, print_freq(rt, tracker.freq(tuned, freq)))
+fn freq(rt: &impl Print, s: State, tuned: &[u64], freq: &[u32]) -> Result<bool, Refusal> {
+    let t = s.tracker?;
+    Ok(print_freq(rt, t.freq(tuned, freq)?))
 }
 
 // Every place of the lists as they are lent.
@@ -212,18 +153,14 @@ fn look(
     hz: &[f64],
     tuned: &[u64],
     freq: &[u32],
-) -> State {
-    if s.refused != 0 {
-        return refused(rt, s, s.refused);
-    }
-    let tracker = s.tracker;
-    let requested = tracker.requested;
-    going(s, print_lists(rt, requested, at, lo, hz, tuned, freq))
+) -> Result<bool, Refusal> {
+    let t = s.tracker?;
+    Ok(print_lists(rt, t.requested, at, lo, hz, tuned, freq))
 }
 
 fn call(
     rt: &(impl Input + Print),
-    s: State,
+    s: &mut State,
     number: u8,
     at: &mut [u64],
     lo: &mut [u32],
@@ -231,46 +168,40 @@ fn call(
     tunings: &mut [u64],
     freqs: &mut [u32],
     scratch: &mut [f64],
-) -> State {
+) -> Result<bool, Refusal> {
     match number {
         0 => tuned(rt, s, tunings, freqs),
         1 => samples(rt, s, at, lo, hz, tunings, freqs),
         2 => cfo(rt, s, at, lo, hz, tunings, freqs),
         3 => next_tuning(rt, s, at, lo, hz, tunings, freqs, scratch),
-        4 => frame_frequency(rt, s, at, lo, hz, scratch),
-        5 => frame1(rt, s, at, lo, hz, scratch),
-        6 => freq(rt, s, tunings, freqs),
-        8 => look(rt, s, at, lo, hz, tunings, freqs),
-        _ => short(rt, s),
+        4 => frame_frequency(rt, *s, at, lo, hz, scratch),
+        5 => frame1(rt, *s, at, lo, hz, scratch),
+        6 => freq(rt, *s, tunings, freqs),
+        8 => look(rt, *s, at, lo, hz, tunings, freqs),
+        _ => Ok(replay::print_short(rt)),
     }
-}
-
-fn least(a: usize, b: usize) -> usize
-    ensures { result ≤ b }
-{
-    if a < b { a } else { b }
 }
 
 // A call with as much of the lists as is lent.
 fn lend(
     rt: &(impl Input + Print),
-    s: State,
+    s: &mut State,
     number: u8,
     at: &mut [u64],
     lo: &mut [u32],
     hz: &mut [f64],
     tunings: &mut [u64],
     freqs: &mut [u32],
-) -> State {
+) {
     let lengths = s.lengths;
-    let a = least(lengths.at, at.len());
-    let b = least(lengths.lo, lo.len());
-    let c = least(lengths.hz, hz.len());
-    let d = least(lengths.tuned, tunings.len());
-    let e = least(lengths.freq, freqs.len());
+    let a = lengths.at.min(at.len());
+    let b = lengths.lo.min(lo.len());
+    let c = lengths.hz.min(hz.len());
+    let d = lengths.tuned.min(tunings.len());
+    let e = lengths.freq.min(freqs.len());
     let mut scratch = [0.0f64; 8000];
-    let room = least(lengths.scratch, READINGS);
-    call(
+    let room = lengths.scratch.min(READINGS);
+    let answer = call(
         rt,
         s,
         number,
@@ -280,51 +211,57 @@ fn lend(
         &mut tunings[..d],
         &mut freqs[..e],
         &mut scratch[..room],
-    )
+    );
+    s.open = match answer {
+        Ok(open) => open,
+        Err(refusal) => replay::print_refusal(rt, refusal),
+    };
 }
 
 // A tracker that is handed in takes the place of the program's; the next call judges it.
 fn take_over(
     rt: &(impl Input + Print),
-    s: State,
+    s: &mut State,
     at: &mut [u64; 8000],
     lo: &mut [u32; 8000],
     hz: &mut [f64; 8000],
     tunings: &mut [u64; 64],
     freqs: &mut [u32; 64],
-) -> State {
-    let g = read_tracker(rt, at, lo, hz, tunings, freqs);
-    if !g.whole {
-        return short(rt, s);
-    }
-    let tracker = g.tracker;
-    let lengths = g.lengths;
-    State {
+) {
+    let Some(g) = read_tracker(rt, at, lo, hz, tunings, freqs) else {
+        s.open = replay::print_short(rt);
+        return;
+    };
+    *s = State {
         open: true,
-        refused: 0,
-        lengths: lengths,
-        tracker: tracker,
-    }
+        lengths: g.lengths,
+        tracker: Ok(g.tracker),
+    };
 }
 
 fn turn(
     rt: &(impl Input + Print),
-    s: State,
+    s: &mut State,
     at: &mut [u64; 8000],
     lo: &mut [u32; 8000],
     hz: &mut [f64; 8000],
     tunings: &mut [u64; 64],
     freqs: &mut [u32; 64],
-) -> State {
+) {
     let mut head = [0u8; 1];
     match replay::read_head(rt, &mut head) {
-        Head::End => going(s, false),
-        Head::Cut => short(rt, s),
+        Head::End => {
+            s.open = false;
+        }
+        Head::Cut => {
+            s.open = replay::print_short(rt);
+        }
         Head::Whole => {
             if head[0] == GIVEN {
-                return take_over(rt, s, at, lo, hz, tunings, freqs);
+                take_over(rt, s, at, lo, hz, tunings, freqs);
+            } else {
+                lend(rt, s, head[0], at, lo, hz, tunings, freqs);
             }
-            lend(rt, s, head[0], at, lo, hz, tunings, freqs)
         }
     }
 }
@@ -332,13 +269,10 @@ fn turn(
 fn start(rt: &impl Input) -> State {
     let mut head = [0u8; 16];
     let whole = replay::read_part(rt, &mut head);
-    let rate = endian::get_u32(&head, 0);
-    let base = endian::get_u32(&head, 4);
-    let fresh = FrequencyTracker::new(rate, base, endian::get_f64(&head, 8));
-    let tracker = fresh.tracker;
+    let rate = endian::get::<u32>(&head, 0);
+    let base = endian::get::<u32>(&head, 4);
     State {
         open: whole,
-        refused: fresh.refused,
         lengths: Lengths {
             at: READINGS,
             lo: READINGS,
@@ -347,7 +281,7 @@ fn start(rt: &impl Input) -> State {
             freq: TUNINGS,
             scratch: READINGS,
         },
-        tracker: tracker,
+        tracker: FrequencyTracker::new(rate, base, endian::get::<f64>(&head, 8)),
     }
 }
 
@@ -358,12 +292,18 @@ fn main(rt: HostRuntime) {
     let mut tunings = [0u64; 64];
     let mut freqs = [0u32; 64];
     let mut s = start(&rt);
-    let mut left = replay::MOST_CASES;
-    while left > 0 {
+    for _ in 0..replay::MOST_CASES {
         if !s.open {
             return;
         }
-        s = turn(&rt, s, &mut at, &mut lo, &mut hz, &mut tunings, &mut freqs);
-        left -= 1;
+        turn(
+            &rt,
+            &mut s,
+            &mut at,
+            &mut lo,
+            &mut hz,
+            &mut tunings,
+            &mut freqs,
+        );
     }
 }

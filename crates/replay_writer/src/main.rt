@@ -4,19 +4,19 @@
 ghost use Rattle.std.specs.Prelude.{◌≤◌, length};
 
 use frame::header::UplinkFields;
+use limits::Refusal;
 use replay::Head;
-use writer::Written;
 
 // The longest slice that is lent.
 const MOST_ROOM: usize = 700;
 
 // The count of each repetition, by rank.
-fn print_written(rt: &impl Print, written: Written) {
+fn print_written(rt: &impl Print, written: Result<usize, Refusal>) {
     match written {
-        Written::Refused(n) => {
-            replay::print_refusal(rt, n);
+        Err(refusal) => {
+            replay::print_refusal(rt, refusal);
         }
-        Written::Bits(n) => {
+        Ok(n) => {
             replay::print(rt, b"W ");
             replay::print_number(rt, n as u64);
             replay::print(rt, b" ");
@@ -47,23 +47,19 @@ fn write_into(
 
 fn case(rt: &(impl Input + Print), head: &[u8; 8]) -> bool {
     let mut payload = [0u8; 13];
-    let p = replay::read_bytes(rt, &mut payload);
-    if !p.whole {
+    let Some(n) = replay::read_bytes(rt, &mut payload) else {
         return replay::print_short(rt);
-    }
+    };
     let mut auth = [0u8; 6];
-    let a = replay::read_bytes(rt, &mut auth);
-    if !a.whole {
+    let Some(m) = replay::read_bytes(rt, &mut auth) else {
         return replay::print_short(rt);
-    }
+    };
     let mut lent = [0u8; 3];
     if !replay::read_part(rt, &mut lent) {
         return replay::print_short(rt);
     }
     let mut out = [lent[2]; 700];
-    let room = whole::least(endian::get_u16(&lent, 0) as usize, MOST_ROOM);
-    let n = p.count;
-    let m = a.count;
+    let room = usize::from(endian::get::<u16>(&lent, 0)).min(MOST_ROOM);
     write_into(
         rt,
         replay_records::uplinks::fields_of(head),
@@ -84,11 +80,9 @@ fn turn(rt: &(impl Input + Print)) -> bool {
 }
 
 fn main(rt: HostRuntime) {
-    let mut left = replay::MOST_CASES;
-    while left > 0 {
+    for _ in 0..replay::MOST_CASES {
         if !turn(&rt) {
             return;
         }
-        left -= 1;
     }
 }

@@ -1,4 +1,5 @@
 -- Times from 0 to 10^10 s, and their whole seconds. Assumes nothing.
+use Rattle.std.proofs.Common.{Option, Some}
 use mathlib.Core.Path.{◌≡◌, refl, sym, ap, subst}
 use mathlib.Core.List.{List}
 use mathlib.Core.Bool.{Bool, true, false, ◌&&◌, ◌||◌, true≢false}
@@ -12,8 +13,6 @@ use Rattle.floats.specs.Number.{num}
 use Rattle.floats.specs.Floor.{floor}
 use Rattle.limits.proofs.Samples.{and_right}
 use Rattle.shifts.specs.Shifts.{farthest, in_range, second, mark_at, mark_from}
-use Rattle.shifts.specs.declared.StreamStart.{StreamStart}
-use Rattle.shifts.specs.declared.StreamStart.TheVariants.{Given}
 use Rattle.shifts.specs.declared.Shifts.{Shifts}
 
 -- the constants of the code
@@ -71,7 +70,7 @@ pub minus-zero : second (fin true 0 (pos 0)) ≡ 0
 unfolding to_unsigned
 minus-zero = refl
 
-pub given-mark : (o : StreamStart) (start : ℕ) (s : Shifts) (closed : List ℕ) (x : Float) (t : ℕ) → o ≡ Given start → in_range x ≡ true → t ≡ second x
+pub given-mark : (o : (Option ℕ)) (start : ℕ) (s : Shifts) (closed : List ℕ) (x : Float) (t : ℕ) → o ≡ Some start → in_range x ≡ true → t ≡ second x
     → mark_at start s closed t ≡ mark_from o s closed x
 unfolding mark_from
 given-mark o start s closed x t e h q = rw (e, h, q) refl

@@ -7,7 +7,8 @@ use native.Mathlib.Omega.{arith}
 use borrow.Author.Tests.{ltb-true, ltb-false, leb-true, leb-false, eqb-true, eqb-false, lt-ltb, le-ltb}
 use lib.Dec.{eqb, leb, ltb}
 use Rattle.limits.proofs.Samples.{and_left, and_right}
-use Rattle.shifts.specs.Shifts.{week_min, window_ok, windows_ok, minute_at, any, all, holds}
+use Rattle.std.specs.List.{list_all, list_any}
+use Rattle.shifts.specs.Shifts.{week_min, window_ok, windows_ok, minute_at, holds}
 use Rattle.shifts.specs.Walk.{next, meets, walked}
 use Rattle.shifts.specs.declared.Window.{Window}
 
@@ -78,14 +79,13 @@ as_walked m w hm ha he =
     ∙ sym (meets_is week_min m w.start w.end ha hm he (omega arith))
 
 -- so is the test of all windows of a call that is not refused
-pub all_walked : (m : ℕ) (l : List Window) → m < week_min → windows_ok l ≡ true → any (holds m) l ≡ any (walked m) l
-unfolding any all
+pub all_walked : (m : ℕ) (l : List Window) → m < week_min → windows_ok l ≡ true → list_any (holds m) l ≡ list_any (walked m) l
 all_walked m [] hm e = refl
 all_walked m (w ∷ l) hm e =
-    let h = and_left (window_ok w) (all window_ok l) e in
+    let h = and_left (window_ok w) (list_all window_ok l) e in
     rw (
       as_walked m w hm (ltb-true w.start week_min (and_left (ltb w.start week_min) (ltb w.end week_min) h)) (ltb-true w.end week_min (and_right (ltb w.start week_min) (ltb w.end week_min) h)),
-      all_walked m l hm (and_right (window_ok w) (all window_ok l) e),
+      all_walked m l hm (and_right (window_ok w) (list_all window_ok l) e),
     ) refl
 
 -- a mark looks at a minute of the week

@@ -1,10 +1,9 @@
 -- Shift windows (02, request 03): which are accepted, and the mark of a message by its time. Assumes nothing.
-use Rattle.std.specs.Prelude.{List, [], ◌∷◌, Bool, true, false, ◌&&◌, ◌||◌, cond, ℕ, ◌+◌, ◌/◌, ◌%◌, take, replicate, leb, ltb, eqb, Float}
+use Rattle.std.specs.Prelude.{List, [], ◌∷◌, Bool, true, ◌&&◌, ◌||◌, cond, ℕ, ◌+◌, ◌/◌, ◌%◌, take, replicate, leb, ltb, eqb, Float, Option, None, Some}
+use Rattle.std.specs.List.{list_all, list_any}
 use Rattle.std.specs.Float.Ieee.{le, to_unsigned}
 use Rattle.floats.specs.Number.{num}
 use Rattle.limits.specs.Limits.{bad_shifts}
-use Rattle.shifts.specs.declared.StreamStart.{StreamStart}
-use Rattle.shifts.specs.declared.StreamStart.TheVariants.{Given, Unknown}
 use Rattle.shifts.specs.declared.Window.{Window}
 use Rattle.shifts.specs.declared.Shifts.{Shifts}
 
@@ -42,29 +41,21 @@ windows_of s = take s.count s.windows
 
 -- no start second, no window
 abbrev pub no_shifts : Shifts
-no_shifts = record { start = Unknown; windows = replicate most_windows (record { start = 0; end = 0 }); count = 0 }
-
-unfoldable pub all : {A : Type 0} → (A → Bool) → List A → Bool
-all p [] = true
-all p (x ∷ l) = p x && all p l
-
-unfoldable pub any : {A : Type 0} → (A → Bool) → List A → Bool
-any p [] = false
-any p (x ∷ l) = p x || any p l
+no_shifts = record { start = None; windows = replicate most_windows (record { start = 0; end = 0 }); count = 0 }
 
 -- ---- refusal 11
 
 -- not "a start second of 604,800 or more"
-unfoldable pub start_ok : StreamStart → Bool
-start_ok (Given s) = ltb s week_s
-start_ok Unknown = true
+unfoldable pub start_ok : Option ℕ → Bool
+start_ok (Some s) = ltb s week_s
+start_ok None = true
 
 -- not "a minute of 10,080 or more"
 abbrev pub window_ok : Window → Bool
 window_ok w = ltb w.start week_min && ltb w.end week_min
 
 abbrev pub windows_ok : List Window → Bool
-windows_ok l = all window_ok l
+windows_ok l = list_all window_ok l
 
 -- every date of l is above the one before it, the first above d
 unfoldable pub rising_from : ℕ → List ℕ → Bool
@@ -102,7 +93,7 @@ abbrev pub minute_at : ℕ → ℕ → ℕ
 minute_at start t = (start + t) % week_s / 60
 
 abbrev pub among : ℕ → List ℕ → Bool
-among d l = any (eqb d) l
+among d l = list_any (eqb d) l
 
 -- "The start minute belongs to the window, the end minute doesn't; an end before the start runs over Sunday midnight; equal ends mean the whole week"
 -- (law `as-walked`: the minutes of a walk from the start to the end)
@@ -112,7 +103,7 @@ holds m w =
     (cond (ltb w.start w.end) (leb w.start m && ltb m w.end) (leb w.start m || ltb m w.end))
 
 abbrev pub any_holds : ℕ → List Window → Bool
-any_holds m l = any (holds m) l
+any_holds m l = list_any (holds m) l
 
 -- "On a closed date .. every message is outside"
 unfoldable pub mark_at : ℕ → Shifts → List ℕ → ℕ → ℕ
@@ -120,9 +111,9 @@ mark_at start s closed t =
     cond (among (day_at start t) closed) outside
     (cond (any_holds (minute_at start t) (windows_of s)) inside outside)
 
-unfoldable pub mark_from : StreamStart → Shifts → List ℕ → Float → ℕ
-mark_from Unknown s closed x = unmarked
-mark_from (Given start) s closed x = cond (in_range x) (mark_at start s closed (second x)) outside
+unfoldable pub mark_from : Option ℕ → Shifts → List ℕ → Float → ℕ
+mark_from None s closed x = unmarked
+mark_from (Some start) s closed x = cond (in_range x) (mark_at start s closed (second x)) outside
 
 -- "every message is marked inside or outside by its time, rounded down to a second"
 abbrev pub mark_of : Shifts → List ℕ → Float → ℕ

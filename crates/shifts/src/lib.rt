@@ -2,7 +2,10 @@
 #![tactic(auto)]
 
 ghost use Rattle.std.specs.Prelude.{◌≡◌, true, ◌+◌, ◌≤◌, take};
+ghost use Rattle.limits.specs.Answer.{cause_of};
 ghost use Rattle.shifts.specs.Shifts.{no_shifts, start_ok, window_ok, windows_ok, rising, shifts_ok, shifts_cause, in_range, farthest, second, among, holds, any_holds, mark_at, mark_of};
+
+use limits::Refusal;
 
 pub const MOST_WINDOWS: usize = 32;
 
@@ -23,13 +26,6 @@ pub const INSIDE: u8 = 1;
 
 pub const OUTSIDE: u8 = 2;
 
-// The second of the week at which the stream began (Monday 00:00 is 0), or none.
-#[derive(Clone, Copy)]
-pub enum StreamStart {
-    Given(u32),
-    Unknown,
-}
-
 // Minutes of the week: the start belongs to the window, the end doesn't; equal ends mean the whole week.
 #[derive(Clone, Copy)]
 pub struct Window {
@@ -40,7 +36,7 @@ pub struct Window {
 // The first `count` windows. Closed dates stand beside it, as a lent slice of day numbers.
 #[derive(Clone, Copy)]
 pub struct Shifts {
-    pub start: StreamStart,
+    pub start: Option<u32>,
     pub windows: [Window; 32],
     pub count: usize,
 }
@@ -52,7 +48,7 @@ impl Shifts {
     {
         let w = Window { start: 0, end: 0 };
         Self {
-            start: StreamStart::Unknown,
+            start: None,
             windows: [w; 32],
             count: 0,
         }
@@ -61,12 +57,12 @@ impl Shifts {
 
 // ---- refusal 11
 
-fn start_ok(start: StreamStart) -> bool
+fn start_ok(start: Option<u32>) -> bool
     ensures { result ≡ start_ok start }
 {
     match start {
-        StreamStart::Given(s) => s < WEEK_S,
-        StreamStart::Unknown => true,
+        Some(s) => s < WEEK_S,
+        None => true,
     }
 }
 
@@ -78,33 +74,17 @@ fn window_ok(w: Window) -> bool
     start & end
 }
 
-// Whether the first n windows lie in the week.
-fn windows_ok(windows: [Window; 32], n: usize) -> bool
-    requires { n ≤ 32 }
-    ensures { result ≡ windows_ok (take n windows) }
+fn windows_ok(windows: &[Window]) -> bool
+    ensures { result ≡ windows_ok windows.now }
 {
-    let mut i: usize = 0;
-    while i < n {
-        if !window_ok(windows[i]) {
-            return false;
-        }
-        i += 1;
-    }
-    true
+    windows.iter().all(|w| window_ok(*w))
 }
 
 // Whether each date is above the one before it.
 fn rise(dates: &[u32]) -> bool
     ensures { result ≡ rising dates.now }
 {
-    let mut i: usize = 1;
-    while i < dates.len() {
-        if dates[i] <= dates[i - 1] {
-            return false;
-        }
-        i += 1;
-    }
-    true
+    dates.is_sorted_by(|a, b| a < b)
 }
 
 // Whether refusal 11 does not apply.
@@ -120,20 +100,20 @@ pub fn shifts_ok(s: Shifts, closed: &[u32]) -> bool
         return false;
     }
     let windows = s.windows;
-    if !windows_ok(windows, n) {
+    if !windows_ok(&windows[..n]) {
         return false;
     }
     rise(closed)
 }
 
-// Refusal 11, or 0.
-pub fn cause(s: Shifts, closed: &[u32]) -> u8
-    ensures { result ≡ shifts_cause s closed.now }
+// Refusal 11.
+pub fn check(s: Shifts, closed: &[u32]) -> Result<(), Refusal>
+    ensures { cause_of result ≡ shifts_cause s closed.now }
 {
     if shifts_ok(s, closed) {
-        return 0;
+        return Ok(());
     }
-    limits::BAD_SHIFTS
+    Err(Refusal::BadShifts)
 }
 
 // ---- the mark
@@ -171,33 +151,16 @@ fn holds(w: Window, minute: u64) -> bool
 }
 
 // Whether one of the first n windows holds the minute; of a count over 32, all there are.
-fn any_holds(windows: [Window; 32], n: usize, minute: u64) -> bool
-    ensures { result ≡ any_holds minute (take n windows) }
+fn any_holds(windows: &[Window; 32], n: usize, minute: u64) -> bool
+    ensures { result ≡ any_holds minute (take n windows.now) }
 {
-    let mut i: usize = 0;
-    while i < n {
-        if MOST_WINDOWS <= i {
-            return false;
-        }
-        if holds(windows[i], minute) {
-            return true;
-        }
-        i += 1;
-    }
-    false
+    windows.iter().take(n).any(|w| holds(*w, minute))
 }
 
 fn is_among(dates: &[u32], day: u64) -> bool
     ensures { result ≡ among day dates.now }
 {
-    let mut i: usize = 0;
-    while i < dates.len() {
-        if day == (dates[i] as u64) {
-            return true;
-        }
-        i += 1;
-    }
-    false
+    dates.iter().any(|d| day == u64::from(*d))
 }
 
 // The mark at t seconds of a stream that began at a second of the week.
@@ -212,7 +175,7 @@ fn mark_at(start: u32, s: Shifts, closed: &[u32], t: u64) -> u8
     }
     let minute = (first + t) % (WEEK_S as u64) / 60;
     let windows = s.windows;
-    if any_holds(windows, s.count, minute) {
+    if any_holds(&windows, s.count, minute) {
         return INSIDE;
     }
     OUTSIDE
@@ -223,7 +186,7 @@ pub fn mark(s: Shifts, closed: &[u32], time: f64) -> u8
     ensures { result ≡ mark_of s closed.now time }
 {
     let start = s.start;
-    let StreamStart::Given(first) = start else {
+    let Some(first) = start else {
         return UNMARKED;
     };
     if !in_range(time) {

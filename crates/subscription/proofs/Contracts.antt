@@ -6,9 +6,8 @@ use contract.Lifetimes.{Lfts}
 use borrow.Fn.World.{ArgsD, ResD}
 use borrow.Fn.Kinds.{ended_of}
 use denote.Triple.Clauses.{AtExit}
-use Rattle.limits.specs.Answer.{accepted}
+use Rattle.limits.specs.Answer.{said, accepted}
 use Rattle.event_list.specs.Events.{events_of, messages_of}
-use Rattle.subscription.specs.Charges.{said}
 use Rattle.subscription.specs.Claims.{Call, Sum}
 use Rattle.subscription.proofs.Claims.{every-sum}
 use Rattle.subscription.specs.contracts.charges as charges-fn

@@ -2,17 +2,18 @@
 use mathlib.Core.Path.{◌≡◌, refl, sym, ap, ◌∙◌, subst}
 use mathlib.Core.Bool.{Bool, true, false, cond, ◌&&◌}
 use mathlib.Core.List.{List, [], ◌∷◌, ◌++◌, append-nil, append_assoc}
-use Prim.Native.Nat.{ℕ, suc, ◌+◌, ◌≤◌, ◌<◌}
-use native.Mathlib.Numerals.{add-one}
+use Prim.Native.Nat.{ℕ, ◌+◌, ◌≤◌, ◌<◌}
 use native.Mathlib.Omega.{arith}
 use borrow.Author.Tests.{ltb-true, ltb-false, eqb-true, eqb-false}
 use lib.Dec.{ltb, eqb}
-use lib.ListN.{length, get_or, drop, replicate, length-set, length-replicate, get_or-replicate, get_or-eq_default}
-use lib.Seq.{set_out, get_or-set_same, get_or-set_other, drop-cons, drop-length}
+use lib.ListN.{length, get_or, replicate, length-set, length-replicate, get_or-replicate, get_or-eq_default}
+use lib.Seq.{set_out, get_or-set_same, get_or-set_other}
 use Rattle.limits.proofs.Samples.{and_assoc, and_left, and_right, and_true}
 use Rattle.record.specs.Readers.{time_of}
-use Rattle.event_list.specs.Events.{is_message, messages_of}
+use Rattle.limits.specs.Limits.{record_size}
+use Rattle.event_list.specs.Events.{is_message, events_of, messages_of}
 use Rattle.event_list.specs.Sums.{those, count}
+use Rattle.event_list.proofs.EventLaws.{event_next, event_end}
 use Rattle.event_list.proofs.SumLaws.{those-append, count-append}
 use Rattle.subscription.specs.Charges.{days, in_day, in_month, all_in_month, on_day, latest_start}
 use Rattle.subscription.specs.Counting.{day_at, raised, stepped, inside, tallied, Few}
@@ -101,33 +102,29 @@ inside_more start r es = go (is_message r)
     go true = refl
     go false = refl
 
-module _ (start : ℕ) (es : List (List ℕ)) (i : ℕ) (h : i < length es) (r : List ℕ) (e : r ≡ get_or es i []) where
-  next : drop i es ≡ r ∷ drop (i + 1) es
-  next = drop-cons es i [] h ∙ ap (λ (x : List ℕ). x ∷ drop (suc i) es) (sym e) ∙ ap (λ (k : ℕ). r ∷ drop k es) (sym (add-one i))
-
-  pub within-turn : (within here w : Bool) → here ≡ inside start r → (within && all_in_month start (messages_of (drop i es))) ≡ w
-      → ((within && here) && all_in_month start (messages_of (drop (i + 1) es))) ≡ w
-  within-turn within here w k p =
-      and_assoc within here (all_in_month start (messages_of (drop (i + 1) es)))
-      ∙ ap (λ (t : Bool). within && (t && all_in_month start (messages_of (drop (i + 1) es)))) k
-      ∙ ap (λ (t : Bool). within && t) (sym (inside_more start r (drop (i + 1) es)) ∙ ap (λ (l : List (List ℕ)). all_in_month start (messages_of l)) (sym next))
+-- l is left of a list, record r comes, and k is left then
+module _ (start : ℕ) (l r k : List ℕ) (s : l ≡ r ++ k) (n : length r ≡ record_size) where
+  pub within_next : (within here w : Bool) → here ≡ inside start r → (within && all_in_month start (messages_of (events_of l))) ≡ w
+      → ((within && here) && all_in_month start (messages_of (events_of k))) ≡ w
+  within_next within here w e p =
+      and_assoc within here (all_in_month start (messages_of (events_of k)))
+      ∙ ap (λ (t : Bool). within && (t && all_in_month start (messages_of (events_of k)))) e
+      ∙ ap (λ (t : Bool). within && t) (sym (inside_more start r (events_of k)) ∙ ap (λ (es : List (List ℕ)). all_in_month start (messages_of es)) (sym (event_next l r k s n)))
       ∙ p
 
-  pub tallied-turn : (c d w : List ℕ) → d ≡ stepped start c r → tallied start c (drop i es) ≡ w → tallied start d (drop (i + 1) es) ≡ w
+  pub tallied_next : (c d w : List ℕ) → d ≡ stepped start c r → tallied start c (events_of l) ≡ w → tallied start d (events_of k) ≡ w
   unfolding tallied
-  tallied-turn c d w k p = ap (λ (x : List ℕ). tallied start x (drop (i + 1) es)) k ∙ sym (ap (tallied start c) next) ∙ p
+  tallied_next c d w e p = ap (λ (x : List ℕ). tallied start x (events_of k)) e ∙ sym (ap (tallied start c) (event_next l r k s n)) ∙ p
 
-module _ (start : ℕ) (es : List (List ℕ)) (i : ℕ) (e : i ≡ length es) where
-  none_left : drop i es ≡ []
-  none_left = ap (λ (k : ℕ). drop k es) e ∙ drop-length es
-
-  pub within_end : (within w : Bool) → (within && all_in_month start (messages_of (drop i es))) ≡ w → within ≡ w
+-- none is left
+module _ (start : ℕ) (l : List ℕ) (h : length l < record_size) where
+  pub within_last : (within w : Bool) → (within && all_in_month start (messages_of (events_of l))) ≡ w → within ≡ w
   unfolding all_in_month those
-  within_end within w p = sym (and_true within) ∙ ap (λ (l : List (List ℕ)). within && all_in_month start (messages_of l)) (sym none_left) ∙ p
+  within_last within w p = sym (and_true within) ∙ ap (λ (es : List (List ℕ)). within && all_in_month start (messages_of es)) (sym (event_end l h)) ∙ p
 
-  pub tallied_end : (c w : List ℕ) → tallied start c (drop i es) ≡ w → c ≡ w
+  pub tallied_last : (c w : List ℕ) → tallied start c (events_of l) ≡ w → c ≡ w
   unfolding tallied
-  tallied_end c w p = sym (ap (tallied start c) none_left) ∙ p
+  tallied_last c w p = sym (ap (tallied start c) (event_end l h)) ∙ p
 
 -- ---- what the counts say
 

@@ -6,7 +6,7 @@ use Prim.Native.Nat.{ℕ, zero, suc, ◌+◌, ◌-◌, ◌*◌, ◌≤◌, ◌<�
 use native.Mathlib.Numerals.{add-one}
 use native.Mathlib.Nat.{eq-or-lt_of_le, mul-le-mul, suc-mul}
 use native.Mathlib.Omega.{arith}
-use borrow.Author.Tests.{leb-true, ltb-true, lt-ltb, le-ltb, eq-eqb, ne_eqb, eqb-true, eqb-false}
+use borrow.Author.Tests.{le-leb, leb-true, ltb-true, lt-ltb, le-ltb, eq-eqb, ne_eqb, eqb-true, eqb-false}
 use lib.Dec.{leb, ltb, eqb}
 use Rattle.limits.proofs.Samples.{and_left, and_right}
 use Rattle.subscription.specs.declared.Plan.{Plan}
@@ -91,6 +91,12 @@ sound plan e =
       rises = λ j h.
           ltb-true (upper_of plan j) (upper_of plan (suc j)) (all_at up (uppers_read plan - 1) (and_right (all_to low n) (all_to up (uppers_read plan - 1)) l) j (omega arith));
     }
+
+-- what the tests say of a plan with steps of which there are not too many
+pub plan_is : (plan : Plan) (low rises : Bool) (n : ℕ) → 1 ≤ plan.steps → plan.steps ≤ most_steps → low ≡ all_to (λ j. leb (price_of plan j) dearest) plan.steps
+    → n ≡ uppers_read plan - 1 → rises ≡ all_to (λ j. ltb (upper_of plan j) (upper_of plan (suc j))) n → leb plan.fee dearest && (low && rises) ≡ plan_ok plan
+unfolding plan_ok
+plan_is plan low rises n a b e f g = rw (le-leb 1 plan.steps a, le-leb plan.steps most_steps b, e, g, f) refl
 
 -- the price of a day's extra message, from 0 on
 abbrev pub extra_price : Plan → ℕ → ℕ

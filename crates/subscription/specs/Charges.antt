@@ -1,21 +1,13 @@
--- Subscription charges (02, request 13): the days of a month, what a plan takes for a day's messages, the cents, and what `charges` answers. Assumes nothing.
+-- Subscription charges (02, request 13): the days of a month, what a plan takes for a day's messages, the cents, and what `charges` answers, a refusal's number or cents. Assumes nothing.
 use Rattle.std.specs.Prelude.{ℕ, zero, suc, ◌+◌, ◌-◌, ◌*◌, ◌/◌, Bool, true, cond, ◌&&◌, List, [], ◌∷◌, leb, ltb, length, get_or, ℤ, pos, nat_abs, Float}
 use Rattle.std.specs.Int.Signed.{le_z}
 use Rattle.std.specs.Float.Ieee.{lt, le}
 use Rattle.floats.specs.Number.{num}
 use Rattle.limits.specs.Limits.{long, bad_records, bad_plan, outside_month, most_record_bytes}
-use Rattle.limits.specs.Answer.{Answer, refused, accepted}
 use Rattle.record.specs.Readers.{time_of}
 use Rattle.event_list.specs.Events.{events_of, messages_of, list_ok}
 use Rattle.event_list.specs.Sums.{count}
 use Rattle.subscription.specs.declared.Plan.{Plan}
-use Rattle.subscription.specs.declared.Charge.{Charge}
-use Rattle.subscription.specs.declared.Charge.TheVariants.{Refused, Cents}
-
--- `Charge` in 02's words: a refusal's number, or cents
-abbrev pub said : Charge → Answer ℕ
-said (Refused n) = refused n
-said (Cents n) = accepted n
 
 -- ---- over the numbers below n
 

@@ -1,14 +1,14 @@
 -- REQUEST 13'S CLAIMS, over every call of `charges`: the cents are the fee and the least whole cents that cover what the messages of the list cost, one by one, and the order of the records doesn't matter.
 -- `Call` is what the contract of `charges` ensures of a call; proofs/Contracts.antt takes it from the contract itself. Assumes nothing.
-use Rattle.std.specs.Prelude.{◌≡◌, cond, List, [], ◌∷◌, ◌++◌, ℕ, suc, ◌+◌, ◌-◌, ◌*◌, ◌≤◌, ◌<◌, leb, length, ℤ, nat_abs}
-use Rattle.limits.specs.Answer.{answer, accepted}
+use Rattle.std.specs.Prelude.{◌≡◌, cond, Result, List, [], ◌∷◌, ◌++◌, ℕ, suc, ◌+◌, ◌-◌, ◌*◌, ◌≤◌, ◌<◌, leb, length, ℤ, nat_abs}
+use Rattle.limits.specs.declared.Refusal.{Refusal}
+use Rattle.limits.specs.Answer.{said, answer, accepted}
 use Rattle.event_list.specs.Events.{events_of, messages_of, Reordered}
 use Rattle.subscription.specs.declared.Plan.{Plan}
-use Rattle.subscription.specs.declared.Charge.{Charge}
-use Rattle.subscription.specs.Charges.{said, sum_to, days, in_day, price_of, step_of, cents_of, on_day, charge_cause}
+use Rattle.subscription.specs.Charges.{sum_to, days, in_day, price_of, step_of, cents_of, on_day, charge_cause}
 
 -- a call: the records, the plan, the month's start, and its answer
-pub record Call (l : List ℕ) (plan : Plan) (z : ℤ) (r : Charge) : Type 0 where
+pub record Call (l : List ℕ) (plan : Plan) (z : ℤ) (r : Result ℕ Refusal) : Type 0 where
   pub answered : said r ≡ answer (charge_cause l plan z) (cents_of plan (on_day (nat_abs z) (messages_of (events_of l))))
 
 -- ---- THE THEOREMS
@@ -40,8 +40,8 @@ pub record Sum (plan : Plan) (start : ℕ) (ms : List (List ℕ)) (cents : ℕ) 
   pub bound : cents ≤ 1000000 + 1000 * length ms
 
 abbrev pub EverySum : Type 0
-EverySum = (l : List ℕ) (plan : Plan) (z : ℤ) (r : Charge) (cents : ℕ) → Call l plan z r → said r ≡ accepted cents → Sum plan (nat_abs z) (messages_of (events_of l)) cents
+EverySum = (l : List ℕ) (plan : Plan) (z : ℤ) (r : Result ℕ Refusal) (cents : ℕ) → Call l plan z r → said r ≡ accepted cents → Sum plan (nat_abs z) (messages_of (events_of l)) cents
 
 -- 'in whichever order its records come'
 abbrev pub AnyOrder : Type 0
-AnyOrder = (l k : List ℕ) (plan : Plan) (z : ℤ) (r r' : Charge) → Reordered l k → Call l plan z r → Call k plan z r' → said r ≡ said r'
+AnyOrder = (l k : List ℕ) (plan : Plan) (z : ℤ) (r r' : Result ℕ Refusal) → Reordered l k → Call l plan z r → Call k plan z r' → said r ≡ said r'

@@ -4,11 +4,14 @@
 mod prices; // a plan, and what it takes
 mod days; // the days of a month
 
-ghost use Rattle.std.specs.Prelude.{◌≡◌, true, ◌&&◌, ◌+◌, ◌≤◌, get_or, nat_abs};
-ghost use Rattle.limits.specs.Answer.{answer};
+ghost use Rattle.std.specs.Prelude.{◌≡◌, true, cond, Ok, Err, ◌&&◌, ◌+◌, ◌≤◌, get_or, nat_abs};
+ghost use Rattle.limits.specs.Answer.{said, answer};
+ghost use Rattle.limits.specs.declared.Refusal.TheVariants.{BadRecords};
 ghost use Rattle.event_list.specs.Events.{wholes, most_records, events_of, messages_of, list_ok};
-ghost use Rattle.subscription.specs.Charges.{said, latest_start, all_in_month, plan_ok, start_ok, cents_of, on_day, month_cause, charge_cause};
-ghost use Rattle.subscription.specs.Counting.{second_of, tallied, Few};
+ghost use Rattle.subscription.specs.Charges.{latest_start, plan_ok, start_ok, cents_of, on_day, month_cause, charge_cause};
+ghost use Rattle.subscription.specs.Counting.{second_of, read_on, tallied, Few};
+
+use limits::Refusal;
 
 // The most steps of a plan.
 pub const MOST_STEPS: usize = 8;
@@ -29,19 +32,10 @@ pub struct Plan {
     pub prices: [u32; 8],
 }
 
-// What `charges` answers.
-#[derive(Clone, Copy)]
-pub enum Charge {
-    // A refusal's number.
-    Refused(u8),
-    Cents(u64),
-}
-
-// What was read: how many records, whether refusal 12 does not apply to them, and whether every message lies in the month.
+// What was read: how many records, and whether every message lies in the month.
 #[derive(Clone, Copy)]
 pub struct Tally {
     pub records: usize,
-    pub ok: bool,
     pub within: bool,
 }
 
@@ -49,9 +43,7 @@ pub struct Tally {
 fn start_ok(z: i64) -> bool
     ensures { result ≡ start_ok z }
 {
-    let low = 0 <= z;
-    let high = z <= LATEST_START;
-    low & high
+    0 <= z && z <= LATEST_START
 }
 
 // The second at which the days begin; 0 where the month's start is refused, so that the records are tested still.
@@ -66,71 +58,62 @@ pub fn second_of(z: i64) -> usize
 
 // Nothing is read.
 pub fn no_records() -> Tally
-    ensures { (result.«records» ≡ 0) × (result.ok ≡ true) × (result.within ≡ true) }
+    ensures { (result.«records» ≡ 0) × (result.within ≡ true) }
 {
     Tally {
         records: 0,
-        ok: true,
         within: true,
     }
 }
 
-// More records are read, in one pass: each is tested, and a message in the month is counted on its day.
-pub fn read_records(t: Tally, records: &[u8], start: usize, counts: &mut [u32]) -> Tally
+// More records are read, in one pass: each is tested for refusal 12, and a message in the month is counted on its day.
+pub fn read_records(
+    t: Tally,
+    records: &[u8],
+    start: usize,
+    counts: &mut [u32],
+) -> Result<Tally, Refusal>
     requires { (t.«records» + wholes records.now ≤ most_records) × (start ≤ latest_start) × Few counts.old t.«records» }
-    ensures { (result.«records» ≡ t.«records» + wholes records.now) × (result.ok ≡ t.ok && list_ok records.now)
-        × (result.within ≡ t.within && all_in_month start (messages_of (events_of records.now)))
-        × (counts.new ≡ tallied start counts.old (events_of records.now)) × Few counts.new result.«records» }
+    ensures { (result ≡ cond (list_ok records.now) (Ok (read_on start t records.now)) (Err BadRecords))
+        × (counts.new ≡ tallied start counts.old (events_of records.now)) × Few counts.new (t.«records» + wholes records.now) }
 {
-    let count = records.len() / limits::RECORD;
-    let whole = records.len() % limits::RECORD == 0;
-    let mut ok = t.ok & whole;
+    let mut ok = records.len() % limits::RECORD == 0;
     let mut within = t.within;
-    let mut i: usize = 0;
-    while i < count {
-        let from = limits::RECORD * i;
-        let to = from + limits::RECORD;
-        let here = event_list::record_ok(&records[from..to]);
-        let inside = days::counted(&records[from..to], start, counts);
-        ok = ok & here;
-        within = within & inside;
-        i += 1;
+    for r in records.chunks_exact(limits::RECORD) {
+        let right = event_list::record_ok(r);
+        let inside = days::counted(r, start, counts);
+        ok &= right;
+        within &= inside;
     }
-    Tally {
-        records: t.records + count,
-        ok: ok,
-        within: within,
+    if !ok {
+        return Err(Refusal::BadRecords);
     }
+    let records = t.records + records.len() / limits::RECORD;
+    Ok(Tally { records, within })
 }
 
-// The cents of what was read, or refusal 12, 15 or 16.
-pub fn total(t: Tally, counts: &[u32], plan: Plan, month_start: i64) -> Charge
+// The cents of what was read, or refusal 15 or 16.
+pub fn total(t: Tally, counts: &[u32], plan: Plan, month_start: i64) -> Result<u64, Refusal>
     requires { Few counts.now most_records }
-    ensures { said result ≡ answer (month_cause t.ok (plan_ok plan && start_ok month_start) t.within) (cents_of plan (λ k. get_or counts.now k 0)) }
+    ensures { said result ≡ answer (month_cause true (plan_ok plan && start_ok month_start) t.within) (cents_of plan (λ k. get_or counts.now k 0)) }
 {
-    if !t.ok {
-        return Charge::Refused(limits::BAD_RECORDS);
-    }
-    if !prices::plan_ok(plan) {
-        return Charge::Refused(limits::BAD_PLAN);
-    }
-    if !start_ok(month_start) {
-        return Charge::Refused(limits::BAD_PLAN);
+    if !prices::plan_ok(plan) || !start_ok(month_start) {
+        return Err(Refusal::BadPlan);
     }
     if !t.within {
-        return Charge::Refused(limits::OUTSIDE_MONTH);
+        return Err(Refusal::OutsideMonth);
     }
-    Charge::Cents(prices::cents(plan, counts))
+    Ok(prices::cents(plan, counts))
 }
 
-// What a plan takes for the messages of a list in the month that starts at a second of the stream, or a refusal.
-pub fn charges(records: &[u8], plan: Plan, month_start: i64) -> Charge
+// The cents that a plan takes for the messages of a list in the month that starts at a second of the stream, or a refusal.
+pub fn charges(records: &[u8], plan: Plan, month_start: i64) -> Result<u64, Refusal>
     ensures { said result ≡ answer (charge_cause records.now plan month_start) (cents_of plan (on_day (nat_abs month_start) (messages_of (events_of records.now)))) }
 {
     if limits::MOST_RECORD_BYTES < records.len() {
-        return Charge::Refused(limits::LONG);
+        return Err(Refusal::Long);
     }
     let mut counts = [0u32; DAYS];
-    let t = read_records(no_records(), records, second_of(month_start), &mut counts);
+    let t = read_records(no_records(), records, second_of(month_start), &mut counts)?;
     total(t, &counts, plan, month_start)
 }

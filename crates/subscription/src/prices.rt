@@ -12,31 +12,14 @@ const DEAREST: u32 = 1_000_000;
 // Thousandths of a cent.
 const CENT: u64 = 1000;
 
-// a - b, or 0.
-fn over(a: u32, b: u32) -> u32
-    ensures { result ≡ a - b }
-{
-    if b < a { a - b } else { 0 }
-}
-
-fn wide(x: u32) -> u64
-    ensures { (result ≡ x) × (result < 4294967296) }
-{
-    x as u64
-}
-
 // Whether no price of the first n steps is too high.
 fn cheap(plan: Plan, n: usize) -> bool
     requires { n ≤ most_steps }
     ensures { result ≡ all_to (λ j. leb (price_of plan j) dearest) n }
 {
-    let prices = plan.prices;
     let mut ok = true;
-    let mut j: usize = 0;
-    while j < n {
-        let here = prices[j] <= DEAREST;
-        ok = ok & here;
-        j += 1;
+    for j in 0..n {
+        ok &= plan.prices[j] <= DEAREST;
     }
     ok
 }
@@ -46,37 +29,25 @@ fn rising(plan: Plan, n: usize) -> bool
     requires { n < most_steps }
     ensures { result ≡ all_to (λ j. ltb (upper_of plan j) (upper_of plan (suc j))) n }
 {
-    let uppers = plan.uppers;
     let mut ok = true;
-    let mut j: usize = 0;
-    while j < n {
-        let here = uppers[j] < uppers[j + 1];
-        ok = ok & here;
-        j += 1;
+    for j in 0..n {
+        ok &= plan.uppers[j] < plan.uppers[j + 1];
     }
     ok
-}
-
-// How many neighbours there are among the upper counts that are read.
-fn neighbours(steps: usize) -> usize
-    ensures { result ≡ steps - 1 - 1 }
-{
-    if 2 < steps { steps - 2 } else { 0 }
 }
 
 pub fn plan_ok(plan: Plan) -> bool
     ensures { result ≡ plan_ok plan }
 {
     let steps = plan.steps;
-    if steps < 1 {
+    if steps < 1 || MOST_STEPS < steps {
         return false;
     }
-    if MOST_STEPS < steps {
-        return false;
-    }
-    let fee = plan.fee <= DEAREST;
+    // all upper counts but the last are read
+    let neighbours = steps.saturating_sub(2);
+    let rises = rising(plan, neighbours);
     let low = cheap(plan, steps);
-    let rises = rising(plan, neighbours(steps));
+    let fee = plan.fee <= DEAREST;
     fee & (low & rises)
 }
 
@@ -85,8 +56,10 @@ fn reach(plan: Plan, x: u32, j: usize) -> u32
     requires { j < most_steps }
     ensures { result ≡ reached plan x (suc j) }
 {
-    let uppers = plan.uppers;
-    whole::pick32(j + 1 == plan.steps, x, whole::least32(x, uppers[j]))
+    if j + 1 == plan.steps {
+        return x;
+    }
+    x.min(plan.uppers[j])
 }
 
 // What n extra messages in step j take.
@@ -94,8 +67,7 @@ fn step_cost(plan: Plan, n: u32, j: usize) -> u64
     requires { j < most_steps }
     ensures { result ≡ n * price_of plan j }
 {
-    let prices = plan.prices;
-    wide(n) * wide(prices[j])
+    u64::from(n) * u64::from(plan.prices[j])
 }
 
 // Thousandths of a cent for a day with n messages: each step takes those between the upper count before it and its own.
@@ -103,16 +75,13 @@ fn day_cost(plan: Plan, n: u32) -> u64
     requires { (plan_ok plan ≡ true) × (n ≤ most_records) }
     ensures { (result ≡ day_cost plan n) × (result ≤ most_records * dearest) }
 {
-    let steps = plan.steps;
-    let extra = over(n, plan.allowance);
+    let extra = n.saturating_sub(plan.allowance);
     let mut passed: u32 = 0;
     let mut sum: u64 = 0;
-    let mut j: usize = 0;
-    while j < steps {
+    for j in 0..plan.steps {
         let end = reach(plan, extra, j);
         sum += step_cost(plan, end - passed, j);
         passed = end;
-        j += 1;
     }
     sum
 }
@@ -123,10 +92,8 @@ fn month_cost(plan: Plan, counts: &[u32]) -> u64
     ensures { (result ≡ cost_of plan (λ k. get_or counts.now k 0)) × (result ≤ days * (most_records * dearest)) }
 {
     let mut sum: u64 = 0;
-    let mut k: usize = 0;
-    while k < DAYS {
-        sum += day_cost(plan, counts[k]);
-        k += 1;
+    for n in counts {
+        sum += day_cost(plan, *n);
     }
     sum
 }
@@ -137,5 +104,5 @@ pub fn cents(plan: Plan, counts: &[u32]) -> u64
     ensures { result ≡ cents_of plan (λ k. get_or counts.now k 0) }
 {
     let thousandths = month_cost(plan, counts);
-    wide(plan.fee) + (thousandths + (CENT - 1)) / CENT
+    u64::from(plan.fee) + (thousandths + (CENT - 1)) / CENT
 }

@@ -1,4 +1,5 @@
 -- What the words of a frame say, by the end of each, and the line that they make. Assumes nothing.
+use Rattle.std.proofs.Common.{Option, None, Some}
 use mathlib.Core.Path.{◌≡◌, sym, ap, ap₂, ◌∙◌}
 use mathlib.Core.Bool.{Bool, true, false, cond, ◌&&◌, ◌||◌}
 use mathlib.Core.List.{List, [], ◌∷◌}
@@ -8,11 +9,8 @@ use lib.Dec.{ltb, eqb}
 use lib.ListN.{length, take, drop, get_or, length-drop}
 use lib.Seq.{sets, sets-eq, take_at}
 use borrow.Author.Tests.{eq-eqb, ne_eqb, eqb-true}
-use Rattle.frame.specs.declared.SingleBit.{SingleBit}
-use Rattle.frame.specs.declared.SingleBit.TheVariants.{Absent, Is}
 use Rattle.frame.specs.declared.header.UplinkFields.{UplinkFields}
-use Rattle.uplink.specs.declared.line.Parsed.{Parsed}
-use Rattle.uplink.specs.Line.{space, word, rest, spaces, digit_of, are_digits, number_from, bytes_in, are_bytes, is_none, is_bit, bit_in, is_device, is_counter, is_flag, is_payload, payload_in, highest_device, most_counter, fields_of, no_frame, frame_of, meaning_of, meaning, meant}
+use Rattle.uplink.specs.Line.{space, word, rest, spaces, digit_of, are_digits, number_from, bytes_in, are_bytes, is_none, is_bit, bit_in, is_device, is_counter, is_flag, is_payload, payload_in, highest_device, most_counter, fields_of, no_frame, frame_of, meaning_of, meaning}
 use Rattle.uplink.proofs.Words.{both, word-char}
 
 -- ---- the words of a frame, by the word's end
@@ -64,14 +62,14 @@ word_fits (c ∷ l) = go (eqb c space) (word_fits l)
     go true h = omega arith
     go false h = omega arith
 
-pub bit-value : (l : List ℕ) (from v : ℕ) → is_bit (word (drop from l)) ≡ true → v ≡ digit_of (get_or l (from + 3) 0) → Is (eqb v 1) ≡ bit_in (word (drop from l))
+pub bit-value : (l : List ℕ) (from v : ℕ) → is_bit (word (drop from l)) ≡ true → v ≡ digit_of (get_or l (from + 3) 0) → Some (eqb v 1) ≡ bit_in (word (drop from l))
 bit-value l from v e u =
     let w = word (drop from l) in
-    ap (λ (x : ℕ). Is (eqb x 1)) (u ∙ ap digit_of (sym (word-char l from 3 (omega (arith, bit-four w e)))))
-    ∙ ap (λ (b : Bool). cond b (Is (eqb (digit_of (get_or w 3 0)) 1)) Absent) (sym e)
+    ap (λ (x : ℕ). Some (eqb x 1)) (u ∙ ap digit_of (sym (word-char l from 3 (omega (arith, bit-four w e)))))
+    ∙ ap (λ (b : Bool). cond b (Some (eqb (digit_of (get_or w 3 0)) 1)) None) (sym e)
 
-pub bit_none : (w : List ℕ) → is_bit w ≡ false → Absent ≡ bit_in w
-bit_none w e = ap (λ (b : Bool). cond b (Is (eqb (digit_of (get_or w 3 0)) 1)) Absent) (sym e)
+pub bit_none : (w : List ℕ) → is_bit w ≡ false → None ≡ bit_in w
+bit_none w e = ap (λ (b : Bool). cond b (Some (eqb (digit_of (get_or w 3 0)) 1)) None) (sym e)
 
 -- ---- a payload's bytes at the front of a slice
 
@@ -101,18 +99,15 @@ payload_read l out o from n h b d e k =
 
 -- ---- a line
 
-abbrev made : ℕ → ℕ → SingleBit → Bool → UplinkFields
+abbrev made : ℕ → ℕ → Option Bool → Bool → UplinkFields
 made d c b w = record { device_id = d; counter = c; bit = b; downlink = w }
 
-same_made : (d d' c c' : ℕ) (b b' : SingleBit) (w w' : Bool) → d ≡ d' → c ≡ c' → b ≡ b' → w ≡ w' → made d c b w ≡ made d' c' b' w'
+same_made : (d d' c c' : ℕ) (b b' : Option Bool) (w w' : Bool) → d ≡ d' → c ≡ c' → b ≡ b' → w ≡ w' → made d c b w ≡ made d' c' b' w'
 same_made d d' c c' b b' w w' e1 e2 e3 e4 = cc
 
-pub same_fields : (l : List ℕ) (c p w d n : ℕ) (b : SingleBit) (k : ℕ) → d ≡ number_from 16 highest_device 0 (word l) → n ≡ number_from 10 most_counter 0 (word (drop c l))
+pub same_fields : (l : List ℕ) (c p w d n : ℕ) (b : Option Bool) (k : ℕ) → d ≡ number_from 16 highest_device 0 (word l) → n ≡ number_from 10 most_counter 0 (word (drop c l))
     → b ≡ bit_in (word (drop p l)) → k ≡ number_from 2 1 0 (word (drop w l)) → made d n b (eqb k 1) ≡ fields_of (word l) (word (drop c l)) (word (drop p l)) (word (drop w l))
 same_fields l c p w d n b k e1 e2 e3 e4 = same_made _ _ _ _ _ _ _ _ e1 e2 e3 (ap (λ (x : ℕ). eqb x 1) e4)
-
-pub not_meant : (r : Parsed) (payload auth : List ℕ) → r.is_frame ≡ false → meant r payload auth ≡ no_frame
-not_meant r payload auth e = ap (λ (b : Bool). cond b (frame_of r.fields (take r.payload_len payload) (take r.auth_len auth)) no_frame) e
 
 pub not_five : (l : List ℕ) (n : ℕ) → n ≡ spaces l → (n ≡ 4 → ⊥) → meaning l ≡ no_frame
 unfolding meaning

@@ -1,4 +1,6 @@
--- The turns of the loops over a line: what a word, the rest behind it, spaces and digits are from a place on, by the character there. Assumes nothing.
+-- The turns of the loops over a line: what a word, the rest behind it and digits are from a place on, by the character there. Assumes nothing.
+use Rattle.std.specs.List.{count_by}
+use Rattle.std.proofs.lemmas.List.Recursion.{is_count_by}
 use mathlib.Core.Path.{◌≡◌, refl, sym, ap, ap₂, ◌∙◌}
 use mathlib.Core.Bool.{Bool, true, false, cond, ◌&&◌}
 use mathlib.Core.List.{List, [], ◌∷◌}
@@ -42,21 +44,13 @@ module _ (l : List ℕ) (i : ℕ) where
     unfolding rest
     rest_more e = ap rest (here h) ∙ ap (λ (b : Bool). cond b (drop (i + 1) l) (rest (drop (i + 1) l))) (ne_eqb _ _ e)
 
-    pub spaces-one : get_or l i 0 ≡ space → spaces (drop i l) ≡ suc (spaces (drop (i + 1) l))
-    unfolding spaces
-    spaces-one e = ap spaces (here h) ∙ ap (λ (b : Bool). cond b (suc (spaces (drop (i + 1) l))) (spaces (drop (i + 1) l))) (eq-eqb _ _ e)
-
-    pub spaces-none : (get_or l i 0 ≡ space → ⊥) → spaces (drop i l) ≡ spaces (drop (i + 1) l)
-    unfolding spaces
-    spaces-none e = ap spaces (here h) ∙ ap (λ (b : Bool). cond b (suc (spaces (drop (i + 1) l))) (spaces (drop (i + 1) l))) (ne_eqb _ _ e)
-
   pub rest_past : length l ≤ i → rest (drop i l) ≡ drop i l
   unfolding rest
   rest_past h = ap rest (past h) ∙ sym (past h)
 
-  pub spaces_past : length l ≤ i → spaces (drop i l) ≡ 0
-  unfolding spaces
-  spaces_past h = ap spaces (past h)
+pub spaces_counted : (l : List ℕ) → spaces l ≡ count_by (λ c. eqb c space) l
+unfolding spaces
+spaces_counted = is_count_by spaces (λ c. eqb c space) refl (λ c l. ap (λ (n : ℕ). cond (eqb c space) n (spaces l)) (let e : suc (spaces l) ≡ 1 + spaces l = omega arith in e))
 
 -- ---- a digit
 
@@ -159,16 +153,6 @@ module _ (l : List ℕ) (i : ℕ) where
     pub end-past : length l ≤ i → i + length (word (drop i l)) ≡ t → i ≡ t
     end-past h k = let z : length (word (drop i l)) ≡ 0 = ap length (word_past l i h) in omega arith
 
-  module _ (n t : ℕ) where
-    pub spaces-turn : i < length l → get_or l i 0 ≡ space → n + spaces (drop i l) ≡ t → n + 1 + spaces (drop (i + 1) l) ≡ t
-    spaces-turn h e k = omega (arith, spaces-one l i h e)
-
-    pub spaces-pass : i < length l → (get_or l i 0 ≡ space → ⊥) → n + spaces (drop i l) ≡ t → n + spaces (drop (i + 1) l) ≡ t
-    spaces-pass h e k = omega (arith, spaces-none l i h e)
-
-    pub spaces-end : length l ≤ i → n + spaces (drop i l) ≡ t → n ≡ t
-    spaces-end h k = omega (arith, spaces_past l i h)
-
   module _ (base : ℕ) where
     pub digits_end : (t : Bool) → i < length l → get_or l i 0 ≡ space → are_digits base (word (drop i l)) ≡ t → true ≡ t
     digits_end t h e k = sym (ap (are_digits base) (word-ends l i h e) ∙ digits_none base) ∙ k
@@ -195,9 +179,6 @@ module _ (l : List ℕ) (i : ℕ) where
     number-turn d x y h e v u m k =
         number_more base most n (get_or l i 0) y (word (drop (i + 1) l)) (m ∙ ap (λ (z : ℕ). min z most) (u ∙ ap (λ (z : ℕ). n * base + z) v))
         ∙ ap (number_from base most n) (sym (word_more l i h e)) ∙ k
-
-pub spaces_start : (l : List ℕ) → 0 + spaces (drop 0 l) ≡ spaces l
-spaces_start l = omega arith
 
 pub product-fits : (n base most : ℕ) → n ≤ most → most < 4294967296 → base ≤ 16 → n * base ≤ 68719476720
 product-fits n base most h k j = let m : n * base ≤ n * 16 = mul-le-mul_left n j in omega arith

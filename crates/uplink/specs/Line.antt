@@ -1,7 +1,5 @@
 -- What a line of `uplink`'s input means (README.md, 'Test frames'): five words with a space between each, in characters' numbers. Assumes nothing.
-use Rattle.std.specs.Prelude.{ℕ, suc, ◌+◌, ◌-◌, ◌*◌, ◌%◌, min, Bool, true, cond, ◌&&◌, ◌||◌, List, [], ◌∷◌, ltb, leb, eqb, length, take, get_or}
-use Rattle.frame.specs.declared.SingleBit.{SingleBit}
-use Rattle.frame.specs.declared.SingleBit.TheVariants.{Absent, Is}
+use Rattle.std.specs.Prelude.{ℕ, suc, ◌+◌, ◌-◌, ◌*◌, ◌%◌, min, Bool, true, cond, ◌&&◌, ◌||◌, List, [], ◌∷◌, ltb, leb, eqb, length, take, get_or, Option, None, Some}
 use Rattle.frame.specs.declared.header.UplinkFields.{UplinkFields}
 use Rattle.uplink.specs.declared.line.Parsed.{Parsed}
 
@@ -81,8 +79,8 @@ is_none w = eqb (length w) 1 && eqb (get_or w 0 0) 45
 abbrev pub is_bit : List ℕ → Bool
 is_bit w = eqb (length w) 4 && (eqb (get_or w 0 0) 98 && (eqb (get_or w 1 0) 105 && (eqb (get_or w 2 0) 116 && ltb (digit_of (get_or w 3 0)) 2)))
 
-abbrev pub bit_in : List ℕ → SingleBit
-bit_in w = cond (is_bit w) (Is (eqb (digit_of (get_or w 3 0)) 1)) Absent
+abbrev pub bit_in : List ℕ → Option Bool
+bit_in w = cond (is_bit w) (Some (eqb (digit_of (get_or w 3 0)) 1)) None
 
 -- 'payload in hex, or `-` for none, or `bit0`/`bit1`'
 abbrev pub is_payload : List ℕ → Bool
@@ -119,5 +117,6 @@ meaning l =
     cond (eqb (spaces l) 4) (meaning_of (word l) (word l1) (word l2) (word l3) (word (rest l3))) no_frame
 
 -- what `parse` answers and leaves in its two slices, as a meaning
-abbrev pub meant : Parsed → List ℕ → List ℕ → Meaning
-meant r payload auth = cond r.is_frame (frame_of r.fields (take r.payload_len payload) (take r.auth_len auth)) no_frame
+abbrev pub meant : Option Parsed → List ℕ → List ℕ → Meaning
+meant None payload auth = no_frame
+meant (Some r) payload auth = frame_of r.fields (take r.payload_len payload) (take r.auth_len auth)

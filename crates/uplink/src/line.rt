@@ -3,7 +3,6 @@ ghost use Rattle.std.specs.Prelude.{◌≡◌, false, ◌+◌, ◌*◌, ◌%◌,
 ghost use Rattle.std.proofs.lemmas.List.Edits.{sets};
 ghost use Rattle.uplink.specs.Line.{word, rest, spaces, digit_of, are_digits, number_from, bytes_in, is_device, is_counter, are_bytes, is_flag, is_none, is_bit, bit_in, is_payload, payload_in, fields_of, meaning, meant};
 
-use frame::SingleBit;
 use frame::header::UplinkFields;
 
 const SPACE: u8 = 32;
@@ -16,10 +15,9 @@ const HIGHEST_DEVICE: u64 = 0xffff_ffff;
 // A counter that is more is handed over as this, and refused.
 const MOST_COUNTER: u64 = 0xffff;
 
-// What a line says, if it is a frame's.
+// What the line of a frame says.
 #[derive(Clone, Copy)]
 pub struct Parsed {
-    pub is_frame: bool,
     pub fields: UplinkFields,
     // Bytes at the front of the two slices.
     pub payload_len: usize,
@@ -47,14 +45,12 @@ fn word_end(line: &[u8], from: usize) -> usize
     requires { from ≤ length line.now }
     ensures { (result ≡ from + length (word (drop from line.now))) × (result ≤ length line.now) }
 {
-    let mut i = from;
-    while i < line.len() {
+    for i in from..line.len() {
         if line[i] == SPACE {
             return i;
         }
-        i += 1;
     }
-    i
+    line.len()
 }
 
 // Where the word behind it starts.
@@ -62,30 +58,18 @@ fn after(line: &[u8], from: usize) -> usize
     requires { from ≤ length line.now }
     ensures { (drop result line.now ≡ rest (drop from line.now)) × (result ≤ length line.now) }
 {
-    let mut i = from;
-    while i < line.len() {
+    for i in from..line.len() {
         if line[i] == SPACE {
             return i + 1;
         }
-        i += 1;
     }
-    i
+    line.len()
 }
 
 fn count_spaces(line: &[u8]) -> usize
     ensures { result ≡ spaces line.now }
 {
-    let mut n: usize = 0;
-    let mut i: usize = 0;
-    while i < line.len() {
-        if line[i] == SPACE {
-            n += 1;
-            i += 1;
-        } else {
-            i += 1;
-        }
-    }
-    n
+    line.iter().filter(|c| **c == SPACE).count()
 }
 
 // Whether each character of a word is a digit of a base.
@@ -93,15 +77,13 @@ fn all_digits(line: &[u8], from: usize, base: u8) -> bool
     requires { from ≤ length line.now }
     ensures { result ≡ are_digits base (word (drop from line.now)) }
 {
-    let mut i = from;
-    while i < line.len() {
+    for i in from..line.len() {
         if line[i] == SPACE {
             return true;
         }
         if base <= digit_of(line[i]) {
             return false;
         }
-        i += 1;
     }
     true
 }
@@ -112,14 +94,12 @@ fn number(line: &[u8], from: usize, base: u64, most: u64) -> u64
     ensures { (result ≡ number_from base most 0 (word (drop from line.now))) × (result ≤ most) }
 {
     let mut n: u64 = 0;
-    let mut i = from;
-    while i < line.len() {
+    for i in from..line.len() {
         if line[i] == SPACE {
             return n;
         }
-        let x = n * base + (digit_of(line[i]) as u64);
-        n = whole::least64(x, most);
-        i += 1;
+        let x = n * base + u64::from(digit_of(line[i]));
+        n = x.min(most);
     }
     n
 }
@@ -220,14 +200,14 @@ fn is_bit(line: &[u8], from: usize) -> bool
 }
 
 // The single bit that a payload's word says, if it does.
-fn bit_in(line: &[u8], from: usize) -> SingleBit
+fn bit_in(line: &[u8], from: usize) -> Option<bool>
     requires { from ≤ length line.now }
     ensures { result ≡ bit_in (word (drop from line.now)) }
 {
     if is_bit(line, from) {
-        return SingleBit::Is(digit_of(line[from + 3]) == 1);
+        return Some(digit_of(line[from + 3]) == 1);
     }
-    SingleBit::Absent
+    None
 }
 
 fn is_payload(line: &[u8], from: usize) -> bool
@@ -270,24 +250,8 @@ fn fields_of(line: &[u8], counter: usize, payload: usize, downlink: usize) -> Up
     }
 }
 
-fn no_frame() -> Parsed
-    ensures { result.is_frame ≡ false }
-{
-    Parsed {
-        is_frame: false,
-        fields: UplinkFields {
-            device_id: 0,
-            counter: 0,
-            bit: SingleBit::Absent,
-            downlink: false,
-        },
-        payload_len: 0,
-        auth_len: 0,
-    }
-}
-
-// What a line says; payload and authentication stand at the front of the slices.
-pub fn parse(line: &[u8], payload: &mut [u8], auth: &mut [u8]) -> Parsed
+// What a line says, if it is a frame's; payload and authentication stand at the front of the slices.
+pub fn parse(line: &[u8], payload: &mut [u8], auth: &mut [u8]) -> Option<Parsed>
     requires { (length line.now ≤ 2 * length payload.old) × (length line.now ≤ 2 * length auth.old) }
     ensures { meant result payload.new auth.new ≡ meaning line.now }
 {
@@ -296,20 +260,19 @@ pub fn parse(line: &[u8], payload: &mut [u8], auth: &mut [u8]) -> Parsed
     let w = after(line, p);
     let a = after(line, w);
     if count_spaces(line) != 4 {
-        return no_frame();
+        return None;
     }
     let first = is_device(line, 0) & is_counter(line, c);
     let ok = first & (is_payload(line, p) & (is_flag(line, w) & are_bytes(line, a)));
-    if ok {
-        let n = put_payload(line, p, payload);
-        let m = put_bytes(line, a, auth);
-        let fields = fields_of(line, c, p, w);
-        return Parsed {
-            is_frame: true,
-            fields: fields,
-            payload_len: n,
-            auth_len: m,
-        };
+    if !ok {
+        return None;
     }
-    no_frame()
+    let n = put_payload(line, p, payload);
+    let m = put_bytes(line, a, auth);
+    let fields = fields_of(line, c, p, w);
+    Some(Parsed {
+        fields: fields,
+        payload_len: n,
+        auth_len: m,
+    })
 }

@@ -5,9 +5,8 @@ mod line; // what a line means
 
 ghost use Rattle.std.specs.Prelude.{◌≤◌, length};
 
+use limits::Refusal;
 use line::Parsed;
-use reading::Line;
-use writer::Written;
 
 // The longest line.
 const MOST_LINE: usize = 512;
@@ -24,12 +23,12 @@ fn print_rank(rt: &impl Print, out: &[u8], rank: usize, count: usize)
     }
 }
 
-fn print_written(rt: &impl Print, written: Written, out: &[u8]) {
+fn print_written(rt: &impl Print, written: Result<usize, Refusal>, out: &[u8]) {
     match written {
-        Written::Refused(n) => {
-            replay::print_refusal(rt, n);
+        Err(refusal) => {
+            replay::print_refusal(rt, refusal);
         }
-        Written::Bits(count) => {
+        Ok(count) => {
             if count <= writer::PLACES {
                 print_rank(rt, out, 0, count);
                 print_rank(rt, out, 1, count);
@@ -44,11 +43,9 @@ fn print_frame(rt: &impl Print, f: Parsed, payload: &[u8], auth: &[u8]) {
     let n = f.payload_len;
     let m = f.auth_len;
     let mut out = [0u8; 636];
-    if n <= payload.len() {
-        if m <= auth.len() {
-            let written = writer::write_uplink(f.fields, &payload[..n], &auth[..m], &mut out);
-            print_written(rt, written, &out);
-        }
+    if n <= payload.len() && m <= auth.len() {
+        let written = writer::write_uplink(f.fields, &payload[..n], &auth[..m], &mut out);
+        print_written(rt, written, &out);
     }
 }
 
@@ -64,11 +61,13 @@ fn print_line(rt: &impl Print, line: &[u8], number: u64)
 {
     let mut payload = [0u8; 256];
     let mut auth = [0u8; 256];
-    let f = line::parse(line, &mut payload, &mut auth);
-    if f.is_frame {
-        print_frame(rt, f, &payload, &auth);
-    } else {
-        print_unknown(rt, number);
+    match line::parse(line, &mut payload, &mut auth) {
+        Some(f) => {
+            print_frame(rt, f, &payload, &auth);
+        }
+        None => {
+            print_unknown(rt, number);
+        }
     }
 }
 
@@ -81,9 +80,9 @@ fn print_failure(rt: &impl Eprint) -> bool {
 fn turn(rt: &(impl Input + Print + Eprint), number: u64) -> bool {
     let mut line = [0u8; 512];
     match reading::next_line(rt, &mut line) {
-        Line::End => false,
-        Line::Failed => print_failure(rt),
-        Line::Bytes(n) => {
+        Ok(None) => false,
+        Err(_) => print_failure(rt),
+        Ok(Some(n)) => {
             if n <= MOST_LINE {
                 print_line(rt, &line[..n], number);
             } else {
@@ -95,11 +94,9 @@ fn turn(rt: &(impl Input + Print + Eprint), number: u64) -> bool {
 }
 
 fn main(rt: HostRuntime) {
-    let mut number: u64 = 1;
-    while number < replay::MOST_CASES {
+    for number in 1..replay::MOST_CASES {
         if !turn(&rt, number) {
             return;
         }
-        number += 1;
     }
 }

@@ -1,14 +1,14 @@
 -- What the contract of `write_uplink` tells a caller is `Call` of the round trip, and it asks nothing of its caller; so the round trip holds of every call. Assumes nothing.
+use Rattle.std.proofs.Common.{Some}
 use mathlib.Core.Path.{◌≡◌}
 use Prim.Native.Nat.{ℕ, ◌≤◌}
 use contract.Lifetimes.{Lfts}
 use borrow.Fn.World.{ArgsD, ResD}
 use borrow.Fn.Kinds.{ended_of}
 use denote.Triple.Clauses.{AtExit}
-use Rattle.limits.specs.Answer.{accepted}
-use Rattle.frame.specs.Decode.{found, uplink_answer}
+use Rattle.limits.specs.Answer.{said, accepted}
+use Rattle.frame.specs.Decode.{uplink_answer}
 use Rattle.writer.specs.Uplink.{sent_frame}
-use Rattle.writer.specs.Answers.{said}
 use Rattle.writer.specs.RoundTrip.{Typed, Call, written_at}
 use Rattle.writer.proofs.RoundTrip.{round_trip_always}
 use Rattle.writer.specs.contracts.write_uplink as write-fn
@@ -24,5 +24,5 @@ module _ (κs : Lfts 3) (a : ArgsD write-fn.signature κs) where
     is_call = record { answered = p.0; left = p.1 }
 
     pub decodes : (count rank : ℕ) → Typed a.0 a.1.0.now a.1.1.0.now → said r ≡ accepted count → rank ≤ 2
-        → uplink_answer (written_at rank count s.1.1.1.0.now) ≡ found (sent_frame a.0 a.1.0.now a.1.1.0.now rank)
+        → uplink_answer (written_at rank count s.1.1.1.0.now) ≡ accepted (Some (sent_frame a.0 a.1.0.now a.1.1.0.now rank))
     decodes count rank t e h = round_trip_always a.0 a.1.0.now a.1.1.0.now a.1.1.1.0.now s.1.1.1.0.now r count rank t is_call e h

@@ -1,4 +1,5 @@
 -- Request 01's round trip holds. Assumes nothing.
+use Rattle.std.proofs.Common.{None, Some, Result}
 use mathlib.Core.Path.{◌≡◌, refl, sym, ap, ap₂, ◌∙◌, subst}
 use mathlib.Core.Bool.{true}
 use mathlib.Core.Logic.{◌⊎◌}
@@ -6,20 +7,19 @@ use mathlib.Core.List.{List, map}
 use Prim.Native.Nat.{ℕ, zero, suc, ◌+◌, ◌*◌, ◌≤◌, ◌<◌}
 use native.Mathlib.Omega.{arith}
 use lib.ListN.{length, take, drop, get_or}
-use Rattle.limits.specs.Answer.{Answer, answer, number, leaves, accepted}
+use Rattle.limits.specs.Answer.{said, Answer, answer, number, leaves, accepted}
 use Rattle.coding.specs.Bits.{odd, bit_of}
 use Rattle.frame.specs.Kinds.{kinds, blank_kind, plain}
 use Rattle.frame.specs.Sizes.{body_bytes}
 use Rattle.frame.specs.Fields.{crc_right, frame_from}
-use Rattle.frame.specs.Decode.{found, decode_uplink, uplink_answer}
+use Rattle.frame.specs.Decode.{decode_uplink, uplink_answer}
 use Rattle.frame.specs.declared.kinds.FrameKind.{FrameKind}
-use Rattle.frame.specs.declared.Repair.TheVariants.{Unchanged}
 use Rattle.frame.specs.declared.header.UplinkFields.{UplinkFields}
 use Rattle.frame.proofs.SearchLaws.{answer_is}
 use Rattle.writer.specs.Uplink.{lead_size, frame_bytes, class_sent, uplink_bits, bit_count, sent_frame}
-use Rattle.writer.specs.Answers.{said, places, write_cause, put_all}
+use Rattle.writer.specs.Answers.{places, write_cause, put_all}
 use Rattle.writer.specs.RoundTrip.{Typed, Call, written_at, Quiet, OverTheClass, RoundTrip, AlwaysQuiet, RoundTripAlways, Kept}
-use Rattle.writer.specs.declared.Written.{Written}
+use Rattle.limits.specs.declared.Refusal.{Refusal}
 use Rattle.writer.proofs.Starts.{repetition, place_of, quiet, type_found, body_read}
 use Rattle.writer.proofs.Stores.{length-map-bits}
 use Rattle.writer.proofs.WriteLaws.{bits-odd, bits_are}
@@ -36,15 +36,15 @@ over_the_class rank class bytes h k e small ok q =
     ∙ type_found i bytes (subst (λ (x : FrameKind). Quiet lead_size (repetition x bytes)) p q)
     ∙ body_read (get_or kinds i blank_kind) bytes (e ∙ ap (λ (x : FrameKind). body_bytes x.class) p) small
     (subst (λ (x : FrameKind). crc_right (body_bytes x.class) bytes ≡ true) p ok)
-    ∙ ap (λ (x : FrameKind). found (frame_from x Unchanged bytes)) (sym p)
+    ∙ ap (λ (x : FrameKind). Some (frame_from x None bytes)) (sym p)
 
 module _ (f : UplinkFields) (payload auth : List ℕ) (rank : ℕ) (s : Sendable f payload auth) (h : rank ≤ 2) where
-  bits_back : Typed f payload auth → Quiet lead_size (uplink_bits f payload auth rank) → decode_uplink (uplink_bits f payload auth rank) ≡ found (sent_frame f payload auth rank)
+  bits_back : Typed f payload auth → Quiet lead_size (uplink_bits f payload auth rank) → decode_uplink (uplink_bits f payload auth rank) ≡ Some (sent_frame f payload auth rank)
   unfolding uplink_bits
   bits_back t q =
       over_the_class rank (class_sent f payload) (frame_bytes f payload auth) h (class-small f.bit (length payload) s.short-payload)
       (length_sent f payload auth s) (small-sent f payload auth s t) (right_sent f payload auth s) q
-      ∙ ap found (fields-sent f payload auth s t rank)
+      ∙ ap Some (fields-sent f payload auth s t rank)
 
   bits-quiet : Quiet lead_size (uplink_bits f payload auth rank)
   unfolding uplink_bits
@@ -62,7 +62,7 @@ record Accepted (f : UplinkFields) (payload auth before after : List ℕ) (count
   counted : count ≡ bit_count f payload
   wrote : after ≡ put_all (uplink_bits f payload auth) before
 
-accepts : (f : UplinkFields) (payload auth before after : List ℕ) (r : Written) (count : ℕ) → Call f payload auth before after r → said r ≡ accepted count
+accepts : (f : UplinkFields) (payload auth before after : List ℕ) (r : Result ℕ Refusal) (count : ℕ) → Call f payload auth before after r → said r ≡ accepted count
     → Accepted f payload auth before after count
 unfolding answer number leaves
 accepts f payload auth before after r count c e =
@@ -73,7 +73,7 @@ accepts f payload auth before after r count c e =
         record { none = sym k; counted = cc; wrote = c.left ∙ ap (λ (a : Answer ℕ). leaves (number a) (put_all (uplink_bits f payload auth) before) before) e }
     go (suc m) k g = absurd (omega (arith, ap number g))
 
-module _ (f : UplinkFields) (payload auth before after : List ℕ) (r : Written) (count rank : ℕ) (c : Call f payload auth before after r) (e : said r ≡ accepted count) (h : rank ≤ 2) where
+module _ (f : UplinkFields) (payload auth before after : List ℕ) (r : Result ℕ Refusal) (count rank : ℕ) (c : Call f payload auth before after r) (e : said r ≡ accepted count) (h : rank ≤ 2) where
   there : written_at rank count after ≡ map bit_of (uplink_bits f payload auth rank)
   there =
       let a = accepts f payload auth before after r count c e in
@@ -92,8 +92,8 @@ round_trip f payload auth before after r count rank t c e h q =
     let s = sendable f payload auth before after r count rank c e h in
     ap uplink_answer (there f payload auth before after r count rank c e h)
     ∙ sym (answer_is (map bit_of l) (omega (arith, length-map-bits l, length-uplink f payload auth s rank, count_most f payload auth s)) (bits_are l))
-    ∙ ap decode_uplink (bits-odd l)
-    ∙ bits_back f payload auth rank s h t (subst (Quiet lead_size) (odds f payload auth before after r count rank c e h) q)
+    ∙ ap accepted (ap decode_uplink (bits-odd l)
+    ∙ bits_back f payload auth rank s h t (subst (Quiet lead_size) (odds f payload auth before after r count rank c e h) q))
 
 pub always-quiet : AlwaysQuiet
 always-quiet f payload auth before after r count rank c e h =

@@ -1,4 +1,5 @@
 -- What stands in the bytes of a frame that is sent: its length by its class, its CRC, and every field. Assumes nothing.
+use Rattle.std.proofs.Common.{Option, None, Some}
 use mathlib.Core.Path.{◌≡◌, refl, sym, ap, ap₂, ◌∙◌}
 use mathlib.Core.Bool.{Bool, true, false}
 use mathlib.Core.List.{List, [], ◌∷◌, ◌++◌}
@@ -18,10 +19,7 @@ use Rattle.frame.specs.Sizes.{header_size, most_payload, most_auth, payload_size
 use Rattle.frame.specs.Fields.{li, bf, counter_of, device_of, payload_of, auth_of, bit_from, crc_right, padded, frame_from}
 use Rattle.frame.specs.Header.{class_of, li_of, header_bytes}
 use Rattle.frame.specs.Kinds.{plain}
-use Rattle.frame.specs.declared.SingleBit.{SingleBit}
-use Rattle.frame.specs.declared.SingleBit.TheVariants.{Absent, Is}
 use Rattle.frame.specs.declared.header.UplinkFields.{UplinkFields}
-use Rattle.frame.specs.declared.Repair.TheVariants.{Unchanged}
 use Rattle.frame.specs.declared.UplinkFrame.{UplinkFrame}
 use Rattle.frame.proofs.HeaderLaws.{length_header}
 use Rattle.frame.proofs.SizeLaws.{li_cancels, payload_more, bit_none}
@@ -44,31 +42,31 @@ pub record Sendable (f : UplinkFields) (payload auth : List ℕ) : Type 0 where
 
 -- ---- class and LI tell the payload's length and the single bit again
 
-pub li-small : (b : SingleBit) (n : ℕ) → li_of b n ≤ 3
-li-small Absent zero = omega arith
-li-small Absent (suc zero) = omega arith
-li-small Absent (suc (suc n)) = omega arith
-li-small (Is b) n = omega (arith, bit-lt b)
+pub li-small : (b : (Option Bool)) (n : ℕ) → li_of b n ≤ 3
+li-small None zero = omega arith
+li-small None (suc zero) = omega arith
+li-small None (suc (suc n)) = omega arith
+li-small (Some b) n = omega (arith, bit-lt b)
 
-pub class-small : (b : SingleBit) (n : ℕ) → n ≤ most_payload → class_of b n ≤ 4
-class-small Absent zero h = omega arith
-class-small Absent (suc zero) h = omega arith
-class-small Absent (suc (suc n)) h = omega arith
-class-small (Is b) n h = omega arith
+pub class-small : (b : (Option Bool)) (n : ℕ) → n ≤ most_payload → class_of b n ≤ 4
+class-small None zero h = omega arith
+class-small None (suc zero) h = omega arith
+class-small None (suc (suc n)) h = omega arith
+class-small (Some b) n h = omega arith
 
-pub payload_back : (b : SingleBit) (n : ℕ) → bit_and_payload b n ≡ false → payload_size (class_of b n) (li_of b n) ≡ n
-payload_back Absent zero h = unfold payload_size in refl
-payload_back Absent (suc zero) h = unfold payload_size in refl
-payload_back Absent (suc (suc n)) h =
+pub payload_back : (b : (Option Bool)) (n : ℕ) → bit_and_payload b n ≡ false → payload_size (class_of b n) (li_of b n) ≡ n
+payload_back None zero h = unfold payload_size in refl
+payload_back None (suc zero) h = unfold payload_size in refl
+payload_back None (suc (suc n)) h =
     sym (payload_more (suc n / 4 + 2) (3 - suc n % 4) (λ e. omega arith) (λ e. omega arith)) ∙ (let e : 4 * (suc n / 4 + 2 - 1) - (3 - suc n % 4) ≡ suc (suc n) = omega arith in e)
-payload_back (Is b) n h = unfold payload_size in sym (eqb-true n 0 (not-false (eqb n 0) h))
+payload_back (Some b) n h = unfold payload_size in sym (eqb-true n 0 (not-false (eqb n 0) h))
 
-pub bit_back : (b : SingleBit) (n : ℕ) → bit_from (class_of b n) (li_of b n) ≡ b
-bit_back Absent zero = unfold bit_from in refl
-bit_back Absent (suc zero) = unfold bit_from in refl
-bit_back Absent (suc (suc n)) = sym (bit_none (suc n / 4 + 2) (3 - suc n % 4) (λ e. omega arith))
-bit_back (Is true) n = unfold bit_from in refl
-bit_back (Is false) n = unfold bit_from in refl
+pub bit_back : (b : (Option Bool)) (n : ℕ) → bit_from (class_of b n) (li_of b n) ≡ b
+bit_back None zero = unfold bit_from in refl
+bit_back None (suc zero) = unfold bit_from in refl
+bit_back None (suc (suc n)) = sym (bit_none (suc n / 4 + 2) (3 - suc n % 4) (λ e. omega arith))
+bit_back (Some true) n = unfold bit_from in refl
+bit_back (Some false) n = unfold bit_from in refl
 
 -- ---- the CRC
 
@@ -91,7 +89,7 @@ crc_made bytes n e =
 
 -- ---- a frame by its fields
 
-abbrev framed : ℕ → ℕ → ℕ → List ℕ → ℕ → SingleBit → Bool → List ℕ → ℕ → Bool → UplinkFrame
+abbrev framed : ℕ → ℕ → ℕ → List ℕ → ℕ → (Option Bool) → Bool → List ℕ → ℕ → Bool → UplinkFrame
 framed rank device counter payload plen bit downlink auth alen ok = record {
   rank = rank;
   device_id = device;
@@ -104,10 +102,10 @@ framed rank device counter payload plen bit downlink auth alen ok = record {
   auth = auth;
   auth_len = alen;
   crc_ok = ok;
-  repaired = Unchanged;
+  repaired = None;
 }
 
-same_frame : (r d d' c c' : ℕ) (p p' : List ℕ) (n n' : ℕ) (b b' : SingleBit) (w w' : Bool) (a a' : List ℕ) (m m' : ℕ) (o o' : Bool)
+same_frame : (r d d' c c' : ℕ) (p p' : List ℕ) (n n' : ℕ) (b b' : (Option Bool)) (w w' : Bool) (a a' : List ℕ) (m m' : ℕ) (o o' : Bool)
     → d ≡ d' → c ≡ c' → p ≡ p' → n ≡ n' → b ≡ b' → w ≡ w' → a ≡ a' → m ≡ m' → o ≡ o' → framed r d c p n b w a m o ≡ framed r d' c' p' n' b' w' a' m' o'
 same_frame r d d' c c' p p' n n' b b' w w' a a' m m' o o' e1 e2 e3 e4 e5 e6 e7 e8 e9 = cc
 
@@ -209,7 +207,7 @@ module _ (f : UplinkFields) (payload auth : List ℕ) (s : Sendable f payload au
     unfolding frame_bytes with_crc header_bytes number_at bytes_of
     device-sent = number-bytes 4 f.device_id t.device
 
-    pub fields-sent : (rank : ℕ) → frame_from (plain rank (class_sent f payload)) Unchanged (frame_bytes f payload auth) ≡ sent_frame f payload auth rank
+    pub fields-sent : (rank : ℕ) → frame_from (plain rank (class_sent f payload)) None (frame_bytes f payload auth) ≡ sent_frame f payload auth rank
     unfolding frame_from
     fields-sent rank =
         let w = frame_bytes f payload auth in

@@ -1,4 +1,6 @@
 -- Where the decoder finds the frame type of a repetition: at 20, for every kind of the table. Assumes nothing.
+use Rattle.std.proofs.Common.{Option, None, Some}
+use Rattle.std.specs.Option.{is_none}
 use mathlib.Core.Path.{◌≡◌, refl, sym, ap, ap₂, ◌∙◌}
 use mathlib.Core.Bool.{Bool, true, false, cond, ◌&&◌}
 use mathlib.Core.List.{List, ◌++◌, map, append_assoc}
@@ -19,12 +21,8 @@ use Rattle.frame.specs.Kinds.{alternating, preamble, sync_size, sync_bits, type_
 use Rattle.frame.specs.Sizes.{body_bytes}
 use Rattle.frame.specs.Fields.{crc_right, frame_from}
 use Rattle.frame.specs.Repairs.{repaired}
-use Rattle.frame.specs.Decode.{found, nothing, parse_body, decode_body, search_from, decode_uplink}
-use Rattle.frame.specs.declared.Repair.TheVariants.{Unchanged}
+use Rattle.frame.specs.Decode.{is_right, parse_body, decode_body, search_from, decode_uplink}
 use Rattle.frame.specs.declared.kinds.FrameKind.{FrameKind}
-use Rattle.frame.specs.declared.kinds.FoundKind.{FoundKind}
-use Rattle.frame.specs.declared.kinds.FoundKind.TheVariants.{Unknown, Known}
-use Rattle.frame.specs.declared.DecodedUplink.{DecodedUplink}
 use Rattle.frame.proofs.KindLaws.{rust_types, word_of, type_at, row, row_plain, kind_is}
 use Rattle.frame.proofs.SearchLaws.{search-found, search-later, decode_right}
 use Rattle.writer.specs.Uplink.{lead_size, lead, repetition_of}
@@ -79,17 +77,17 @@ passed_over (suc k) n start l h q =
 
 -- ---- the table: the number of each kind's bits finds that kind
 
-all_named : map (λ (k : FrameKind). kind_of (word_of k) kinds) kinds ≡ map Known kinds
+all_named : map (λ (k : FrameKind). kind_of (word_of k) kinds) kinds ≡ map Some kinds
 unfolding kind_of sync_bits preamble alternating digits value
 all_named = refl
 
-pub named : (i : ℕ) → kind_of (word_of (get_or kinds i blank_kind)) kinds ≡ Known (get_or kinds i blank_kind)
+pub named : (i : ℕ) → kind_of (word_of (get_or kinds i blank_kind)) kinds ≡ Some (get_or kinds i blank_kind)
 named i =
     sym (get_or-map (λ (k : FrameKind). kind_of (word_of k) kinds) kinds i blank_kind)
-    ∙ ap₂ (λ (l : List FoundKind) (d : FoundKind). get_or l i d) all_named blank-named
-    ∙ get_or-map Known kinds i blank_kind
+    ∙ ap₂ (λ (l : List (Option FrameKind)) (d : Option FrameKind). get_or l i d) all_named blank-named
+    ∙ get_or-map Some kinds i blank_kind
   where
-    blank-named : kind_of (word_of blank_kind) kinds ≡ Known blank_kind
+    blank-named : kind_of (word_of blank_kind) kinds ≡ Some blank_kind
     blank-named = unfold kind_of in unfold sync_bits in unfold preamble in unfold alternating in unfold digits in unfold value in refl
 
 -- a data frame's place in the table
@@ -102,13 +100,9 @@ place_of r c h k =
 
 -- ---- no start under 20 shows a type, whatever the kind and the bytes: one test over the table
 
-abbrev is_unknown : FoundKind → Bool
-is_unknown Unknown = true
-is_unknown (Known k) = false
-
-unknown_is : (x : FoundKind) → is_unknown x ≡ true → x ≡ Unknown
-unknown_is Unknown e = refl
-unknown_is (Known k) e = absurd (let z : ◌≡◌ {A = ℕ} 0 1 = cc in omega arith)
+none_is : (x : Option FrameKind) → is_none x ≡ true → x ≡ None
+none_is None e = refl
+none_is (Some k) e = absurd (let z : ◌≡◌ {A = ℕ} 0 1 = cc in omega arith)
 
 unfoldable every_below : (ℕ → Bool) → ℕ → Bool
 every_below p zero = true
@@ -124,11 +118,11 @@ below_at p (suc n) k e h = go (ltb k n) (ltb-true k n) (ltb-false k n) (below_at
     go false f g r = let j : n ≤ k = g refl in let i : k ≡ n = omega arith in ap p i ∙ and_left (p n) (every_below p n) e
 
 -- what a start under 20 shows: 16 of the preamble and the type
-abbrev shown : FrameKind → ℕ → FoundKind
+abbrev shown : FrameKind → ℕ → Option FrameKind
 shown k s = kind_of (value (take sync_size (drop s (lead ++ sync_bits k)))) kinds
 
 unfoldable quiet_front : FrameKind → Bool
-quiet_front k = every_below (λ (s : ℕ). is_unknown (shown k s)) lead_size
+quiet_front k = every_below (λ (s : ℕ). is_none (shown k s)) lead_size
 
 fronts_quiet : every_below (λ (i : ℕ). quiet_front (get_or kinds i blank_kind)) 18 ≡ true
 unfolding every_below quiet_front lead sync_bits preamble alternating digits value kind_of
@@ -149,8 +143,8 @@ unfolding quiet_front
 quiet i bytes h s k =
     let kind = get_or kinds i blank_kind in
     ap (λ (l : List Bool). kind_of (value l) kinds) (front_only kind bytes s k)
-    ∙ unknown_is (shown kind s)
-    (below_at (λ (j : ℕ). is_unknown (shown kind j)) lead_size s (below_at (λ (j : ℕ). quiet_front (get_or kinds j blank_kind)) 18 i fronts_quiet h) k)
+    ∙ none_is (shown kind s)
+    (below_at (λ (j : ℕ). is_none (shown kind j)) lead_size s (below_at (λ (j : ℕ). quiet_front (get_or kinds j blank_kind)) 18 i fronts_quiet h) k)
 
 -- ---- so the body is decoded by its own kind
 
@@ -173,18 +167,18 @@ module _ (kind : FrameKind) (bytes : List ℕ) (e : length bytes ≡ body_bytes 
   sent : List Bool
   sent = convolved kind.rank fresh (bytes_bits bytes)
 
-  parsed : parse_body kind Unchanged sent ≡ found (frame_from kind Unchanged bytes)
+  parsed : parse_body kind None sent ≡ Some (frame_from kind None bytes)
   unfolding parse_body repaired sent
   parsed =
       let n = body_bytes kind.class in
       let long : 8 * n ≤ length sent = omega (arith, length-convolved kind.rank fresh (bytes_bits bytes), length-bytes-bits bytes) in
-      ap (λ (b : Bool). cond b (found (frame_from kind Unchanged (to_bytes n (deconvolved kind.rank fresh sent)))) nothing) (le-leb (8 * n) (length sent) long)
-      ∙ ap (λ (bs : List ℕ). found (frame_from kind Unchanged bs))
+      ap (λ (b : Bool). cond b (Some (frame_from kind None (to_bytes n (deconvolved kind.rank fresh sent)))) None) (le-leb (8 * n) (length sent) long)
+      ∙ ap (λ (bs : List ℕ). Some (frame_from kind None bs))
       (ap₂ to_bytes (sym e) (deconvolve-undone kind.rank fresh (bytes_bits bytes)) ∙ bytes_back bytes small)
 
-  pub body_read : crc_right (body_bytes kind.class) bytes ≡ true → decode_body kind (convolved kind.rank fresh (bytes_bits bytes)) ≡ found (frame_from kind Unchanged bytes)
+  pub body_read : crc_right (body_bytes kind.class) bytes ≡ true → decode_body kind (convolved kind.rank fresh (bytes_bits bytes)) ≡ Some (frame_from kind None bytes)
   unfolding sent frame_from
-  body_read ok = sym (decode_right kind sent (ap (λ (d : DecodedUplink). d.frame.crc_ok) parsed ∙ ok)) ∙ parsed
+  body_read ok = sym (decode_right kind sent (ap is_right parsed ∙ ok)) ∙ parsed
 
 -- ---- the Rust's number of a data frame's bits
 

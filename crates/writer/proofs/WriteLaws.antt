@@ -25,11 +25,9 @@ use Rattle.frame.specs.declared.header.UplinkFields.{UplinkFields}
 use Rattle.frame.proofs.CopyLaws.{sets_then, fill-front}
 use Rattle.frame.proofs.HeaderLaws.{length_header}
 use Rattle.frame.proofs.SizeLaws.{li_cancels, body_most}
-use Rattle.limits.specs.Answer.{answer, number, leaves, accepted}
+use Rattle.limits.specs.Answer.{Answer, answer, number, leaves, refused, accepted}
 use Rattle.writer.specs.Uplink.{lead_size, lead, repetition_of, repeated, with_crc, frame_bytes, class_sent, uplink_bits, bit_count}
-use Rattle.writer.specs.Answers.{said, all_places, highest_counter, bit_and_payload, auth_called, write_cause, put_rank, put_all}
-use Rattle.writer.specs.declared.Written.{Written}
-use Rattle.writer.specs.declared.Written.TheVariants.{Refused, Bits}
+use Rattle.writer.specs.Answers.{all_places, highest_counter, bit_and_payload, auth_called, write_cause, put_rank, put_all}
 use Rattle.writer.proofs.Stores.{length-map-bits, bits_then}
 use Rattle.writer.proofs.Starts.{length-lead, length-sync}
 use Rattle.writer.proofs.Sent.{Sendable, li-small, class-small, payload_back, length_sent}
@@ -181,16 +179,16 @@ module _ (f : UplinkFields) (payload auth : List ℕ) (s : Sendable f payload au
 -- ---- the answers
 
 module _ (f : UplinkFields) (payload auth out : List ℕ) where
-  -- what a call that answers r and leaves o has to show
-  abbrev pub Ends : Written → List ℕ → Type 0
-  Ends r o =
-      (said r ≡ answer (write_cause f payload auth (length out)) (bit_count f payload)) × (o ≡ leaves (number (said r)) (put_all (uplink_bits f payload auth) out) out)
+  -- what a call that answers a and leaves o has to show
+  abbrev pub Ends : Answer ℕ → List ℕ → Type 0
+  Ends a o =
+      (a ≡ answer (write_cause f payload auth (length out)) (bit_count f payload)) × (o ≡ leaves (number a) (put_all (uplink_bits f payload auth) out) out)
 
-  pub refuses : (n : ℕ) → write_cause f payload auth (length out) ≡ suc n → Ends (Refused (suc n)) out
+  pub refuses : (n : ℕ) → write_cause f payload auth (length out) ≡ suc n → Ends (refused (suc n)) out
   unfolding answer number leaves
   refuses n e = (ap (λ (c : ℕ). answer c (bit_count f payload)) (sym e), refl)
 
-  pub writes : write_cause f payload auth (length out) ≡ 0 → (n : ℕ) (o : List ℕ) → n ≡ bit_count f payload → o ≡ put_all (uplink_bits f payload auth) out → Ends (Bits n) o
+  pub writes : write_cause f payload auth (length out) ≡ 0 → (n : ℕ) (o : List ℕ) → n ≡ bit_count f payload → o ≡ put_all (uplink_bits f payload auth) out → Ends (accepted n) o
   unfolding answer number leaves
   writes e n o g h = (ap accepted g ∙ ap (λ (c : ℕ). answer c (bit_count f payload)) (sym e), h)
 

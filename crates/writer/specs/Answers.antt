@@ -1,22 +1,12 @@
 -- What `write_uplink` answers and leaves in `out` (02, request 01; causes 2 and 10). Assumes nothing.
-use Rattle.std.specs.Prelude.{ℕ, ◌*◌, Bool, false, not, cond, List, map, ltb, eqb, length}
+use Rattle.std.specs.Prelude.{ℕ, ◌*◌, Bool, false, not, cond, List, map, ltb, eqb, length, Option, None, Some}
 use Rattle.std.proofs.lemmas.List.Edits.{sets}
 use Rattle.limits.specs.Limits.{short, bad_uplink}
-use Rattle.limits.specs.Answer.{Answer, refused, accepted}
 use Rattle.coding.specs.Bits.{bit_of}
 use Rattle.frame.specs.Sizes.{most_payload, auth_size}
 use Rattle.frame.specs.Header.{li_of}
-use Rattle.frame.specs.declared.SingleBit.{SingleBit}
-use Rattle.frame.specs.declared.SingleBit.TheVariants.{Absent, Is}
 use Rattle.frame.specs.declared.header.UplinkFields.{UplinkFields}
 use Rattle.writer.specs.Uplink.{class_sent}
-use Rattle.writer.specs.declared.Written.{Written}
-use Rattle.writer.specs.declared.Written.TheVariants.{Refused, Bits}
-
--- `Written` in 02's words: a refusal's number, or the count of bits of each repetition
-abbrev pub said : Written → Answer ℕ
-said (Refused n) = refused n
-said (Bits n) = accepted n
 
 -- 'each repetition, by rank, has 212 places'; 'a slice under 636 bytes is refusal 2'
 abbrev pub places : ℕ
@@ -30,9 +20,9 @@ abbrev pub highest_counter : ℕ
 highest_counter = 4095
 
 -- 'a single bit together with a payload'
-abbrev pub bit_and_payload : SingleBit → ℕ → Bool
-bit_and_payload Absent n = false
-bit_and_payload (Is b) n = not (eqb n 0)
+abbrev pub bit_and_payload : Option Bool → ℕ → Bool
+bit_and_payload None n = false
+bit_and_payload (Some b) n = not (eqb n 0)
 
 -- the 'auth length that the header' calls for: by class and LI, as the decoder reads them
 abbrev pub auth_called : UplinkFields → List ℕ → ℕ

@@ -1,5 +1,5 @@
 -- The bits of an uplink's repetitions (02, request 01; frame.rs encode_uplink), and the frame that they carry. Assumes nothing.
-use Rattle.std.specs.Prelude.{ℕ, ◌+◌, ◌*◌, ◌/◌, ◌%◌, Bool, true, false, List, [], ◌∷◌, ◌++◌, length}
+use Rattle.std.specs.Prelude.{ℕ, ◌+◌, ◌*◌, ◌/◌, ◌%◌, Bool, true, false, List, [], ◌∷◌, ◌++◌, length, None}
 use Rattle.coding.specs.Bits.{bytes_bits}
 use Rattle.coding.specs.Crc.{crc_of}
 use Rattle.coding.specs.Convolution.{fresh, convolved}
@@ -9,7 +9,6 @@ use Rattle.frame.specs.Fields.{padded}
 use Rattle.frame.specs.Header.{class_of, header_bytes}
 use Rattle.frame.specs.declared.kinds.FrameKind.{FrameKind}
 use Rattle.frame.specs.declared.header.UplinkFields.{UplinkFields}
-use Rattle.frame.specs.declared.Repair.TheVariants.{Unchanged}
 use Rattle.frame.specs.declared.UplinkFrame.{UplinkFrame}
 
 -- 02: '20 alternating preamble bits from true'
@@ -65,5 +64,5 @@ sent_frame f payload auth rank = record {
   auth = padded most_auth auth;
   auth_len = length auth;
   crc_ok = true;
-  repaired = Unchanged;
+  repaired = None;
 }

@@ -8,23 +8,14 @@ ghost use Rattle.frame.specs.Kinds.{sync_size, sync_bits, plain};
 ghost use Rattle.frame.specs.Sizes.{header_size, most_payload, most_bytes};
 ghost use Rattle.frame.specs.Fields.{padded};
 ghost use Rattle.frame.specs.Header.{li_of};
-ghost use Rattle.limits.specs.Answer.{answer, number, leaves};
+ghost use Rattle.limits.specs.Answer.{answer, said, number, leaves};
 ghost use Rattle.writer.specs.Uplink.{lead_size, frame_bytes, repeated, uplink_bits, bit_count};
-ghost use Rattle.writer.specs.Answers.{said, places, all_places, bit_and_payload, write_cause, put_rank, put_all};
+ghost use Rattle.writer.specs.Answers.{places, all_places, bit_and_payload, write_cause, put_rank, put_all};
 
-use frame::SingleBit;
 use frame::bodies::{HEADER, MOST_PAYLOAD, auth_size, copy_into, put_byte};
 use frame::header::{UplinkFields, layout_of, write_header};
 use frame::kinds::{FRAME_TYPES, SYNC};
-
-// What `write_uplink` answers.
-#[derive(Clone, Copy)]
-pub enum Written {
-    // A refusal's number.
-    Refused(u8),
-    // How many bits each repetition has.
-    Bits(usize),
-}
+use limits::Refusal;
 
 // Places of a repetition in the lent slice, and of all three: the longest has 20 + 16 + 176 bits.
 pub const PLACES: usize = 212;
@@ -44,10 +35,8 @@ fn put_digits(out: &mut [u8], at: usize, n: usize, x: u32)
     requires { (at + n ≤ length out.old) × (n ≤ 32) }
     ensures { out.new ≡ sets out.old at (map bit_of (digits n x)) }
 {
-    let mut i: usize = 0;
-    while i < n {
+    for i in 0..n {
         out[at + i] = ((x >> (n - 1 - i)) % 2) as u8;
-        i += 1;
     }
 }
 
@@ -56,10 +45,8 @@ fn put_bits(bytes: &[u8], out: &mut [u8])
     requires { 8 * length bytes.now ≤ length out.old }
     ensures { out.new ≡ sets out.old 0 (map bit_of (bytes_bits bytes.now)) }
 {
-    let mut i: usize = 0;
-    while i < bytes.len() {
-        put_digits(out, 8 * i, 8, bytes[i] as u32);
-        i += 1;
+    for (i, b) in bytes.iter().enumerate() {
+        put_digits(out, 8 * i, 8, u32::from(*b));
     }
 }
 
@@ -110,37 +97,42 @@ fn frame_bytes(fields: UplinkFields, li: u8, payload: &[u8], auth: &[u8]) -> [u8
     bytes
 }
 
-fn bit_and_payload(bit: SingleBit, n: usize) -> bool
+fn bit_and_payload(bit: Option<bool>, n: usize) -> bool
     ensures { result ≡ bit_and_payload bit n }
 {
     match bit {
-        SingleBit::Is(_) => n != 0,
-        SingleBit::Absent => false,
+        Some(_) => n != 0,
+        None => false,
     }
 }
 
-// The three repetitions of an uplink into a lent slice, each at its rank's places.
-pub fn write_uplink(fields: UplinkFields, payload: &[u8], auth: &[u8], out: &mut [u8]) -> Written
+// The three repetitions of an uplink into a lent slice, each at its rank's places; how many bits each has.
+pub fn write_uplink(
+    fields: UplinkFields,
+    payload: &[u8],
+    auth: &[u8],
+    out: &mut [u8],
+) -> Result<usize, Refusal>
     ensures { (said result ≡ answer (write_cause fields payload.now auth.now (length out.old)) (bit_count fields payload.now))
         × (out.new ≡ leaves (number (said result)) (put_all (uplink_bits fields payload.now auth.now) out.old) out.old) }
 {
     if out.len() < ALL_PLACES {
-        return Written::Refused(limits::SHORT);
+        return Err(Refusal::Short);
     }
     if MOST_PAYLOAD < payload.len() {
-        return Written::Refused(limits::BAD_UPLINK);
+        return Err(Refusal::BadUplink);
     }
     let bit = fields.bit;
     if bit_and_payload(bit, payload.len()) {
-        return Written::Refused(limits::BAD_UPLINK);
+        return Err(Refusal::BadUplink);
     }
     if HIGHEST_COUNTER < fields.counter {
-        return Written::Refused(limits::BAD_UPLINK);
+        return Err(Refusal::BadUplink);
     }
     let layout = layout_of(bit, payload.len());
     let called = auth_size(layout.class, layout.li) as usize;
     if auth.len() != called {
-        return Written::Refused(limits::BAD_UPLINK);
+        return Err(Refusal::BadUplink);
     }
     let bytes = frame_bytes(fields, layout.li, payload, auth);
     let size = HEADER + payload.len() + auth.len() + 2;
@@ -148,6 +140,5 @@ pub fn write_uplink(fields: UplinkFields, payload: &[u8], auth: &[u8], out: &mut
     put_bits(&bytes[..size], &mut body);
     let n = 8 * size;
     put_all(layout.class, &body[..n], out);
-    let count = LEAD + SYNC + 8 * size;
-    Written::Bits(count)
+    Ok(LEAD + SYNC + n)
 }

@@ -1,18 +1,17 @@
-use mathlib.Core.Path.{sym, ap}
-use Rattle.clock.specs.Bits.{said}
-use Rattle.clock.specs.declared.BurstBits.{BurstBits}
+use mathlib.Core.Path.{refl}
+use Rattle.limits.specs.Answer.{said_by}
 use Rattle.bench.specs.Demod.{bit_count_of}
 use Rattle.bench.proofs.Told.{lent_told}
 use Rattle.bench.proofs.bench_burst_bits.Goals as goal
 
-pub returns-in-Refused : goal.returns-in-Refused
-unfolding said
-returns-in-Refused c = lent_told bit_count_of _ _ _ _ _ _ _ _ _ _ c.burst_bits.ensures (ap (λ (r : BurstBits). bit_count_of (said r)) (sym c.in-Refused.is))
+pub returns-in-Err : goal.returns-in-Err
+unfolding said_by
+returns-in-Err c = lent_told bit_count_of _ _ _ _ _ _ _ _ _ _ c.in-Err.ensures refl
 
-pub returns-in-Nothing : goal.returns-in-Nothing
-unfolding said
-returns-in-Nothing c = lent_told bit_count_of _ _ _ _ _ _ _ _ _ _ c.burst_bits.ensures (ap (λ (r : BurstBits). bit_count_of (said r)) (sym c.in-Nothing.is))
+pub returns-in-Ok-None : goal.returns-in-Ok-None
+unfolding said_by
+returns-in-Ok-None c = lent_told bit_count_of _ _ _ _ _ _ _ _ _ _ c.in-Ok-None.ensures (rw c.in-Ok-None.field-0-is refl)
 
-pub returns-in-Bits : goal.returns-in-Bits
-unfolding said
-returns-in-Bits c = lent_told bit_count_of _ _ _ _ _ _ _ _ _ _ c.burst_bits.ensures (ap (λ (r : BurstBits). bit_count_of (said r)) (sym c.in-Bits.is))
+pub returns-in-Ok-Some : goal.returns-in-Ok-Some
+unfolding said_by
+returns-in-Ok-Some c = lent_told bit_count_of _ _ _ _ _ _ _ _ _ _ c.in-Ok-Some.ensures (rw c.in-Ok-Some.field-0-is refl)

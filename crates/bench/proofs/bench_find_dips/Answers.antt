@@ -1,12 +1,12 @@
-use Rattle.dips.specs.Dips.{said}
+use mathlib.Core.Path.{ap}
+use Rattle.limits.specs.Answer.{said_by}
 use Rattle.bench.specs.Demod.{count_of}
-use Rattle.bench.proofs.Told.{number_of}
 use Rattle.bench.proofs.bench_find_dips.Goals as goal
 
-pub returns-in-Refused : goal.returns-in-Refused
-unfolding said
-returns-in-Refused c = let e = c.find_dips.ensures in (number_of said count_of e.0 c.in-Refused.is, e.1)
+pub returns-in-Err : goal.returns-in-Err
+unfolding said_by
+returns-in-Err c = (ap count_of c.in-Err.ensures.0, c.in-Err.ensures.1)
 
-pub returns-in-Count : goal.returns-in-Count
-unfolding said
-returns-in-Count c = let e = c.find_dips.ensures in (number_of said count_of e.0 c.in-Count.is, e.1)
+pub returns-in-Ok : goal.returns-in-Ok
+unfolding said_by
+returns-in-Ok c = (ap count_of c.in-Ok.ensures.0, c.in-Ok.ensures.1)

@@ -1,12 +1,14 @@
+use Rattle.std.proofs.Common.{refl, arith}
+use Rattle.limits.specs.Answer.{cause_of}
 use Rattle.bench_tracker.proofs.TrackerLaws.{moved, begins}
-use native.Mathlib.Omega.{arith}
 use Rattle.bench_tracker.proofs.main.Goals as goal
 
-pub loop-left-init : goal.loop-left-init
-loop-left-init c = let n = c.new-fresh.ensures in moved c.start-s.ensures (begins _ _ _ _ _ _ (omega arith) n.0 c.if-fresh-ne0.false n.1)
+pub loop-init : goal.loop-init
+unfolding cause_of
+loop-init c = moved c.start-s.ensures (begins _ _ _ _ _ _ (omega arith) c.in-Ok.ensures.number refl c.in-Ok.ensures.value)
 
-pub turn-s-requires : goal.turn-s-requires
-turn-s-requires c = c.loop-left.invariant
+pub turn-requires : goal.turn-requires
+turn-requires c = c.loop.invariant
 
-pub loop-left-preserved : goal.loop-left-preserved
-loop-left-preserved c = c.turn-s.ensures
+pub loop-preserved : goal.loop-preserved
+loop-preserved c = c.turn.ensures

@@ -1,10 +1,6 @@
 use Rattle.frequency.specs.Lent.{lists}
 use Rattle.frequency_grown.specs.Rising.{Single}
-use Prim.Native.Nat.{◌-◌}
 use Rattle.bench_tracker.proofs.records.Given as goal
 
 abbrev pub invariant-loop-i : goal.invariant-loop-i
-invariant-loop-i g l = Single l.t.tracker (lists l.at l.lo l.hz l.tunings l.freqs)
-
-abbrev pub decreases-loop-i : goal.decreases-loop-i
-decreases-loop-i g l = l.count - l.i
+invariant-loop-i g l = Single l.s.tracker (lists l.at l.lo l.hz l.tunings l.freqs)

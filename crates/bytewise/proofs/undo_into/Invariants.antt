@@ -8,8 +8,5 @@ use Rattle.bytewise.proofs.Turns.{whole}
 use Rattle.bytewise.proofs.undo_into.Given as goal
 
 abbrev pub invariant-loop-i : goal.invariant-loop-i
-invariant-loop-i l = (l.i ≤ length l.bytes) × (length l.out ≡ length l.initial.out) × (l.s < 4)
+invariant-loop-i l = (length l.out ≡ length l.initial.out) × (l.s < 4)
     × (state_bytes l.rank l.s (drop l.i l.bytes) ≡ state_bytes l.rank l.state l.bytes) × (whole l.rank l.bytes l.out l.s l.i ≡ by_bytes l.rank l.state l.bytes ++ drop (length l.bytes) l.initial.out)
-
-abbrev pub decreases-loop-i : goal.decreases-loop-i
-decreases-loop-i l = length l.bytes - l.i

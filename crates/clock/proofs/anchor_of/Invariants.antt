@@ -1,5 +1,5 @@
 -- The invariant: the sums of what is left, from s and c on, are the whole's.
-use Rattle.std.proofs.Common.{◌≡◌, ◌-◌, ◌≤◌, length}
+use Rattle.std.proofs.Common.{◌≡◌}
 use lib.Seq.{slice}
 use Rattle.clock.specs.Clock.{sum_from}
 use Rattle.clock.proofs.ClockLaws.{sine_of, cosine_of}
@@ -7,8 +7,5 @@ use Rattle.clock.proofs.anchor_of.Given as goal
 
 abbrev pub invariant-loop-i : goal.invariant-loop-i
 invariant-loop-i l =
-    (l.i ≤ l.end) × (l.end ≤ length l.dips) × (sum_from (sine_of l.nominal l.d0) l.s (slice l.i l.end l.dips) ≡ sum_from (sine_of l.nominal l.d0) l.initial.s (slice 0 l.end l.dips))
+    (sum_from (sine_of l.nominal l.d0) l.s (slice l.i l.end l.dips) ≡ sum_from (sine_of l.nominal l.d0) l.initial.s (slice 0 l.end l.dips))
     × (sum_from (cosine_of l.nominal l.d0) l.c (slice l.i l.end l.dips) ≡ sum_from (cosine_of l.nominal l.d0) l.initial.c (slice 0 l.end l.dips))
-
-abbrev pub decreases-loop-i : goal.decreases-loop-i
-decreases-loop-i l = l.end - l.i

@@ -1,52 +1,28 @@
-use Rattle.std.proofs.Common.{sym, ◌∙◌}
-use Rattle.limits.proofs.Samples.{rate-low, rate-high}
-use Rattle.clock.proofs.BitAnswers.{long-bits, long-scratch, bits-rate, bits-short, bits-long, bits-invalid, bits-done}
+use Rattle.std.proofs.Common.{◌≡◌, Option, Ok, ap, ◌∙◌}
+use Rattle.limits.specs.Answer.{said, said_by, cause_of, number, leaves, Free}
+use Rattle.limits.proofs.AnswerLaws.{said_refused, said_accepted, lent_refused, free_kept}
+use Rattle.clock.specs.Bits.{Outcome, outcome, handed, values_of}
+use Rattle.clock.specs.declared.BurstBits.{BurstBits}
 use Rattle.clock.proofs.burst_bits.Goals as goal
 
-pub returns-then-not-rate_ok : goal.returns-then-not-rate_ok
-returns-then-not-rate_ok c =
-    let r = c.rate_ok in
-    let a = c.args in
-    bits-rate a.seg.now a.rate a.bits.now a.scratch32.now a.scratch64.now (sym r.ensures ∙ c.if-not-rate_ok.true)
-
-pub returns-then-few-narrow : goal.returns-then-few-narrow
-returns-then-few-narrow c =
-    let r = c.rate_ok in
-    let a = c.args in
-    bits-short a.seg.now a.rate a.bits.now a.scratch32.now a.scratch64.now (sym r.ensures ∙ c.if-not-rate_ok.false) c.if-few-narrow.true
-
-pub returns-then-rate-seg : goal.returns-then-rate-seg
-returns-then-rate-seg c =
-    let r = c.rate_ok in
-    let a = c.args in
-    bits-long a.seg.now a.rate a.bits.now a.scratch32.now a.scratch64.now (sym r.ensures ∙ c.if-not-rate_ok.false) c.if-few-narrow.false c.if-rate-seg.true
-
-pub returns-then-not-all_dbm : goal.returns-then-not-all_dbm
-returns-then-not-all_dbm c =
-    let v = c.all_dbm in
-    let r = c.rate_ok in
-    let a = c.args in
-    bits-invalid a.seg.now a.rate a.bits.now a.scratch32.now a.scratch64.now (sym r.ensures ∙ c.if-not-rate_ok.false) c.if-few-narrow.false c.if-rate-seg.false
-    (sym v.ensures ∙ c.if-not-all_dbm.true)
-
-pub bits_of-requires : goal.bits_of-requires
-bits_of-requires c =
-    let v = c.all_dbm in
-    let r = c.rate_ok in
-    let a = c.args in
-    let t = sym r.ensures ∙ c.if-not-rate_ok.false in (
-      rate-low a.rate t,
-      rate-high a.rate t,
-      c.if-rate-seg.false,
-      sym v.ensures ∙ c.if-not-all_dbm.false,
-      long-bits a.seg.now a.rate a.bits.now a.scratch32.now a.scratch64.now c.if-few-narrow.false,
-      long-scratch a.seg.now a.rate a.bits.now a.scratch32.now a.scratch64.now c.if-few-narrow.false,
+pub returns-in_err-samples : goal.returns-in_err-samples
+unfolding cause_of
+returns-in_err-samples c = let a = c.args in
+    let i = c.from_residual.ensures.1 in (
+      said_refused _ _ _ i c.in_err-samples.ensures.cause _,
+      lent_refused _ _ i _ a.bits.now,
+      free_kept _ a.scratch32.now,
+      free_kept _ a.scratch64.now,
     )
 
 pub returns : goal.returns
-returns c =
-    let v = c.all_dbm in
-    let r = c.rate_ok in
-    let a = c.args in
-    bits-done a.seg.now a.rate a.bits.now a.scratch32.now a.scratch64.now (sym r.ensures ∙ c.if-not-rate_ok.false) c.if-few-narrow.false c.if-rate-seg.false
-    c.bits_of.result _ _ _ (sym v.ensures ∙ c.if-not-all_dbm.false) c.bits_of.ensures.0 c.bits_of.ensures.1
+unfolding said_by cause_of number leaves Free
+returns c = let a = c.args in
+    let h = c.in_ok-samples.ensures.cause in
+    let e = c.in_ok-samples.ensures.ok in
+    let o : outcome c.in_ok-samples.samples.dbm.now c.in_ok-samples.samples.rate ≡ outcome a.seg.now a.rate = rw (e.0, e.1) in (
+      ap (λ (v : Option BurstBits). said (Ok v)) (c.bits_of.ensures.0 ∙ ap values_of o) ∙ said_accepted _ h _,
+      c.bits_of.ensures.1 ∙ ap (λ (x : Outcome). handed x a.bits.now) o,
+      tt,
+      tt,
+    )

@@ -26,19 +26,19 @@ place_of-requires c = sym c.is_lost.ensures ∙ c.if-is_lost.false
 pub overflow_sub-count : goal.overflow_sub-count
 overflow_sub-count c =
     let o = c.requires.4.order (omega (arith, c.if-n-lt-ENOUGH_POINTS.false)) in
-    omega (arith, o, c.greatest-end.ensures)
+    omega (arith, o, c.max-end.ensures)
 
 pub overflow_add-count : goal.overflow_add-count
 overflow_add-count c =
     let o = c.requires.4.low (omega (arith, c.if-n-lt-ENOUGH_POINTS.false)) in
-    omega (arith, o, c.greatest-end.ensures, c.place_of.ensures.1)
+    omega (arith, o, c.max-end.ensures, c.place_of.ensures.1)
 
 pub write_bits-requires : goal.write_bits-requires
 write_bits-requires c =
     let h = c.if-n-lt-ENOUGH_POINTS.false in
     let o = c.requires.4.order (omega (arith, h)) in
     let l = c.requires.4.low (omega (arith, h)) in
-    (omega (arith, c.requires.2, c.requires.5), omega (arith, c.least-len.ensures), omega (arith, c.least-len.ensures), omega (arith, c.least-len.ensures, c.requires.3), omega (arith, o, l))
+    (omega (arith, c.requires.2, c.requires.5), omega (arith, c.min-len.ensures), omega (arith, c.min-len.ensures), omega (arith, c.min-len.ensures, c.requires.3), omega (arith, o, l))
 
 pub median_depth-requires : goal.median_depth-requires
 median_depth-requires c =
@@ -50,6 +50,6 @@ returns c =
     let k = c.end_index-k in
     let p : to_z w32 (of_z w32 c.ppm_of.result) ≡ ppm_of a.c.period (nominal_of a.rate) =
     ap (λ (z : ℤ). to_z w32 (of_z w32 z)) (c.ppm_of.ensures ∙ ap (ppm_of a.c.period) c.nominal_of.ensures) ∙ to_z-of_z w32 _ (ppm-fits a.c.period (nominal_of a.rate)) in
-    clock-bits a.rate a.seg.now a.level (places a.points.now a.c.count) (take a.c.count (drop depths_at a.points.now)) a.c k.result c.greatest-end.result _ c.least-len.result _ c.median_depth.result a.bits.now _
-    c.if-n-lt-ENOUGH_POINTS.false k.ensures (sym c.is_lost.ensures ∙ c.if-is_lost.false) (c.greatest-end.ensures ∙ ap (max a.c.last) c.place_of.ensures.0) refl c.least-len.ensures
+    clock-bits a.rate a.seg.now a.level (places a.points.now a.c.count) (take a.c.count (drop depths_at a.points.now)) a.c k.result c.max-end.result _ c.min-len.result _ c.median_depth.result a.bits.now _
+    c.if-n-lt-ENOUGH_POINTS.false k.ensures (sym c.is_lost.ensures ∙ c.if-is_lost.false) (c.max-end.ensures ∙ ap (max a.c.last) c.place_of.ensures.0) refl c.min-len.ensures
     p c.median_depth.ensures c.requires.4 c.write_bits.ensures

@@ -1,10 +1,6 @@
 -- The invariant: the clock so far, over the dips left, ends as the whole does, and the places of its points stand in front.
-use Rattle.std.proofs.Common.{◌-◌, ◌≤◌}
 use Rattle.clock.proofs.FitLaws.{FitAt}
 use Rattle.clock.proofs.fit_clock.Given as goal
 
 abbrev pub invariant-loop-i : goal.invariant-loop-i
-invariant-loop-i l = (l.i ≤ l.n) × FitAt l.initial.clock l.n l.initial.dips l.dips l.clock l.i
-
-abbrev pub decreases-loop-i : goal.decreases-loop-i
-decreases-loop-i l = l.n - l.i
+invariant-loop-i l = FitAt l.initial.clock l.n l.initial.dips l.dips l.clock l.i

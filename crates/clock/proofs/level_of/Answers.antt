@@ -7,12 +7,12 @@ use Rattle.rates.proofs.Quantiles.{nine-tenths_is}
 use Rattle.bursts.specs.Levels.{quantile}
 use Rattle.clock.proofs.level_of.Goals as goal
 
-pub select32-requires : goal.select32-requires
-select32-requires c =
+pub select-requires : goal.select-requires
+select-requires c =
     (omega arith, numbers c.args.seg.now c.requires.2)
 
 pub returns : goal.returns
 unfolding quantile nine_tenths_of
 returns c =
     let l = c.args.seg.now in
-    c.select32.ensures ∙ ap (kth binary32 l) (sym (nine-tenths_is (length l) (omega (arith, c.requires.1))))
+    c.select.ensures ∙ ap (kth binary32 l) (sym (nine-tenths_is (length l) (omega (arith, c.requires.1))))

@@ -8,8 +8,8 @@ use Rattle.clock.proofs.median_depth.Goals as goal
 part : (l : List Float) (n : ℕ) → take (depths_at + n - depths_at) (drop depths_at l) ≡ take n (drop depths_at l)
 part l n = let e : depths_at + n - depths_at ≡ n = omega arith in rw e
 
-pub select64-requires : goal.select64-requires
-select64-requires c =
+pub select-requires : goal.select-requires
+select-requires c =
     let n = c.args.n in
     let l = c.args.points.now in
     let e : length (take n (drop depths_at l)) ≡ n = length-take-le n (drop depths_at l) (omega (arith, c.requires.1, c.requires.2, length-drop depths_at l)) in
@@ -17,4 +17,4 @@ select64-requires c =
 
 pub returns : goal.returns
 returns c =
-    c.select64.ensures ∙ ap (λ (d : List Float). kth binary64 d (c.args.n / 2)) (part c.args.points.now c.args.n)
+    c.select.ensures ∙ ap (λ (d : List Float). kth binary64 d (c.args.n / 2)) (part c.args.points.now c.args.n)

@@ -1,11 +1,7 @@
 -- The invariant: the bits that stand, and those still to walk, are all of them.
-use Rattle.std.proofs.Common.{◌-◌}
 use Rattle.clock.specs.Walk.{places}
 use Rattle.clock.proofs.WalkLaws.{WriteAt}
 use Rattle.clock.proofs.write_bits.Given as goal
 
 abbrev pub invariant-loop-j : goal.invariant-loop-j
 invariant-loop-j l = WriteAt (places l.points l.n) l.first l.len l.initial.bits l.p l.j l.bits
-
-abbrev pub decreases-loop-j : goal.decreases-loop-j
-decreases-loop-j l = l.len - l.j

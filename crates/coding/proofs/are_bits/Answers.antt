@@ -4,15 +4,15 @@ use Rattle.coding.specs.Bits.{are_bits}
 use Rattle.coding.proofs.BitLaws.{bits-turn, bits_end}
 use Rattle.coding.proofs.are_bits.Goals as goal
 
-pub loop-i-init : goal.loop-i-init
-loop-i-init c = (omega arith, refl)
+pub loop-b-init : goal.loop-b-init
+loop-b-init c = refl
 
-pub loop-i-preserved : goal.loop-i-preserved
-loop-i-preserved c =
+pub loop-b-preserved : goal.loop-b-preserved
+loop-b-preserved c =
     let bits = c.args.bits.now in
-    (omega arith, bits-turn c.loop-i.ok bits c.loop-i.i (are_bits bits) (omega arith) c.loop-i.invariant.1)
+    bits-turn c.loop-b.ok bits c.loop-b.b-index (are_bits bits) (omega arith) c.loop-b.invariant
 
 pub returns : goal.returns
 returns c =
     let bits = c.args.bits.now in
-    bits_end c.loop-i.ok bits c.loop-i.i (are_bits bits) (omega arith) c.loop-i.invariant.1
+    bits_end c.loop-b.ok bits c.loop-b.b-index (are_bits bits) (omega arith) c.loop-b.invariant

@@ -10,10 +10,10 @@ use Rattle.coding.proofs.code_from.Goals as goal
 
 pub loop-i-init : goal.loop-i-init
 unfolding whole ends
-loop-i-init c = (omega arith, refl, omega arith, omega arith, refl, refl)
+loop-i-init c = (refl, omega arith, omega arith, refl, refl)
 
 pub coded_bit-a-requires : goal.coded_bit-a-requires
-coded_bit-a-requires c = (bit_at c.args.bits.now c.loop-i.i c.requires.0, c.loop-i.invariant.2, c.loop-i.invariant.3)
+coded_bit-a-requires c = (bit_at c.args.bits.now c.loop-i.i c.requires.0, c.loop-i.invariant.1, c.loop-i.invariant.2)
 
 pub loop-i-preserved : goal.loop-i-preserved
 loop-i-preserved c = let a = c.args in
@@ -21,26 +21,25 @@ loop-i-preserved c = let a = c.args in
     let x = c.coded_bit-a.result in
     let s = plus (odd b) (tap a.rank (state_of c.loop-i.p c.loop-i.q)) in
     let y : x < 2 = omega (arith, bit-lt s, c.coded_bit-a.ensures) in (
-      omega arith,
-      length-set c.loop-i.out c.loop-i.i x ∙ c.loop-i.invariant.1,
-      either_lt a.undo x b c.either-p.result c.either-p.ensures y (bit_at a.bits.now c.loop-i.i c.requires.0),
-      c.loop-i.invariant.2,
-      sym (whole-step a.undo a.rank a.bits.now c.loop-i.out c.loop-i.p c.loop-i.q c.loop-i.i x c.either-p.result (omega arith) (omega arith)
-          c.coded_bit-a.ensures c.either-p.ensures)
+      length-set c.loop-i.out c.loop-i.i x ∙ c.loop-i.invariant.0,
+      either_lt a.undo x b c.pick-p.result c.pick-p.ensures y (bit_at a.bits.now c.loop-i.i c.requires.0),
+      c.loop-i.invariant.1,
+      sym (whole-step a.undo a.rank a.bits.now c.loop-i.out c.loop-i.p c.loop-i.q c.loop-i.i x c.pick-p.result (omega arith) (omega arith)
+          c.coded_bit-a.ensures c.pick-p.ensures)
+          ∙ c.loop-i.invariant.3,
+      sym (ends_step a.undo a.rank a.bits.now c.loop-i.p c.loop-i.q c.loop-i.i x c.pick-p.result (omega arith) c.coded_bit-a.ensures c.pick-p.ensures)
           ∙ c.loop-i.invariant.4,
-      sym (ends_step a.undo a.rank a.bits.now c.loop-i.p c.loop-i.q c.loop-i.i x c.either-p.result (omega arith) c.coded_bit-a.ensures c.either-p.ensures)
-          ∙ c.loop-i.invariant.5,
     )
 
 pub overflow_mul-result : goal.overflow_mul-result
-overflow_mul-result c = omega (arith, c.loop-i.invariant.2)
+overflow_mul-result c = omega (arith, c.loop-i.invariant.1)
 
 pub overflow_add-result : goal.overflow_add-result
-overflow_add-result c = omega (arith, c.loop-i.invariant.2, c.loop-i.invariant.3)
+overflow_add-result c = omega (arith, c.loop-i.invariant.1, c.loop-i.invariant.2)
 
 pub returns : goal.returns
 returns c = let a = c.args in (
-  sym (whole_end a.undo a.rank a.bits.now c.loop-i.out c.loop-i.p c.loop-i.q c.loop-i.i (omega arith) (omega arith)) ∙ c.loop-i.invariant.4,
-  ends_end a.undo a.rank a.bits.now c.loop-i.p c.loop-i.q c.loop-i.i (omega arith) c.loop-i.invariant.2 c.loop-i.invariant.3 ∙ c.loop-i.invariant.5,
-  omega (arith, c.loop-i.invariant.2, c.loop-i.invariant.3),
+  sym (whole_end a.undo a.rank a.bits.now c.loop-i.out c.loop-i.p c.loop-i.q c.loop-i.i (omega arith) (omega arith)) ∙ c.loop-i.invariant.3,
+  ends_end a.undo a.rank a.bits.now c.loop-i.p c.loop-i.q c.loop-i.i (omega arith) c.loop-i.invariant.1 c.loop-i.invariant.2 ∙ c.loop-i.invariant.4,
+  omega (arith, c.loop-i.invariant.1, c.loop-i.invariant.2),
 )

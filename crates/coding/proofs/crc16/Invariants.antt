@@ -1,12 +1,8 @@
 use mathlib.Core.Path.{◌≡◌}
-use Prim.Native.Nat.{◌-◌, ◌≤◌}
-use lib.ListN.{length, take}
+use lib.ListN.{take}
 use Rattle.coding.specs.Bits.{bytes_bits}
 use Rattle.coding.specs.Register.{run}
 use Rattle.coding.proofs.crc16.Given as goal
 
-abbrev pub invariant-loop-i : goal.invariant-loop-i
-invariant-loop-i l = (l.i ≤ length l.data) × (l.c ≡ run 0 (bytes_bits (take l.i l.data)))
-
-abbrev pub decreases-loop-i : goal.decreases-loop-i
-decreases-loop-i l = length l.data - l.i
+abbrev pub invariant-loop-b : goal.invariant-loop-b
+invariant-loop-b l = l.c ≡ run 0 (bytes_bits (take l.b-index l.data))

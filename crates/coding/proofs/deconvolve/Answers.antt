@@ -1,37 +1,36 @@
 use mathlib.Core.Path.{sym, ◌∙◌}
 use mathlib.Core.List.{◌++◌, map}
 use lib.ListN.{length, drop}
-use Rattle.limits.proofs.AnswerLaws.{refused-answer, refused-lent, done-answer, done-lent}
+use Rattle.limits.specs.Answer.{said_by, cause_of}
+use Rattle.limits.proofs.AnswerLaws.{said_at_exit, lent_at_refusal, accepted_answer, accepted_lent}
 use Rattle.coding.specs.Bits.{odd, bit_of}
 use Rattle.coding.specs.Convolution.{fresh, deconvolved}
-use Rattle.coding.specs.Answers.{said, coding_cause, coding_answer, deconvolve_out}
+use Rattle.coding.specs.Answers.{coding_cause, coding_answer, deconvolve_out}
 use Rattle.coding.proofs.Causes.{none}
 use Rattle.coding.proofs.deconvolve.Goals as goal
 
-pub returns-then-cause-ne0 : goal.returns-then-cause-ne0
-unfolding said coding_answer deconvolve_out
-returns-then-cause-ne0 c = let a = c.args in
+pub returns-in_err-check : goal.returns-in_err-check
+unfolding said_by cause_of coding_answer deconvolve_out
+returns-in_err-check c = let a = c.args in
     let b = a.bits.now in
     let o = a.out.now in
-    let r = c.coding_cause-cause in
     let k = coding_cause b a.rank (length o) in (
-      refused-answer r.result k r.ensures (length b) c.if-cause-ne0.true,
-      refused-lent r.result k r.ensures (map bit_of (deconvolved a.rank fresh (map odd b)) ++ drop (length b) o) o c.if-cause-ne0.true,
+      said_at_exit c.from_residual.result c.in_err-check.field-0.0 k (λ v. v) c.from_residual.ensures.1 c.in_err-check.ensures (length b),
+      lent_at_refusal c.in_err-check.field-0.0 k c.in_err-check.ensures (map bit_of (deconvolved a.rank fresh (map odd b)) ++ drop (length b) o) o,
     )
 
 pub code_into-requires : goal.code_into-requires
+unfolding cause_of
 code_into-requires c = let a = c.args in
-    let n = none a.bits.now a.rank (length a.out.now) (sym c.coding_cause-cause.ensures ∙ c.if-cause-ne0.false) in
+    let n = none a.bits.now a.rank (length a.out.now) (sym c.in_ok-check.ensures) in
     (n.all, n.fits)
 
 pub returns : goal.returns
-unfolding said coding_answer deconvolve_out
+unfolding said_by cause_of coding_answer deconvolve_out
 returns c = let a = c.args in
     let b = a.bits.now in
     let o = a.out.now in
-    let r = c.coding_cause-cause in
     let k = coding_cause b a.rank (length o) in (
-      done-answer r.result k r.ensures (length b) c.if-cause-ne0.false,
-      c.code_into.ensures
-          ∙ done-lent r.result k r.ensures (map bit_of (deconvolved a.rank fresh (map odd b)) ++ drop (length b) o) o c.if-cause-ne0.false,
+      accepted_answer k c.in_ok-check.ensures (length b),
+      c.code_into.ensures ∙ accepted_lent k c.in_ok-check.ensures (map bit_of (deconvolved a.rank fresh (map odd b)) ++ drop (length b) o) o,
     )

@@ -1,17 +1,12 @@
-use Rattle.demod.proofs.CaptureLaws.{adds_none, adds-nothing, adds_one}
+use Rattle.demod.proofs.CaptureLaws.{adds_none, adds_one}
 use Rattle.demod.proofs.capture_burst.Goals as goal
 
-pub returns-in-Refused : goal.returns-in-Refused
-returns-in-Refused c =
+pub returns-in-None : goal.returns-in-None
+returns-in-None c =
     let a = c.args in
-    adds_none a.dbm.now a.rate a.t0 a.burst c.decode_within-x.result c.decode_within-x.ensures a.n a.events.now _ c.in-Refused.is
+    adds_none a.samples.dbm.now a.samples.rate a.t0 a.burst a.n a.events.now c.in-None.ensures
 
-pub returns-in-Nothing : goal.returns-in-Nothing
-returns-in-Nothing c =
+pub returns-in-Some : goal.returns-in-Some
+returns-in-Some c =
     let a = c.args in
-    adds-nothing a.dbm.now a.rate a.t0 a.burst c.decode_within-x.result c.decode_within-x.ensures a.n a.events.now c.in-Nothing.is
-
-pub returns-in-Frame : goal.returns-in-Frame
-returns-in-Frame c =
-    let a = c.args in
-    adds_one a.dbm.now a.rate a.t0 a.burst c.decode_within-x.result c.decode_within-x.ensures a.n a.events.now _ c.in-Frame.is c.put_decoded.ensures
+    adds_one a.samples.dbm.now a.samples.rate a.t0 a.burst a.n a.events.now c.in-Some.d _ c.in-Some.ensures c.put_decoded.ensures

@@ -1,30 +1,25 @@
-use mathlib.Core.Path.{sym, ap, ◌∙◌}
-use Rattle.clock.specs.Bits.{said}
-use Rattle.demod.proofs.FrameLaws.{never-refused, told_nothing, sent_length, sent_short, sent_bits, heard-frame}
+use Rattle.demod.proofs.FrameLaws.{told_nothing, sent_length, sent_short, sent_bits, heard-frame}
 use Rattle.demod.proofs.decode_segment.Goals as goal
 
 pub slice_bounds-decode_bits-end : goal.slice_bounds-decode_bits-end
 slice_bounds-decode_bits-end c =
     let a = c.args in
-    sent_length a.seg.now a.rate _ _ _ _ _ _ (sym (ap said c.in-Bits.is) ∙ c.bits_of.ensures.0) _ c.bits_of.new.bits c.bits_of.ensures.1 c.least-len.result c.least-len.ensures
+    sent_length a.seg.dbm.now a.seg.rate c.in_ok-b.b c.in_ok-b.ensures.0 _ c.bits_of.new.bits c.in_ok-b.ensures.1 c.min-len.result c.min-len.ensures
 
 pub decode_bits-requires : goal.decode_bits-requires
 decode_bits-requires c =
-    let a = c.args in
-    (sent_bits a.seg.now a.rate _ _ _ _ _ _ (sym (ap said c.in-Bits.is) ∙ c.bits_of.ensures.0) _ c.bits_of.new.bits c.bits_of.ensures.1 c.least-len.result c.least-len.ensures, sent_short a.seg.now a.rate _ _ _ _ _ _ (sym (ap said c.in-Bits.is) ∙ c.bits_of.ensures.0) _ c.bits_of.new.bits c.bits_of.ensures.1 c.least-len.result c.least-len.ensures)
+    let a = c.args in (
+      sent_bits a.seg.dbm.now a.seg.rate c.in_ok-b.b c.in_ok-b.ensures.0 _ c.bits_of.new.bits c.in_ok-b.ensures.1 c.min-len.result c.min-len.ensures,
+      sent_short a.seg.dbm.now a.seg.rate c.in_ok-b.b c.in_ok-b.ensures.0 _ c.bits_of.new.bits c.in_ok-b.ensures.1 c.min-len.result c.min-len.ensures,
+    )
 
-pub returns-in-Refused : goal.returns-in-Refused
-returns-in-Refused c =
+pub returns-in_err-b : goal.returns-in_err-b
+returns-in_err-b c =
     let a = c.args in
-    c.no_frame.ensures ∙ never-refused _ _ a.time a.end a.rssi (sym (ap said c.in-Refused.is) ∙ c.bits_of.ensures.0)
+    rw c.from_residual.ensures (told_nothing _ a.time a.end a.rssi c.in_err-b.ensures.0)
 
-pub returns-in-Nothing : goal.returns-in-Nothing
-returns-in-Nothing c =
+pub returns : goal.returns
+returns c =
     let a = c.args in
-    c.no_frame-in-Nothing.ensures ∙ told_nothing _ a.time a.end a.rssi (sym (ap said c.in-Nothing.is) ∙ c.bits_of.ensures.0)
-
-pub returns-in-Bits : goal.returns-in-Bits
-returns-in-Bits c =
-    let a = c.args in
-    heard-frame a.seg.now a.rate _ _ _ _ _ _ (sym (ap said c.in-Bits.is) ∙ c.bits_of.ensures.0) _ c.bits_of.new.bits c.bits_of.ensures.1 c.least-len.result c.least-len.ensures
+    heard-frame a.seg.dbm.now a.seg.rate c.in_ok-b.b c.in_ok-b.ensures.0 _ c.bits_of.new.bits c.in_ok-b.ensures.1 c.min-len.result c.min-len.ensures
     a.time a.end a.rssi c.depth_byte.result c.decode_bits.result c.heard.result c.depth_byte.ensures c.decode_bits.ensures c.heard.ensures

@@ -8,4 +8,4 @@ returns c =
     let a = c.f32_to_f64_with_nan-a.ensures in
     let v = c.f32_to_f64_with_nan-v.ensures in
     let d = c.f32_to_f64_with_nan-c.ensures in
-    cc (c.pick64.ensures, c.count_as_f64.ensures, a, v, d, zero_is, two_is, half_is)
+    cc (c.pick.ensures, c.count_as_f64.ensures, a, v, d, zero_is, two_is, half_is)

@@ -1,4 +1,4 @@
-use Rattle.std.proofs.Common.{◌≡◌, ◌-◌, ◌<◌, map, sym, ◌∙◌, arith, lt-length-set}
+use Rattle.std.proofs.Common.{◌≡◌, ◌<◌, map, sym, ◌∙◌, arith, lt-length-set}
 use Rattle.dips.specs.Numbers.{most_dips}
 use Rattle.dips.specs.Dips.{depth_of, is_dip, dip_indices, dip_at, found_in}
 use Rattle.dips.proofs.DipLaws.{tested-deep, tested_other, dips_left, stored_start, stored-few, stored-dip, stored_other, stored_end}
@@ -11,69 +11,69 @@ loop-i-init c =
     let a = c.args in
     let win = c.side_window-win.result in
     let half = c.half_window-half.result in
-    let e : found_in a.seg.now a.rate a.level ≡ map (dip_at win a.seg.now) (dips_left a.level win half a.seg.now 1) =
+    let e : found_in a.samples.dbm.now a.samples.rate a.level ≡ map (dip_at win a.samples.dbm.now) (dips_left a.level win half a.samples.dbm.now 1) =
     rw (c.side_window-win.ensures.0, c.half_window-half.ensures.0) in
-    (omega arith, omega arith, omega arith, stored_start a.level win half a.seg.now c.requires.3 (found_in a.seg.now a.rate a.level) a.dips.now e)
+    (omega arith, omega arith, omega arith, stored_start a.level win half a.samples.dbm.now c.args.samples.valid (found_in a.samples.dbm.now a.samples.rate a.level) a.dips.now e)
 
 pub dip_depth-requires : goal.dip_depth-requires
 dip_depth-requires c =
     let h = c.half_window-half.ensures in
-    (c.loop-i.invariant.0, c.loop-i-test.true, omega (arith, c.requires.1, c.requires.2), omega (arith, c.side_window-win.ensures.1), omega (arith, h.2), h.1)
+    (c.loop-i.invariant.0, c.loop-i-test.true, omega (arith, c.args.samples.high, c.args.samples.short), omega (arith, c.side_window-win.ensures.1), omega (arith, h.2), h.1)
 
-pub overflow_add-i-in-Other : goal.overflow_add-i-in-Other
-overflow_add-i-in-Other c = omega (arith, c.loop-i.invariant.1)
+pub overflow_add-i-in-None : goal.overflow_add-i-in-None
+overflow_add-i-in-None c = omega (arith, c.loop-i.invariant.1)
 
-pub loop-i-smaller-in-Other : goal.loop-i-smaller-in-Other
-loop-i-smaller-in-Other c = omega (arith, c.loop-i-test.true)
+pub loop-i-smaller-in-None : goal.loop-i-smaller-in-None
+loop-i-smaller-in-None c = omega (arith, c.loop-i-test.true)
 
-pub loop-i-preserved-in-Other : goal.loop-i-preserved-in-Other
-loop-i-preserved-in-Other c =
+pub loop-i-preserved-in-None : goal.loop-i-preserved-in-None
+loop-i-preserved-in-None c =
     let a = c.args in
     let win = c.side_window-win.result in
     let half = c.half_window-half.result in
     let t = c.dip_depth in (
       omega (arith, c.loop-i.invariant.0),
-      omega (arith, c.requires.1, c.requires.2, c.loop-i-test.true),
+      omega (arith, c.args.samples.high, c.args.samples.short, c.loop-i-test.true),
       c.loop-i.invariant.2,
-      stored_other a.level win half a.seg.now c.requires.3 (found_in a.seg.now a.rate a.level) a.dips.now c.loop-i.n c.loop-i.i c.loop-i.dips c.loop-i.invariant.3 c.loop-i-test.true
-          (tested_other _ (depth_of win a.seg.now c.loop-i.i) (sym c.in-Other.is ∙ t.ensures)),
+      stored_other a.level win half a.samples.dbm.now c.args.samples.valid (found_in a.samples.dbm.now a.samples.rate a.level) a.dips.now c.loop-i.n c.loop-i.i c.loop-i.dips c.loop-i.invariant.3 c.loop-i-test.true
+          (tested_other _ (depth_of win a.samples.dbm.now c.loop-i.i) (sym c.in-None.is ∙ t.ensures)),
     )
 
 few : (c : After-dip_centre) → c.loop-i.n < most_dips
 few c =
     let a = c.args in
-    stored-few a.level c.side_window-win.result c.half_window-half.result a.seg.now c.requires.3 (found_in a.seg.now a.rate a.level) a.dips.now
-    c.loop-i.n c.loop-i.i c.loop-i.dips c.loop-i.invariant.3 a.rate c.half_window-half.ensures.3 c.requires.2 c.loop-i-test.true
+    stored-few a.level c.side_window-win.result c.half_window-half.result a.samples.dbm.now c.args.samples.valid (found_in a.samples.dbm.now a.samples.rate a.level) a.dips.now
+    c.loop-i.n c.loop-i.i c.loop-i.dips c.loop-i.invariant.3 a.samples.rate c.half_window-half.ensures.3 c.args.samples.short c.loop-i-test.true
 
 pub dip_centre-requires : goal.dip_centre-requires
 dip_centre-requires c =
-    (omega (arith, c.loop-i.invariant.0), c.loop-i-test.true, omega (arith, c.requires.1, c.requires.2))
+    (omega (arith, c.loop-i.invariant.0), c.loop-i-test.true, omega (arith, c.args.samples.high, c.args.samples.short))
 
 pub offset_bounds-dips-n : goal.offset_bounds-dips-n
 offset_bounds-dips-n c = omega (arith, few c)
 
 pub bounds-dips-n : goal.bounds-dips-n
 bounds-dips-n c =
-    omega (arith, few c, c.loop-i.invariant.3.size, c.requires.4)
+    omega (arith, few c, c.loop-i.invariant.3.size, c.requires)
 
 pub overflow_add-dips : goal.overflow_add-dips
 overflow_add-dips c = omega (arith, few c)
 
-pub offset_bounds-dips-n-in-Deep : goal.offset_bounds-dips-n-in-Deep
-offset_bounds-dips-n-in-Deep c = omega (arith, few c)
+pub offset_bounds-dips-n-in-Some : goal.offset_bounds-dips-n-in-Some
+offset_bounds-dips-n-in-Some c = omega (arith, few c)
 
-pub bounds-dips-n-in-Deep : goal.bounds-dips-n-in-Deep
-bounds-dips-n-in-Deep c =
-    lt-length-set c.loop-i.dips c.loop-i.n c.dip_centre.result (omega (arith, few c, c.loop-i.invariant.3.size, c.requires.4))
+pub bounds-dips-n-in-Some : goal.bounds-dips-n-in-Some
+bounds-dips-n-in-Some c =
+    lt-length-set c.loop-i.dips c.loop-i.n c.dip_centre.result (omega (arith, few c, c.loop-i.invariant.3.size, c.requires))
 
 pub overflow_add-n : goal.overflow_add-n
 overflow_add-n c = omega (arith, few c)
 
-pub overflow_add-i-in-Deep : goal.overflow_add-i-in-Deep
-overflow_add-i-in-Deep c = omega (arith, c.half_window-half.ensures.2)
+pub overflow_add-i-in-Some : goal.overflow_add-i-in-Some
+overflow_add-i-in-Some c = omega (arith, c.half_window-half.ensures.2)
 
-pub overflow_add-i-in-Deep-2 : goal.overflow_add-i-in-Deep-2
-overflow_add-i-in-Deep-2 c = omega (arith, c.half_window-half.ensures.2, c.loop-i.invariant.1)
+pub overflow_add-i-in-Some-2 : goal.overflow_add-i-in-Some-2
+overflow_add-i-in-Some-2 c = omega (arith, c.half_window-half.ensures.2, c.loop-i.invariant.1)
 
 pub loop-i-smaller : goal.loop-i-smaller
 loop-i-smaller c = omega (arith, c.loop-i-test.true)
@@ -83,18 +83,18 @@ loop-i-preserved c =
     let a = c.args in
     let win = c.side_window-win.result in
     let half = c.half_window-half.result in
-    let t = tested-deep (is_dip a.level win half a.seg.now c.loop-i.i) (depth_of win a.seg.now c.loop-i.i) _ (sym c.in-Deep.is ∙ c.dip_depth.ensures) in (
+    let t = tested-deep (is_dip a.level win half a.samples.dbm.now c.loop-i.i) (depth_of win a.samples.dbm.now c.loop-i.i) _ (sym c.in-Some.is ∙ c.dip_depth.ensures) in (
       omega (arith, c.loop-i.invariant.0),
-      omega (arith, c.requires.1, c.requires.2, c.loop-i-test.true, c.half_window-half.ensures.2),
+      omega (arith, c.args.samples.high, c.args.samples.short, c.loop-i-test.true, c.half_window-half.ensures.2),
       omega (arith, few c),
-      stored-dip a.level win half a.seg.now c.requires.3 (found_in a.seg.now a.rate a.level) a.dips.now c.loop-i.n c.loop-i.i c.loop-i.dips c.loop-i.invariant.3
-          c.dip_centre.result c.in-Deep.depth (omega (arith, few c)) (omega (arith, few c, c.loop-i.invariant.3.size, c.requires.4)) c.loop-i-test.true t.0 c.dip_centre.ensures t.1,
+      stored-dip a.level win half a.samples.dbm.now c.args.samples.valid (found_in a.samples.dbm.now a.samples.rate a.level) a.dips.now c.loop-i.n c.loop-i.i c.loop-i.dips c.loop-i.invariant.3
+          c.dip_centre.result c.in-Some.depth (omega (arith, few c)) (omega (arith, few c, c.loop-i.invariant.3.size, c.requires)) c.loop-i-test.true t.0 c.dip_centre.ensures t.1,
     )
 
 pub returns : goal.returns
 returns c =
     let a = c.args in (
-      stored_end a.level c.side_window-win.result c.half_window-half.result a.seg.now c.requires.3 (found_in a.seg.now a.rate a.level) a.dips.now c.loop-i.n c.loop-i.i c.loop-i.dips
+      stored_end a.level c.side_window-win.result c.half_window-half.result a.samples.dbm.now c.args.samples.valid (found_in a.samples.dbm.now a.samples.rate a.level) a.dips.now c.loop-i.n c.loop-i.i c.loop-i.dips
           c.loop-i.invariant.3 (omega (arith, c.loop-i-test.false)),
       c.loop-i.invariant.2,
     )

@@ -1,22 +1,16 @@
-use Rattle.std.proofs.Common.{◌-◌, refl, ap, ◌∙◌, arith}
+use Rattle.std.proofs.Common.{◌≡◌, ◌+◌, ◌-◌, take, drop, ap, sym, ◌∙◌, arith}
+use Rattle.std.proofs.lemmas.List.{drop-take}
 use lib.Seq.{slice}
 use lib.Ieee.{Float}
 use Rattle.floats.specs.Fold.{max_from}
+use Rattle.dips.specs.Numbers.{lowest_side}
 use Rattle.dips.proofs.Constants.{lowest-side_is}
-use Rattle.dips.proofs.DipLaws.{side-turn, side_end}
 use Rattle.dips.proofs.side_level.Goals as goal
-
-pub loop-k-init : goal.loop-k-init
-loop-k-init c = (omega arith, refl)
-
-pub loop-k-preserved : goal.loop-k-preserved
-loop-k-preserved c =
-    let a = c.args in (
-      omega arith,
-      side-turn c.loop-k.m c.max32-m.result a.seg.now c.loop-k.k a.to _ c.loop-k-test.true c.requires.2 c.max32-m.ensures c.loop-k.invariant.1,
-    )
 
 pub returns : goal.returns
 returns c =
     let a = c.args in
-    side_end c.loop-k.m a.seg.now c.loop-k.k a.to _ (omega arith) (c.loop-k.invariant.1 ∙ ap (λ (v : Float). max_from v (slice a.from a.to a.seg.now)) lowest-side_is)
+    let s = a.seg.now in
+    let n : a.from + (a.to - a.from) ≡ a.to = omega arith in
+    let e : take (a.to - a.from) (drop a.from s) ≡ slice a.from a.to s = rw n at (sym (drop-take a.from (a.to - a.from) s)) in
+    c.highest32.ensures ∙ ap (λ (v : Float). max_from v (take (a.to - a.from) (drop a.from s))) lowest-side_is ∙ ap (max_from lowest_side) e

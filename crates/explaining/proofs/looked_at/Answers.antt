@@ -6,9 +6,9 @@ use Rattle.explaining.proofs.looked_at.Goals as goal
 pub returns : goal.returns
 unfolding segment_of from_of to_of
 returns c =
-    let g = c.greatest-to.ensures in
-    let l = c.least.ensures in
-    let f = c.least-from.ensures in
+    let g = c.max-to.ensures in
+    let l = c.min.ensures in
+    let f = c.min-from.ensures in
     let b = c.back.ensures in
     let m = c.margin-pad.ensures.0 in
     (cc (g, l, f, b, m), omega (arith, g), omega (arith, g, l, f))

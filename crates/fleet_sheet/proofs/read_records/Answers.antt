@@ -1,86 +1,117 @@
-use Rattle.std.proofs.Common.{◌≡◌, ◌+◌, ◌-◌, ◌*◌, ◌%◌, ◌<◌, ◌≤◌, ◌&&◌, eqb, [], length, take, drop, sym, refl, ap, ◌∙◌, subst, arith, rules}
-use Rattle.limits.proofs.Samples.{and_assoc}
-use Rattle.event_list.specs.Events.{events_of, record_ok, all_ok, list_ok, wholes}
-use Rattle.event_list.proofs.EventLaws.{length-records, event_part, ok_turn, ok_end}
+use Rattle.std.proofs.Common.{rules, ◌≡◌, ℕ, ◌+◌, ◌<◌, List, [], ◌∷◌, ◌++◌, map, length, sym, refl, ap, ◌∙◌, subst, append_assoc, append-nil, arith, length-append}
+use mathlib.Core.List.{map-append}
+use Rattle.std.specs.Slice.Iter.{chunks_exact_rest}
+use Rattle.limits.specs.Limits.{record_size}
+use Rattle.event_list.specs.Events.{events_of, list_ok, wholes}
+use Rattle.event_list.proofs.EventLaws.{length-records, event_next, event_end, ok_next, ok_last}
 use Rattle.fleet_sheet.specs.Table.{Rising, Gathered}
 use Rattle.fleet_sheet.proofs.DeviceLaws.{rising-devices}
 use Rattle.fleet_sheet.proofs.StandLaws.{small-rows}
-use Rattle.fleet_sheet.proofs.SheetLaws.{read_to, read_none, read_all, read_few, read_next, read_over}
+use Rattle.fleet_sheet.proofs.SheetLaws.{read_to, read_none, read_few, read_next, read_over}
 use Rattle.fleet_sheet.proofs.read_records.Goals as goal
 
-pub loop-i-init : goal.loop-i-init
-loop-i-init c =
-    let a = c.args in
-    let x = a.«records».now in
-    let es = events_of x in (
-      search rules,
-      c.requires.1,
-      and_assoc a.t.ok (eqb (length x % 120) 0) (all_ok es),
-      λ ms g. subst (Gathered a.ids.now a.sums.now a.t.devices) (read_none ms es) g,
-      refl,
-      refl,
-    )
+-- what was read at the end
+all_done : (x left : List ℕ) (done : List (List ℕ)) → length left < record_size → done ++ events_of left ≡ events_of x → done ≡ events_of x
+all_done x left done h e = sym (append-nil done) ∙ ap (λ (es : List (List ℕ)). done ++ es) (sym (event_end left h)) ∙ e
 
-pub loop-i-preserved-then-n-gt-MOST_DEVICES : goal.loop-i-preserved-then-n-gt-MOST_DEVICES
-loop-i-preserved-then-n-gt-MOST_DEVICES c =
+pub loop-r-init : goal.loop-r-init
+loop-r-init c =
     let a = c.args in
-    let l = c.loop-i in
-    let x = a.«records».now in
-    let es = events_of x in
-    let h : l.i < wholes x = omega (arith, c.loop-i-test) in
-    let b : l.i < length es = omega (arith, length-records (wholes x) x) in (
-      omega arith,
-      l.invariant.1,
-      ok_turn l.ok es l.i c.record_ok-here.result (a.t.ok && list_ok x) b (c.record_ok-here.ensures ∙ ap record_ok (event_part x l.i h)) l.invariant.2,
-      λ ms g. read_over ms es l.i b l.ids l.sums l.n c.if-n-gt-MOST_DEVICES.true (l.invariant.3 ms g),
-      l.invariant.4,
-      l.invariant.5,
-    )
+    let e = c.into_iter-r-iterator.ensures.into_iter_gives in
+    let x = c.chunks_exact-r-items.ensures in
+    rw (e, x.rest, x.size)
+    (record { size = refl; split = refl; tested = refl; hints = c.requires.1; ids = refl; sums = refl; gathered = λ ms g. subst (Gathered a.ids.now a.sums.now a.t.devices) (read_none ms) g })
 
 pub taken-n-requires : goal.taken-n-requires
 taken-n-requires c =
     let a = c.args in
-    let l = c.loop-i in
+    let l = c.loop-r in
+    let v = l.invariant in
     let x = a.«records».now in
-    let es = events_of x in
-    let h : l.i < wholes x = omega (arith, c.loop-i-test) in
-    let b : l.i < length es = omega (arith, length-records (wholes x) x) in
+    let s = c.in-Some.ensures.steps in
+    let whole = s.1.1 ∙ v.size in
+    let u = c.if-n-le-MOST_DEVICES.true in
     let ms = c.requires.2.messages in
-    let u : l.n ≤ 256 = omega (arith, c.if-n-gt-MOST_DEVICES.false) in
-    let st = (l.invariant.3 ms c.requires.2.held.gathered).under u in
-    let small = small-rows l.ids l.sums l.n (read_to ms es l.i) st [] (omega (arith, read_few ms es l.i a.t.«records» c.requires.2.held.few (omega arith), c.requires.0)) in
-    (search rules, st.places, st.long, u, subst Rising (sym st.named) (rising-devices (read_to ms es l.i)), small, l.invariant.1)
+    let done = map (λ r. r.now) l.yielded in
+    let st = (v.gathered ms c.requires.2.held.gathered).under u in
+    let n = ap length v.split in
+    let few = read_few ms done a.t.«records» c.requires.2.held.few in
+    let small = small-rows l.ids l.sums l.n (read_to ms done) st [] (omega (arith, few, n, length-append done (events_of (chunks_exact_rest l.r-iterator)), length-records (wholes x) x, c.requires.0)) in
+    (omega arith, st.places, st.long, u, subst Rising (sym st.named) (rising-devices (read_to ms done)), small, v.hints)
 
-pub loop-i-preserved : goal.loop-i-preserved
-loop-i-preserved c =
+pub loop-r-preserved-then-n-le-MOST_DEVICES : goal.loop-r-preserved-then-n-le-MOST_DEVICES
+loop-r-preserved-then-n-le-MOST_DEVICES c =
+    let l = c.loop-r in
+    let v = l.invariant in
+    let s = c.in-Some.ensures.steps in
+    let whole = s.1.1 ∙ v.size in
+    let r = c.in-Some.r.now in
+    let w = c.taken-n in
+    let done = map (λ r. r.now) l.yielded in
+    let more = map-append (λ r. r.now) l.yielded (c.in-Some.r ∷ []) in
+    rw more (record {
+      size = s.0 ∙ v.size;
+      split = append_assoc done (r ∷ []) _ ∙ ap (λ es. done ++ es) (sym (event_next _ _ _ s.1.0 whole)) ∙ v.split;
+      tested = ok_next _ _ _ s.1.0 whole l.ok _ _ c.record_ok-ok.ensures v.tested;
+      hints = w.ensures.3;
+      ids = search rules;
+      sums = search rules;
+      gathered = λ ms g. read_next ms done r l.ids l.sums l.n c.if-n-le-MOST_DEVICES.true (v.gathered ms g) w.result w.new.ids w.new.table (w.ensures.0, w.ensures.1, w.ensures.2);
+    })
+
+pub loop-r-preserved : goal.loop-r-preserved
+loop-r-preserved c =
+    let l = c.loop-r in
+    let v = l.invariant in
+    let s = c.in-Some.ensures.steps in
+    let whole = s.1.1 ∙ v.size in
+    let r = c.in-Some.r.now in
+    let done = map (λ r. r.now) l.yielded in
+    let more = map-append (λ r. r.now) l.yielded (c.in-Some.r ∷ []) in
+    rw more (record {
+      size = s.0 ∙ v.size;
+      split = append_assoc done (r ∷ []) _ ∙ ap (λ es. done ++ es) (sym (event_next _ _ _ s.1.0 whole)) ∙ v.split;
+      tested = ok_next _ _ _ s.1.0 whole l.ok _ _ c.record_ok-ok.ensures v.tested;
+      hints = v.hints;
+      ids = v.ids;
+      sums = v.sums;
+      gathered = λ ms g. read_over ms done r l.ids l.sums l.n c.if-n-le-MOST_DEVICES.false (v.gathered ms g);
+    })
+
+pub returns-then-not-ok : goal.returns-then-not-ok
+returns-then-not-ok c =
     let a = c.args in
-    let l = c.loop-i in
-    let x = a.«records».now in
-    let es = events_of x in
-    let h : l.i < wholes x = omega (arith, c.loop-i-test) in
-    let b : l.i < length es = omega (arith, length-records (wholes x) x) in
-    let w = c.taken-n in (
-      omega arith,
-      w.ensures.3,
-      ok_turn l.ok es l.i c.record_ok-here.result (a.t.ok && list_ok x) b (c.record_ok-here.ensures ∙ ap record_ok (event_part x l.i h)) l.invariant.2,
-      λ ms g. read_next ms es l.i b l.ids l.sums l.n (omega (arith, c.if-n-gt-MOST_DEVICES.false)) (l.invariant.3 ms g)
-          (take (120 * l.i + 120 - 120 * l.i) (drop (120 * l.i) x)) (event_part x l.i h) w.result w.new.ids w.new.table (w.ensures.0, w.ensures.1, w.ensures.2),
-      search rules,
-      search rules,
+    let l = c.loop-r in
+    let h : length (chunks_exact_rest l.r-iterator) < record_size = omega (arith, c.in-None.ensures.steps.1.0, l.invariant.size) in
+    let e : list_ok a.«records».now ≡ l.ok = sym (ok_last _ h l.ok _ l.invariant.tested) in
+    let all = all_done a.«records».now _ _ h l.invariant.split in (
+      l.invariant.hints,
+      record {
+        read = record { «records» = a.t.«records» + wholes a.«records».now; devices = l.n };
+        answered = rw (e, c.if-not-ok.true) refl;
+        counted = refl;
+        adds = λ ms g. record {
+          gathered = rw (← all) (l.invariant.gathered ms g.gathered);
+          few = omega (arith, g.few, read_few ms (events_of a.«records».now) a.t.«records» g.few, length-records (wholes a.«records».now) a.«records».now);
+        };
+      },
     )
 
 pub returns : goal.returns
 returns c =
     let a = c.args in
-    let l = c.loop-i in
-    let x = a.«records».now in
-    let es = events_of x in
-    let e : l.i ≡ length es = omega (arith, length-records (wholes x) x) in (
-      refl,
-      ok_end l.ok es l.i (a.t.ok && list_ok x) e l.invariant.2,
-      l.invariant.1,
-      λ ms g. record {
-        gathered = subst (Gathered l.ids l.sums l.n) (read_all ms es l.i e) (l.invariant.3 ms g.gathered);
-        few = omega (arith, g.few, read_few ms es l.i a.t.«records» g.few (omega arith), ap length (read_all ms es l.i e));
+    let l = c.loop-r in
+    let h : length (chunks_exact_rest l.r-iterator) < record_size = omega (arith, c.in-None.ensures.steps.1.0, l.invariant.size) in
+    let e : list_ok a.«records».now ≡ l.ok = sym (ok_last _ h l.ok _ l.invariant.tested) in
+    let all = all_done a.«records».now _ _ h l.invariant.split in (
+      l.invariant.hints,
+      record {
+        read = record { «records» = a.t.«records» + wholes a.«records».now; devices = l.n };
+        answered = rw (e, c.if-not-ok.false) refl;
+        counted = refl;
+        adds = λ ms g. record {
+          gathered = rw (← all) (l.invariant.gathered ms g.gathered);
+          few = omega (arith, g.few, read_few ms (events_of a.«records».now) a.t.«records» g.few, length-records (wholes a.«records».now) a.«records».now);
+        };
       },
     )

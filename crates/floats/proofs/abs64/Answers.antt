@@ -1,24 +1,14 @@
-use Rattle.std.proofs.Common.{Bool, not, T, sym, subst}
-use lib.Ieee.{binary64, fits}
-use Rattle.floats.proofs.Fields.{magnitude_is, magnitude-nan, magnitude_nan_bits}
-use Rattle.floats.proofs.Floors.{no_nan}
-use Rattle.floats.proofs.abs64.Goals.{Start}
+use Rattle.std.proofs.Common.{◌≡◌, false, refl, ◌∙◌}
+use lib.Ieee.{Float, nan, inf, fin}
+use Rattle.std.specs.Float.{float_with_sign}
+use Rattle.floats.specs.Trig.{magnitude}
 use Rattle.floats.proofs.abs64.Goals as goal
 
--- what owning an `f64` tells: the format holds it
-held : (c : Start) → T (fits binary64 c.args.x)
-held c = subst T (sym c.well_formed.0.1) tt
-
-pub returns-then-x : goal.returns-then-x
-returns-then-x c = magnitude-nan c.args.x c.if-x.true
-
-pub float_to_bits-result : goal.float_to_bits-result
-float_to_bits-result c = no_nan c.args.x c.if-x.false
-
-pub float_from_bits-result : goal.float_from_bits-result
-float_from_bits-result c =
-    let x = c.args.x in
-    subst (λ (b : Bool). T (not b)) (sym (magnitude_nan_bits x (held (goal.at.float_from_bits-result c).Start))) (no_nan x c.if-x.false)
+magnitude_is : (x : Float) → float_with_sign false x ≡ magnitude x
+unfolding float_with_sign magnitude
+magnitude_is nan = refl
+magnitude_is (inf s) = refl
+magnitude_is (fin s m e) = refl
 
 pub returns : goal.returns
-returns c = magnitude_is c.args.x (held (goal.at.returns c).Start)
+returns c = c.abs.ensures.value ∙ magnitude_is c.args.x

@@ -18,4 +18,4 @@ unfolding arctangent
 returns c =
     let a = c.args in
     let e : eq a.s (num 0) && eq a.c (num 0) ≡ false = elim c.if-s.branch [ then-s+else-c w ↦ both_right a.s a.c w.if-c.false | else-s w ↦ both_no a.s a.c w.if-s.false ] in
-    rw e (cc (zero_is, two_is, pi_is, c.pick64-2.ensures, c.pick64-z.ensures, c.pick64-y.ensures, c.atan64-x.ensures, c.pick64.ensures, c.abs64-b.ensures, c.abs64-a.ensures))
+    rw e (cc (zero_is, two_is, pi_is, c.pick-2.ensures, c.pick-z.ensures, c.pick-y.ensures, c.atan64-x.ensures, c.pick.ensures, c.abs64-b.ensures, c.abs64-a.ensures))

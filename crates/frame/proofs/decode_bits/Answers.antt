@@ -13,11 +13,11 @@ use Rattle.frame.proofs.decode_bits.Goals as goal
 
 pub loop-start-init : goal.loop-start-init
 unfolding decode_uplink
-loop-start-init c = (omega arith, omega arith, refl)
+loop-start-init c = refl
 
 pub returns-then-bits-after : goal.returns-then-bits-after
 returns-then-bits-after c = let z = c.args.bits.now in
-    c.without_frame.ensures ∙ search_short (23 - c.loop-start.start) c.loop-start.start (map odd z) (omega (arith, c.if-bits-after.true, length-map-odd z)) ∙ c.loop-start.invariant.2
+    search_short (23 - c.loop-start.start) c.loop-start.start (map odd z) (omega (arith, c.if-bits-after.true, length-map-odd z)) ∙ c.loop-start.invariant
 
 pub word-requires : goal.word-requires
 word-requires c = (c.requires.0, omega arith)
@@ -28,33 +28,29 @@ decode_body-requires c = let z = c.args.bits.now in
     record {
       bits = ap are_bits (part_is z n) ∙ bits-drop n z c.requires.0;
       few = omega (arith, c.requires.1, ap length (part_is z n), length-drop n z);
-      class = found_class c.word.result c.in-Known.kind (sym c.find_kind.ensures ∙ c.in-Known.is);
+      class = found_class c.word.result c.in-Some.kind (sym c.find_kind.ensures ∙ c.in-Some.is);
     }
 
-pub returns-in-Known : goal.returns-in-Known
-returns-in-Known c = let z = c.args.bits.now in
+pub returns-in-Some : goal.returns-in-Some
+returns-in-Some c = let z = c.args.bits.now in
     let m = map odd z in
     let s = c.loop-start.start in
-    let kind = c.in-Known.kind in
-    let x : suc (23 - (s + 1)) ≡ 23 - s = omega (arith, c.loop-start-test.true) in
+    let kind = c.in-Some.kind in
+    let x : suc (23 - (s + 1)) ≡ 23 - s = omega arith in
     c.decode_body.ensures ∙ ap (decode_body kind) (part-bits z (s + sync_size))
     ∙ search-found (23 - (s + 1)) s m (omega (arith, c.if-bits-after.false, length-map-odd z)) c.find_kind.result
-    (c.find_kind.ensures ∙ ap (λ (w : ℕ). kind_of w kinds) c.word.ensures) kind c.in-Known.is
-    ∙ ap (λ (y : ℕ). search_from y s m) x ∙ c.loop-start.invariant.2
+    (c.find_kind.ensures ∙ ap (λ (w : ℕ). kind_of w kinds) c.word.ensures) kind c.in-Some.is
+    ∙ ap (λ (y : ℕ). search_from y s m) x ∙ c.loop-start.invariant
 
 pub loop-start-preserved : goal.loop-start-preserved
 loop-start-preserved c = let z = c.args.bits.now in
     let m = map odd z in
     let s = c.loop-start.start in
-    let t = c.loop-start-test.true in
-    let x : suc (23 - (s + 1)) ≡ 23 - s = omega (arith, t) in (
-      omega arith,
-      omega (arith, t),
-      search-later (23 - (s + 1)) s m (omega (arith, c.if-bits-after.false, length-map-odd z)) c.find_kind.result
-          (c.find_kind.ensures ∙ ap (λ (w : ℕ). kind_of w kinds) c.word.ensures) c.in-Unknown.is
-          ∙ ap (λ (y : ℕ). search_from y s m) x ∙ c.loop-start.invariant.2,
-    )
+    let x : suc (23 - (s + 1)) ≡ 23 - s = omega arith in
+    search-later (23 - (s + 1)) s m (omega (arith, c.if-bits-after.false, length-map-odd z)) c.find_kind.result
+    (c.find_kind.ensures ∙ ap (λ (w : ℕ). kind_of w kinds) c.word.ensures) c.in_default.is
+    ∙ ap (λ (y : ℕ). search_from y s m) x ∙ c.loop-start.invariant
 
 pub returns : goal.returns
 returns c = let z = c.args.bits.now in
-    c.without_frame-2.ensures ∙ search_none (23 - c.loop-start.start) c.loop-start.start (map odd z) (omega (arith, c.loop-start-test.false)) ∙ c.loop-start.invariant.2
+    search_none (23 - c.loop-start.start) c.loop-start.start (map odd z) (omega arith) ∙ c.loop-start.invariant

@@ -4,13 +4,10 @@ use mathlib.Core.List.{map}
 use Prim.Native.Nat.{◌+◌, ◌-◌, ◌*◌, ◌≤◌}
 use Rattle.coding.specs.Bits.{odd}
 use Rattle.frame.specs.Repairs.{repairs, first_of}
-use Rattle.frame.specs.Decode.{passes, first_repair}
+use Rattle.frame.specs.Decode.{mends, first_repair}
 use Rattle.frame.specs.Plain.{Passed}
 use Rattle.frame.proofs.first_repair.Given as goal
 
 abbrev pub invariant-loop-i : goal.invariant-loop-i
-invariant-loop-i l = (l.i ≤ l.end) × (first_of (passes l.kind (map odd l.body)) (repairs (l.end - l.i) l.i) ≡ first_repair l.kind (map odd l.body))
+invariant-loop-i l = (first_of (mends l.kind (map odd l.body)) (repairs (l.end - l.i) l.i) ≡ first_repair l.kind (map odd l.body))
     × Passed l.kind.rank (map odd l.body) l.front × (8 * l.front.bytes ≤ l.i) × (l.front.bytes + 2 ≤ l.n)
-
-abbrev pub decreases-loop-i : goal.decreases-loop-i
-decreases-loop-i l = l.end - l.i

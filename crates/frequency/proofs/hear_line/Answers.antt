@@ -1,3 +1,4 @@
+use Rattle.std.specs.Prelude.{IfSome}
 use Rattle.frequency.proofs.Sampled.{made, fine, sampled-state, sampled-lists}
 use Rattle.frequency.proofs.Ordered.{counts_of, held_of, held_tunings}
 use Rattle.frequency.specs.Lent.{lists}
@@ -12,39 +13,39 @@ use mathlib.Core.List.{map}
 use mathlib.Core.Path.{refl, sym, ap, ◌∙◌, subst}
 use Rattle.frequency.proofs.hear_line.Goals as goal
 
-pub hear_all-after-requires : goal.hear_all-after-requires
-hear_all-after-requires c =
+pub hear_all-t-requires : goal.hear_all-t-requires
+hear_all-t-requires c =
     let a = c.args in
-    let f = fine a.t (lists a.at.now a.lo.now a.hz.now a.tuned.now a.freq.now) a.dbm.now c.requires.0 in
+    let f = fine a.t.now (lists a.at.now a.lo.now a.hz.now a.tuned.now a.freq.now) a.dbm.now c.requires.0 in
     (f.rate, f.room, f.ordered.t.signals.last)
 
-pub retain_looked-kept-requires : goal.retain_looked-kept-requires
-retain_looked-kept-requires c =
+pub retain_looked-t-requires : goal.retain_looked-t-requires
+retain_looked-t-requires c =
     let a = c.args in
     let l = lists a.at.now a.lo.now a.hz.now a.tuned.now a.freq.now in
-    let f = fine a.t l a.dbm.now c.requires.0 in
-    let h = ap (λ (z : Signal). z.n) c.hear_all-after.ensures ∙ heard-n a.t.rate a.t.signal a.dbm.now in
-    let m : c.hear_all-after.result.n ≤ longest_stream = subst (λ (z : ℕ). z ≤ longest_stream) (sym h) f.room in
-    (f.rate, m, held_of a.t l f.ordered, λ e. subst (λ (z : ℕ). Leads (oldest_of a.t.rate z) a.t.readings a.look.lead a.at.now) (sym h) (c.requires.1 e))
+    let f = fine a.t.now l a.dbm.now c.requires.0 in
+    let h = ap (λ (z : Signal). z.n) c.hear_all-t.ensures ∙ heard-n a.t.now.rate a.t.now.signal a.dbm.now in
+    let m : c.hear_all-t.result.n ≤ longest_stream = subst (λ (z : ℕ). z ≤ longest_stream) (sym h) f.room in
+    (f.rate, m, held_of a.t.now l f.ordered, subst (λ (z : ℕ). IfSome a.look (λ lead. Leads (oldest_of a.t.now.rate z) a.t.now.readings lead a.at.now)) (sym h) c.requires.1)
 
-pub retain_tunings-left-requires : goal.retain_tunings-left-requires
-retain_tunings-left-requires c =
+pub retain_tunings-t-requires : goal.retain_tunings-t-requires
+retain_tunings-t-requires c =
     let a = c.args in
     let l = lists a.at.now a.lo.now a.hz.now a.tuned.now a.freq.now in
-    let f = fine a.t l a.dbm.now c.requires.0 in
-    let heard = c.hear_all-after in
-    let m : heard.result.n ≤ longest_stream = subst (λ (z : ℕ). z ≤ longest_stream) (sym (ap (λ (z : Signal). z.n) heard.ensures ∙ heard-n a.t.rate a.t.signal a.dbm.now)) f.room in
-    (f.rate, m, held_tunings a.t l f.ordered)
+    let f = fine a.t.now l a.dbm.now c.requires.0 in
+    let heard = c.hear_all-t in
+    let m : heard.result.n ≤ longest_stream = subst (λ (z : ℕ). z ≤ longest_stream) (sym (ap (λ (z : Signal). z.n) heard.ensures ∙ heard-n a.t.now.rate a.t.now.signal a.dbm.now)) f.room in
+    (f.rate, m, held_tunings a.t.now l f.ordered)
 
 pub returns : goal.returns
 returns c =
     let a = c.args in
-    let s = a.t in
+    let s = a.t.now in
     let l = lists a.at.now a.lo.now a.hz.now a.tuned.now a.freq.now in
     let o = counts_of s l (fine s l a.dbm.now c.requires.0).ordered in
-    let e = c.hear_all-after.ensures in
-    let x = c.retain_looked-kept in
-    let y = c.retain_tunings-left in
+    let e = c.hear_all-t.ensures in
+    let x = c.retain_looked-t in
+    let y = c.retain_tunings-t in
     let p = subst (λ (z : Signal). Compacted (map (kept s.rate z.n) (take s.readings a.at.now)) a.at.now a.lo.now a.hz.now x.result x.new.at x.new.lo x.new.hz) e x.ensures in
     let q = subst (λ (z : Signal). CompactedTunings (stays s.rate z.n (take s.tunings a.tuned.now)) a.tuned.now a.freq.now y.result y.new.tuned y.new.freq) e y.ensures in
     record {

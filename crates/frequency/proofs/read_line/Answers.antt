@@ -13,26 +13,26 @@ use Rattle.frequency.proofs.read_line.Goals as goal
 pub last_freq-f-requires : goal.last_freq-f-requires
 last_freq-f-requires c =
     let a = c.args in
-    (fine a.t (lists a.at.now a.lo.now a.hz.now a.tuned.now a.freq.now) a.raw.now c.requires).ordered.t.places.freqs
+    (fine a.t.now (lists a.at.now a.lo.now a.hz.now a.tuned.now a.freq.now) a.raw.now c.requires).ordered.t.places.freqs
 
 pub last_tuned-last-requires : goal.last_tuned-last-requires
 last_tuned-last-requires c =
     let a = c.args in
-    (fine a.t (lists a.at.now a.lo.now a.hz.now a.tuned.now a.freq.now) a.raw.now c.requires).ordered.t.places.tuneds
+    (fine a.t.now (lists a.at.now a.lo.now a.hz.now a.tuned.now a.freq.now) a.raw.now c.requires).ordered.t.places.tuneds
 
 pub read_values-count-requires : goal.read_values-count-requires
 read_values-count-requires c =
     let a = c.args in
     let l = lists a.at.now a.lo.now a.hz.now a.tuned.now a.freq.now in
-    let f = fine a.t l a.raw.now c.requires in
+    let f = fine a.t.now l a.raw.now c.requires in
     let h = f.ordered.t.signals.upto in
     let m = f.ordered.t.signals.stream in
-    (f.rate, subst (λ (z : ℕ). z ≤ longest_stream) (sym c.last_tuned-last.ensures) (last_upto a.t l f.ordered), omega arith, f.few, f.places.ats, f.places.los, f.places.hzs)
+    (f.rate, subst (λ (z : ℕ). z ≤ longest_stream) (sym c.last_tuned-last.ensures) (last_upto a.t.now l f.ordered), omega arith, f.few, f.places.ats, f.places.los, f.places.hzs)
 
 pub returns : goal.returns
 returns c =
     let a = c.args in
-    let s = a.t in
+    let s = a.t.now in
     let l = lists a.at.now a.lo.now a.hz.now a.tuned.now a.freq.now in
     let f = fine s l a.raw.now c.requires in
     let y = c.read_values-count in

@@ -13,17 +13,17 @@ pub returns-then-not-fits_readings : goal.returns-then-not-fits_readings
 unfolding readings_in_order
 returns-then-not-fits_readings c = sym (holds _ (sym c.signal_ok.ensures ∙ c.if-not-signal_ok.false) ∙ fails _ (sym c.fits_readings.ensures ∙ c.if-not-fits_readings.true))
 
-pub overflow_add-signal : goal.overflow_add-signal
-overflow_add-signal c =
+pub overflow_add-t : goal.overflow_add-t
+overflow_add-t c =
     let a = c.args in
-    let h = (signals_of a.t.line_start a.t.signal (sym c.signal_ok.ensures ∙ c.if-not-signal_ok.false)).stream in
+    let h = (signals_of a.t.now.line_start a.t.now.signal (sym c.signal_ok.ensures ∙ c.if-not-signal_ok.false)).stream in
     record { fits = omega arith }
 
 pub within-requires : goal.within-requires
 within-requires c =
     let a = c.args in
-    let h = (signals_of a.t.line_start a.t.signal (sym c.signal_ok.ensures ∙ c.if-not-signal_ok.false)).stream in
-    ((readings_of_lem a.t.readings a.at.now a.lo.now a.hz.now (sym c.fits_readings.ensures ∙ c.if-not-fits_readings.false)).ats, omega arith)
+    let h = (signals_of a.t.now.line_start a.t.now.signal (sym c.signal_ok.ensures ∙ c.if-not-signal_ok.false)).stream in
+    ((readings_of_lem a.t.now.readings a.at.now a.lo.now a.hz.now (sym c.fits_readings.ensures ∙ c.if-not-fits_readings.false)).ats, omega arith)
 
 pub returns : goal.returns
 unfolding readings_in_order

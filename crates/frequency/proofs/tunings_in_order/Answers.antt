@@ -16,8 +16,8 @@ returns-then-not-fits_tunings c = sym (holds _ (sym c.signal_ok.ensures ∙ c.if
 pub within-requires : goal.within-requires
 within-requires c =
     let a = c.args in
-    let h = (signals_of a.t.line_start a.t.signal (sym c.signal_ok.ensures ∙ c.if-not-signal_ok.false)).stream in
-    ((tunings_of_lem a.t.tunings a.tuned.now a.freq.now (sym c.fits_tunings.ensures ∙ c.if-not-fits_tunings.false)).tuneds, omega arith)
+    let h = (signals_of a.t.now.line_start a.t.now.signal (sym c.signal_ok.ensures ∙ c.if-not-signal_ok.false)).stream in
+    ((tunings_of_lem a.t.now.tunings a.tuned.now a.freq.now (sym c.fits_tunings.ensures ∙ c.if-not-fits_tunings.false)).tuneds, omega arith)
 
 pub returns : goal.returns
 unfolding tunings_in_order

@@ -1,21 +1,25 @@
+use Rattle.std.proofs.Common.{refl, sym, ◌∙◌}
+use Rattle.limits.specs.Answer.{cause_of}
+use Rattle.limits.proofs.AnswerLaws.{cause_refused}
 use Rattle.frequency.proofs.Ordered.{ordered_of}
 use Rattle.frequency.specs.Lent.{lists}
 use Rattle.frequency_grown.proofs.KnownLaws.{cfo-cause}
-use mathlib.Core.Path.{refl, sym, ◌∙◌}
 use Rattle.frequency_grown.proofs.cfo.Goals as goal
 
-pub values_cause-cause-requires : goal.values_cause-cause-requires
-values_cause-cause-requires c =
-    let a = c.args in
-    (ordered_of a.t (lists a.at.now a.lo.now a.hz.now a.tuned.now a.freq.now) c.requires.order).r.places.ats
+pub check_values-requires : goal.check_values-requires
+check_values-requires c = let a = c.args in (ordered_of a.t.now (lists a.at.now a.lo.now a.hz.now a.tuned.now a.freq.now) c.requires.order).r.places.ats
 
-pub returns-then-cause-ne0 : goal.returns-then-cause-ne0
-returns-then-cause-ne0 c =
+pub returns-in_err-check_values : goal.returns-in_err-check_values
+unfolding cause_of
+returns-in_err-check_values c =
     let a = c.args in
-    let t = c.if-cause-ne0.true in
-    record { refusal = c.values_cause-cause.ensures ∙ sym (cfo-cause a.t (lists a.at.now a.lo.now a.hz.now a.tuned.now a.freq.now) c.requires a.raw.now); state = λ e. absurd (t e); lists = λ e. absurd (t e); same_state = λ e. refl; same_lists = λ e. refl }
+    let r = cause_refused _ _ _ c.from_residual.ensures.1 (c.in_err-check_values.ensures ∙ sym (cfo-cause a.t.now (lists a.at.now a.lo.now a.hz.now a.tuned.now a.freq.now) c.requires a.raw.now)) in
+    record { refusal = r.0; state = λ e. absurd (r.1 e); lists = λ e. absurd (r.1 e); same_state = λ e. refl; same_lists = λ e. refl }
 
 pub read_line-requires : goal.read_line-requires
-read_line-requires c =
-    let a = c.args in
-    cfo-cause a.t (lists a.at.now a.lo.now a.hz.now a.tuned.now a.freq.now) c.requires a.raw.now ∙ sym c.values_cause-cause.ensures ∙ c.if-cause-ne0.false
+unfolding cause_of
+read_line-requires c = let a = c.args in cfo-cause a.t.now (lists a.at.now a.lo.now a.hz.now a.tuned.now a.freq.now) c.requires a.raw.now ∙ sym c.in_ok-check_values.ensures
+
+pub returns : goal.returns
+unfolding cause_of
+returns c = c.read_line.ensures

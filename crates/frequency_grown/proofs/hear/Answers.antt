@@ -1,30 +1,25 @@
+use Rattle.std.proofs.Common.{refl, sym, ◌∙◌}
+use Rattle.limits.specs.Answer.{cause_of}
+use Rattle.limits.proofs.AnswerLaws.{cause_refused}
 use Rattle.frequency.proofs.Ordered.{ordered_of}
 use Rattle.frequency.specs.Lent.{lists}
 use Rattle.frequency_grown.proofs.KnownLaws.{samples-cause}
-use mathlib.Core.Path.{refl, sym, ◌∙◌}
 use Rattle.frequency_grown.proofs.hear.Goals as goal
 
-pub line_cause-cause-requires : goal.line_cause-cause-requires
-line_cause-cause-requires c =
-    let a = c.args in
-    (ordered_of a.t (lists a.at.now a.lo.now a.hz.now a.tuned.now a.freq.now) c.requires.0.order).t.signals.stream
+pub check_line-requires : goal.check_line-requires
+check_line-requires c = let a = c.args in (ordered_of a.t.now (lists a.at.now a.lo.now a.hz.now a.tuned.now a.freq.now) c.requires.0.order).t.signals.stream
 
-pub returns-then-cause-ne0 : goal.returns-then-cause-ne0
-returns-then-cause-ne0 c =
+pub returns-in_err-check_line : goal.returns-in_err-check_line
+unfolding cause_of
+returns-in_err-check_line c =
     let a = c.args in
-    let t = c.if-cause-ne0.true in
-    record {
-      refusal = c.line_cause-cause.ensures ∙ sym (samples-cause a.t (lists a.at.now a.lo.now a.hz.now a.tuned.now a.freq.now) c.requires.0 a.dbm.now);
-      state = λ e. absurd (t e);
-      lists = λ e. absurd (t e);
-      same_state = λ e. refl;
-      same_lists = λ e. refl;
-    }
+    let r = cause_refused _ _ _ c.from_residual.ensures.1 (c.in_err-check_line.ensures ∙ sym (samples-cause a.t.now (lists a.at.now a.lo.now a.hz.now a.tuned.now a.freq.now) c.requires.0 a.dbm.now)) in
+    record { refusal = r.0; state = λ e. absurd (r.1 e); lists = λ e. absurd (r.1 e); same_state = λ e. refl; same_lists = λ e. refl }
 
 pub hear_line-requires : goal.hear_line-requires
-hear_line-requires c =
-    let a = c.args in
-    (samples-cause a.t (lists a.at.now a.lo.now a.hz.now a.tuned.now a.freq.now) c.requires.0 a.dbm.now ∙ sym c.line_cause-cause.ensures ∙ c.if-cause-ne0.false, c.requires.1)
+unfolding cause_of
+hear_line-requires c = let a = c.args in (samples-cause a.t.now (lists a.at.now a.lo.now a.hz.now a.tuned.now a.freq.now) c.requires.0 a.dbm.now ∙ sym c.in_ok-check_line.ensures, c.requires.1)
 
 pub returns : goal.returns
+unfolding cause_of
 returns c = c.hear_line.ensures

@@ -11,5 +11,5 @@ pub returns : goal.returns
 returns c =
     let a = c.args in
     let lead = c.leading.result in
-    subst (λ (z : ℕ). Leads z a.t.readings lead a.at.now) c.oldest-low.ensures
-    (front-leads c.oldest-low.result a.t.readings lead a.at.now c.requires.2 c.requires.3 c.leading.ensures)
+    subst (λ (z : ℕ). Leads z a.t.now.readings lead a.at.now) c.oldest-low.ensures
+    (front-leads c.oldest-low.result a.t.now.readings lead a.at.now c.requires.2 c.requires.3 c.leading.ensures)

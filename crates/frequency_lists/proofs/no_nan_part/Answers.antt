@@ -6,13 +6,13 @@ use lib.Seq.{slice}
 use Rattle.frequency_lists.proofs.no_nan_part.Goals as goal
 
 pub loop-i-init : goal.loop-i-init
-loop-i-init c = (omega arith, refl)
+loop-i-init c = refl
 
 pub loop-i-preserved : goal.loop-i-preserved
 loop-i-preserved c =
     let hz = c.args.hz.now in
-    (omega arith, every-turn (λ (x : Float). not (is_nan x)) hz c.args.count c.requires.1 nan c.loop-i.ok c.is_number-here.result (no_nan (slice c.args.first c.args.count hz)) c.loop-i.i (omega arith) c.is_number-here.ensures c.loop-i.invariant.1)
+    (every-turn (λ (x : Float). not (is_nan x)) hz c.args.count c.requires.1 nan c.loop-i.ok c.is_number-ok.result (no_nan (slice c.args.first c.args.count hz)) c.loop-i.i (omega arith) c.is_number-ok.ensures c.loop-i.invariant)
 
 pub returns : goal.returns
 returns c =
-    every_end (λ (x : Float). not (is_nan x)) c.args.hz.now c.args.count c.requires.1 c.loop-i.ok (no_nan (slice c.args.first c.args.count c.args.hz.now)) c.loop-i.i (omega arith) (omega arith) c.loop-i.invariant.1
+    every_end (λ (x : Float). not (is_nan x)) c.args.hz.now c.args.count c.requires.1 c.loop-i.ok (no_nan (slice c.args.first c.args.count c.args.hz.now)) c.loop-i.i (omega arith) (omega arith) c.loop-i.invariant

@@ -1,10 +1,7 @@
-use Rattle.std.proofs.Common.{◌+◌, ◌-◌, ◌*◌, ◌≤◌, length, drop}
+use Rattle.std.proofs.Common.{◌+◌, ◌*◌, ◌≤◌, drop}
 use Rattle.frequency_lists.specs.Lists.{readings_from}
 use Rattle.frequency_lists.proofs.Appending.{Left}
 use Rattle.frequency_lists.proofs.read_values.Given as goal
 
 abbrev pub invariant-loop-k : goal.invariant-loop-k
-invariant-loop-k l = (l.k ≤ length l.raw) × (l.w ≤ l.count + l.k) × Left (readings_from l.rate l.step l.more l.tuned_at l.f l.line l.raw) (readings_from l.rate l.step l.more l.tuned_at l.f (l.line + 8 * l.k) (drop l.k l.raw)) l.count l.w l.initial.at l.initial.lo l.initial.hz l.at l.lo l.hz
-
-abbrev pub decreases-loop-k : goal.decreases-loop-k
-decreases-loop-k l = length l.raw - l.k
+invariant-loop-k l = (l.w ≤ l.count + l.k) × Left (readings_from l.rate l.step l.more l.tuned_at l.f l.line l.raw) (readings_from l.rate l.step l.more l.tuned_at l.f (l.line + 8 * l.k) (drop l.k l.raw)) l.count l.w l.initial.at l.initial.lo l.initial.hz l.at l.lo l.hz

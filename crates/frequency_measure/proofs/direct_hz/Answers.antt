@@ -1,11 +1,12 @@
+use Rattle.std.proofs.Common.{◌∙◌}
 use Rattle.frequency_measure.specs.Measured.{direct}
-use mathlib.Core.Path.{sym, ap}
+use Rattle.frequency_measure.proofs.Picked.{then_some-cond}
 use Rattle.frequency_measure.proofs.direct_hz.Goals as goal
 
-pub returns-in-Unmeasured : goal.returns-in-Unmeasured
+pub returns-in_err-f : goal.returns-in_err-f
 unfolding direct
-returns-in-Unmeasured c = sym (ap direct c.in-Unmeasured.is)
+returns-in_err-f c = rw c.in_err-f.was c.from_residual.ensures
 
-pub returns-in-Found : goal.returns-in-Found
+pub returns : goal.returns
 unfolding direct
-returns-in-Found c = rw c.in-Found.is (cc (c.pick_frequency.ensures, c.round_hz.ensures, c.is_near.ensures))
+returns c = rw c.in_ok-f.was (rw (c.is_near.ensures, c.round_hz.ensures) at (c.then_some.ensures ∙ then_some-cond _ _))

@@ -13,8 +13,8 @@ use Rattle.frequency_measure.proofs.median_of.Goals as goal
 pub slice_bounds-part-end : goal.slice_bounds-part-end
 slice_bounds-part-end c = sym (length-take-le c.args.m c.args.xs.now c.requires.1)
 
-pub select64-requires : goal.select64-requires
-select64-requires c =
+pub select-requires : goal.select-requires
+select-requires c =
     let m = c.args.m in
     let l = take m c.args.xs.now in
     let e : length l ≡ m = length-take-le m c.args.xs.now c.requires.1 in
@@ -25,4 +25,4 @@ unfolding median
 returns c =
     let m = c.args.m in
     let e = length-take-le m c.args.xs.now c.requires.1 in
-    c.select64.ensures ∙ ap (λ (n : ℕ). kth binary64 (take m c.args.xs.now) (n / 2)) (sym e)
+    c.select.ensures ∙ ap (λ (n : ℕ). kth binary64 (take m c.args.xs.now) (n / 2)) (sym e)

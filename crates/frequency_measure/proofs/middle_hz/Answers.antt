@@ -1,14 +1,11 @@
+use Rattle.std.proofs.Common.{refl}
 use Rattle.frequency_measure.specs.Measured.{middle}
-use mathlib.Core.Path.{refl}
 use Rattle.frequency_measure.proofs.middle_hz.Goals as goal
 
-pub returns-in-Unmeasured : goal.returns-in-Unmeasured
+pub returns-in_default : goal.returns-in_default
 unfolding middle
-returns-in-Unmeasured c = rw c.in-Unmeasured.is refl
+returns-in_default c = rw (c.in_default.is-0, c.in_default.is-1) refl
 
-pub returns-in-Unmeasured-f3 : goal.returns-in-Unmeasured-f3
+pub returns-in_default-2 : goal.returns-in_default-2
 unfolding middle
-returns-in-Unmeasured-f3 c = rw (c.in-Found.is, c.in-Unmeasured-f3.is) refl
-
-pub returns-in-Found-f3 : goal.returns-in-Found-f3
-returns-in-Found-f3 c = rw (c.in-Found.is, c.in-Found-f3.is) c.midpoint.ensures
+returns-in_default-2 c = rw c.in_default.is-0 refl

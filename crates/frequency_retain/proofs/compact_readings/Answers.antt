@@ -31,36 +31,34 @@ module _ (c : At-loop-i) where
   short-hz = let e = sized in let h = c.requires.2.hzs in omega arith
 
   upto : c.loop-i.i ≤ length bs
-  upto = let e = sized in let h = c.loop-i.invariant.0 in omega arith
+  upto = let e = sized in omega arith
 
   at_size : length c.loop-i.at ≡ length c.args.at.now
   unfolding bs
-  at_size = same_size bs c.args.at.now 0 short-at c.loop-i.i c.loop-i.at upto c.loop-i.invariant.1.ats
+  at_size = same_size bs c.args.at.now 0 short-at c.loop-i.i c.loop-i.at upto c.loop-i.invariant.ats
 
   lo-size : length c.loop-i.lo ≡ length c.args.lo.now
   unfolding bs
-  lo-size = same_size bs c.args.lo.now 0 short-lo c.loop-i.i c.loop-i.lo upto c.loop-i.invariant.1.los
+  lo-size = same_size bs c.args.lo.now 0 short-lo c.loop-i.i c.loop-i.lo upto c.loop-i.invariant.los
 
   hz-size : length c.loop-i.hz ≡ length c.args.hz.now
   unfolding bs
-  hz-size = same_size bs c.args.hz.now nan short-hz c.loop-i.i c.loop-i.hz upto c.loop-i.invariant.1.hzs
+  hz-size = same_size bs c.args.hz.now nan short-hz c.loop-i.i c.loop-i.hz upto c.loop-i.invariant.hzs
 
   at_ahead : get_or c.loop-i.at c.loop-i.i 0 ≡ get_or c.args.at.now c.loop-i.i 0
   unfolding bs
-  at_ahead = ahead bs c.args.at.now 0 short-at c.loop-i.i c.loop-i.at upto c.loop-i.invariant.1.ats
+  at_ahead = ahead bs c.args.at.now 0 short-at c.loop-i.i c.loop-i.at upto c.loop-i.invariant.ats
 
   w-upto : c.loop-i.w ≤ c.loop-i.i
   unfolding bs
-  w-upto = let e = c.loop-i.invariant.1.count in let m = marked-upto bs c.loop-i.i in omega arith
+  w-upto = let e = c.loop-i.invariant.count in let m = marked-upto bs c.loop-i.i in omega arith
 
 pub loop-i-init : goal.loop-i-init
 loop-i-init c =
     let p = c.requires.2 in
-    let e = size c.args.rate c.args.n c.args.count c.args.at.now c.args.lo.now c.args.hz.now p in (
-      omega arith,
-      none_yet (map (kept c.args.rate c.args.n) (take c.args.count c.args.at.now)) c.args.at.now c.args.lo.now c.args.hz.now
-          (subst (λ (z : ℕ). z ≤ length c.args.at.now) (sym e) p.ats) (subst (λ (z : ℕ). z ≤ length c.args.lo.now) (sym e) p.los) (subst (λ (z : ℕ). z ≤ length c.args.hz.now) (sym e) p.hzs),
-    )
+    let e = size c.args.rate c.args.n c.args.count c.args.at.now c.args.lo.now c.args.hz.now p in
+    none_yet (map (kept c.args.rate c.args.n) (take c.args.count c.args.at.now)) c.args.at.now c.args.lo.now c.args.hz.now
+    (subst (λ (z : ℕ). z ≤ length c.args.at.now) (sym e) p.ats) (subst (λ (z : ℕ). z ≤ length c.args.lo.now) (sym e) p.los) (subst (λ (z : ℕ). z ≤ length c.args.hz.now) (sym e) p.hzs)
 
 pub offset_bounds-at-i : goal.offset_bounds-at-i
 offset_bounds-at-i c =
@@ -93,17 +91,6 @@ keep_reading-w-requires c =
       subst (λ (z : ℕ). c.loop-i.i < z) (sym d) (omega (arith, p.hzs)),
     )
 
-pub overflow_add-i : goal.overflow_add-i
-overflow_add-i c =
-    let t = c.loop-i-test.true in
-    let h = c.requires.2.ats in
-    let g = c.well_formed.1.1.1.0.1 in
-    record { fits = omega arith }
-
-pub loop-i-smaller : goal.loop-i-smaller
-loop-i-smaller c =
-    let t = c.loop-i-test.true in omega arith
-
 pub loop-i-preserved : goal.loop-i-preserved
 unfolding bs
 loop-i-preserved c =
@@ -113,12 +100,10 @@ loop-i-preserved c =
     let a = c.args in
     let m : get_or (map (kept a.rate a.n) (take a.count a.at.now)) c.loop-i.i false ≡ y.result =
     mark_is a.rate a.n a.count a.at.now a.lo.now a.hz.now c.requires.2 c.loop-i.i t
-    ∙ ap (kept a.rate a.n) (sym (at_ahead (goal.at.loop-i-preserved c).At-loop-i)) ∙ sym y.ensures in (
-      omega (arith, t),
-      compact_turn (map (kept a.rate a.n) (take a.count a.at.now)) a.at.now a.lo.now a.hz.now (short-at (goal.at.loop-i-preserved c).At-loop-i) (short-lo (goal.at.loop-i-preserved c).At-loop-i) (short-hz (goal.at.loop-i-preserved c).At-loop-i) c.loop-i.i c.loop-i.w k.result
-          y.result c.loop-i.at c.loop-i.lo k.new.at k.new.lo c.loop-i.hz k.new.hz
-          (subst (λ (z : ℕ). c.loop-i.i < z) (sym (sized (goal.at.loop-i-preserved c).At-loop-i)) t) m c.loop-i.invariant.1 k.ensures,
-    )
+    ∙ ap (kept a.rate a.n) (sym (at_ahead (goal.at.loop-i-preserved c).At-loop-i)) ∙ sym y.ensures in
+    compact_turn (map (kept a.rate a.n) (take a.count a.at.now)) a.at.now a.lo.now a.hz.now (short-at (goal.at.loop-i-preserved c).At-loop-i) (short-lo (goal.at.loop-i-preserved c).At-loop-i) (short-hz (goal.at.loop-i-preserved c).At-loop-i) c.loop-i.i c.loop-i.w k.result
+    y.result c.loop-i.at c.loop-i.lo k.new.at k.new.lo c.loop-i.hz k.new.hz
+    (subst (λ (z : ℕ). c.loop-i.i < z) (sym (sized (goal.at.loop-i-preserved c).At-loop-i)) t) m c.loop-i.invariant k.ensures
 
 pub returns : goal.returns
 unfolding bs
@@ -126,4 +111,4 @@ returns c =
     let a = c.args in
     let t = c.loop-i-test.false in
     all_done (map (kept a.rate a.n) (take a.count a.at.now)) a.at.now a.lo.now a.hz.now (short-at (goal.at.returns c).At-loop-i) (short-lo (goal.at.returns c).At-loop-i) (short-hz (goal.at.returns c).At-loop-i)
-    c.loop-i.i c.loop-i.w c.loop-i.at c.loop-i.lo c.loop-i.hz (subst (λ (z : ℕ). z ≤ c.loop-i.i) (sym (sized (goal.at.returns c).At-loop-i)) t) c.loop-i.invariant.1
+    c.loop-i.i c.loop-i.w c.loop-i.at c.loop-i.lo c.loop-i.hz (subst (λ (z : ℕ). z ≤ c.loop-i.i) (sym (sized (goal.at.returns c).At-loop-i)) t) c.loop-i.invariant

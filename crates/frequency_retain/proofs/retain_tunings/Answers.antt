@@ -28,33 +28,31 @@ module _ (c : At-loop-i) where
   short-freq = let e = sized in let h = c.requires.2.freqs in omega arith
 
   upto : c.loop-i.i ≤ length bs
-  upto = let e = sized in let h = c.loop-i.invariant.0 in omega arith
+  upto = let e = sized in omega arith
 
   tuned-size : length c.loop-i.tuned ≡ length c.args.tuned.now
   unfolding bs
-  tuned-size = same_size bs c.args.tuned.now 0 short-tuned c.loop-i.i c.loop-i.tuned upto c.loop-i.invariant.1.tuneds
+  tuned-size = same_size bs c.args.tuned.now 0 short-tuned c.loop-i.i c.loop-i.tuned upto c.loop-i.invariant.tuneds
 
   freq-size : length c.loop-i.freq ≡ length c.args.freq.now
   unfolding bs
-  freq-size = same_size bs c.args.freq.now 0 short-freq c.loop-i.i c.loop-i.freq upto c.loop-i.invariant.1.freqs
+  freq-size = same_size bs c.args.freq.now 0 short-freq c.loop-i.i c.loop-i.freq upto c.loop-i.invariant.freqs
 
   tuned-ahead : get_or c.loop-i.tuned (c.loop-i.i + 1) 0 ≡ get_or c.args.tuned.now (c.loop-i.i + 1) 0
   unfolding bs
-  tuned-ahead = beyond bs c.args.tuned.now 0 short-tuned c.loop-i.i (c.loop-i.i + 1) c.loop-i.tuned (omega arith) upto c.loop-i.invariant.1.tuneds
+  tuned-ahead = beyond bs c.args.tuned.now 0 short-tuned c.loop-i.i (c.loop-i.i + 1) c.loop-i.tuned (omega arith) upto c.loop-i.invariant.tuneds
 
   w-upto : c.loop-i.w ≤ c.loop-i.i
   unfolding bs
-  w-upto = let e = c.loop-i.invariant.1.count in let m = marked-upto bs c.loop-i.i in omega arith
+  w-upto = let e = c.loop-i.invariant.count in let m = marked-upto bs c.loop-i.i in omega arith
 
 pub loop-i-init : goal.loop-i-init
 loop-i-init c =
     let a = c.args in
     let p = c.requires.2 in
-    let e = stays-size a.rate a.n a.count a.tuned.now a.freq.now p in (
-      omega arith,
-      no_tuning_yet (stays a.rate a.n (take a.count a.tuned.now)) a.tuned.now a.freq.now
-          (subst (λ (z : ℕ). z ≤ length a.tuned.now) (sym e) p.tuneds) (subst (λ (z : ℕ). z ≤ length a.freq.now) (sym e) p.freqs),
-    )
+    let e = stays-size a.rate a.n a.count a.tuned.now a.freq.now p in
+    no_tuning_yet (stays a.rate a.n (take a.count a.tuned.now)) a.tuned.now a.freq.now
+    (subst (λ (z : ℕ). z ≤ length a.tuned.now) (sym e) p.tuneds) (subst (λ (z : ℕ). z ≤ length a.freq.now) (sym e) p.freqs)
 
 pub tuning_stays-keep-requires : goal.tuning_stays-keep-requires
 tuning_stays-keep-requires c =
@@ -73,17 +71,6 @@ keep_tuning-w-requires c =
       subst (λ (z : ℕ). c.loop-i.i < z) (sym (freq-size (goal.at.keep_tuning-w-requires c).At-loop-i)) (omega (arith, p.freqs)),
     )
 
-pub overflow_add-i : goal.overflow_add-i
-overflow_add-i c =
-    let t = c.loop-i-test.true in
-    let h = c.requires.2.tuneds in
-    let g = c.well_formed.1.1.1.0.0 in
-    record { fits = omega arith }
-
-pub loop-i-smaller : goal.loop-i-smaller
-loop-i-smaller c =
-    let t = c.loop-i-test.true in omega arith
-
 pub loop-i-preserved : goal.loop-i-preserved
 unfolding bs
 loop-i-preserved c =
@@ -93,16 +80,14 @@ loop-i-preserved c =
     let y = c.tuning_stays-keep in
     let m : get_or (stays a.rate a.n (take a.count a.tuned.now)) c.loop-i.i false ≡ y.result =
     stays_is a.rate a.n a.count a.tuned.now a.freq.now c.requires.2 c.loop-i.i t
-    ∙ ap (λ (z : ℕ). cond (eqb (c.loop-i.i + 1) a.count) true (kept a.rate a.n z)) (sym (tuned-ahead (goal.at.loop-i-preserved c).At-loop-i)) ∙ sym y.ensures in (
-      omega (arith, t),
-      tuning_turn (stays a.rate a.n (take a.count a.tuned.now)) a.tuned.now a.freq.now (short-tuned (goal.at.loop-i-preserved c).At-loop-i) (short-freq (goal.at.loop-i-preserved c).At-loop-i) c.loop-i.i c.loop-i.w k.result
-          y.result c.loop-i.tuned c.loop-i.freq k.new.tuned k.new.freq
-          (subst (λ (z : ℕ). c.loop-i.i < z) (sym (sized (goal.at.loop-i-preserved c).At-loop-i)) t) m c.loop-i.invariant.1 k.ensures,
-    )
+    ∙ ap (λ (z : ℕ). cond (eqb (c.loop-i.i + 1) a.count) true (kept a.rate a.n z)) (sym (tuned-ahead (goal.at.loop-i-preserved c).At-loop-i)) ∙ sym y.ensures in
+    tuning_turn (stays a.rate a.n (take a.count a.tuned.now)) a.tuned.now a.freq.now (short-tuned (goal.at.loop-i-preserved c).At-loop-i) (short-freq (goal.at.loop-i-preserved c).At-loop-i) c.loop-i.i c.loop-i.w k.result
+    y.result c.loop-i.tuned c.loop-i.freq k.new.tuned k.new.freq
+    (subst (λ (z : ℕ). c.loop-i.i < z) (sym (sized (goal.at.loop-i-preserved c).At-loop-i)) t) m c.loop-i.invariant k.ensures
 
 pub returns : goal.returns
 unfolding bs
 returns c =
     let a = c.args in
     tunings-done (stays a.rate a.n (take a.count a.tuned.now)) a.tuned.now a.freq.now (short-tuned (goal.at.returns c).At-loop-i) (short-freq (goal.at.returns c).At-loop-i)
-    c.loop-i.i c.loop-i.w c.loop-i.tuned c.loop-i.freq (subst (λ (z : ℕ). z ≤ c.loop-i.i) (sym (sized (goal.at.returns c).At-loop-i)) c.loop-i-test.false) c.loop-i.invariant.1
+    c.loop-i.i c.loop-i.w c.loop-i.tuned c.loop-i.freq (subst (λ (z : ℕ). z ≤ c.loop-i.i) (sym (sized (goal.at.returns c).At-loop-i)) c.loop-i-test.false) c.loop-i.invariant

@@ -1,4 +1,4 @@
 use Rattle.frequency_signal.proofs.floor_ok.Goals as goal
 
-pub returns-in-Dbm : goal.returns-in-Dbm
-returns-in-Dbm c = cc
+pub returns-in-Some : goal.returns-in-Some
+returns-in-Some c = cc

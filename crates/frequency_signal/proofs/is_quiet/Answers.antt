@@ -1,18 +1,17 @@
 use Rattle.frequency_signal.proofs.Indices.{quiet-never, quiet_at}
 use Rattle.frequency_signal.specs.Seconds.{quiet}
 use Rattle.frequency_signal.specs.Order.{Index}
-use Rattle.frequency_signal.specs.declared.Sample.{Sample}
-use Rattle.std.proofs.Common.{sym, ap, ◌∙◌, subst, arith}
+use Rattle.std.proofs.Common.{sym, ap, ◌∙◌, subst, arith, Option, ℕ}
 use Rattle.frequency_signal.proofs.is_quiet.Goals as goal
 
 pub overflow_sub-result : goal.overflow_sub-result
 overflow_sub-result c =
-    subst (λ (z : Sample). Index c.args.n z) c.in-At.is c.requires.2
+    subst (λ (z : Option ℕ). Index c.args.n z) c.in-Some.is c.requires.2
 
-pub returns-in-Never : goal.returns-in-Never
-returns-in-Never c =
-    sym (ap (quiet c.args.rate c.args.n) c.in-Never.is ∙ quiet-never c.args.rate c.requires.0 c.args.n)
+pub returns-in-None : goal.returns-in-None
+returns-in-None c =
+    sym (ap (quiet c.args.rate c.args.n) c.in-None.is ∙ quiet-never c.args.rate c.requires.0 c.args.n)
 
-pub returns-in-At : goal.returns-in-At
-returns-in-At c =
-    sym (ap (quiet c.args.rate c.args.n) c.in-At.is ∙ quiet_at c.args.rate c.requires.0 c.args.n c.in-At.s (omega arith))
+pub returns-in-Some : goal.returns-in-Some
+returns-in-Some c =
+    sym (ap (quiet c.args.rate c.args.n) c.in-Some.is ∙ quiet_at c.args.rate c.requires.0 c.args.n c.in-Some.s (omega arith))

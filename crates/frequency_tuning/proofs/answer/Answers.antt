@@ -1,15 +1,7 @@
-use Rattle.frequency_tuning.specs.Steps.{answered}
-use Rattle.frequency_measure.specs.declared.Frequency.{Frequency}
-use mathlib.Core.Path.{refl, sym, ap, ◌∙◌}
-use borrow.Author.Tests.{eq-eqb, ne_eqb}
 use Rattle.frequency_tuning.proofs.answer.Goals as goal
 
-pub returns-then-f-hz : goal.returns-then-f-hz
-returns-then-f-hz c =
-    let a = c.args in
-    sym (ap (λ (z : Frequency). answered z a.hz) c.in-Hz.is ∙ rw (eq-eqb c.in-Hz.f a.hz c.if-f-hz.true) refl)
+pub returns-in_err-f : goal.returns-in_err-f
+returns-in_err-f c = rw c.in_err-f.was c.from_residual.ensures
 
-pub returns-else-f-hz : goal.returns-else-f-hz
-returns-else-f-hz c =
-    let a = c.args in
-    sym (ap (λ (z : Frequency). answered z a.hz) c.in-Hz.is ∙ rw (ne_eqb c.in-Hz.f a.hz c.if-f-hz.false) refl)
+pub returns : goal.returns
+returns c = rw c.in_ok-f.was c.unless_at.ensures

@@ -1,21 +1,26 @@
-use Rattle.frequency_tuning.proofs.Ranks.{rank_a, rank-b, rank-c, rank_none}
+use Rattle.std.proofs.Common.{refl, sym, ◌∙◌, take}
+use lib.Ieee.{nan}
 use Rattle.frequency_measure.specs.Measured.{readings_of}
-use lib.ListN.{take}
-use mathlib.Core.Path.{refl, sym, ◌∙◌}
+use Rattle.frequency_tuning.proofs.Ranks.{rank_here, rank_later, rank_none}
 use Rattle.frequency_tuning.proofs.of_rank.Goals as goal
 
-pub returns-then-a-rank : goal.returns-then-a-rank
-returns-then-a-rank c =
-    let a = c.args in (c.frame_of.ensures.0 ∙ sym (rank_a a.rate (readings_of (take a.count a.at.now) (take a.count a.lo.now) (take a.count a.hz.now)) a.a a.b a.c a.rank c.if-a-rank.true), c.frame_of.ensures.1)
+pub loop-s-init : goal.loop-s-init
+loop-s-init c = refl
 
-pub returns-then-b-rank : goal.returns-then-b-rank
-returns-then-b-rank c =
-    let a = c.args in (c.frame_of-then-b-rank.ensures.0 ∙ sym (rank-b a.rate (readings_of (take a.count a.at.now) (take a.count a.lo.now) (take a.count a.hz.now)) a.a a.b a.c a.rank c.if-a-rank.false c.if-b-rank.true), c.frame_of-then-b-rank.ensures.1)
+pub returns-then-s-rank : goal.returns-then-s-rank
+returns-then-s-rank c =
+    let a = c.args in
+    let rs = readings_of (take a.count a.at.now) (take a.count a.lo.now) (take a.count a.hz.now) in
+    (c.frame_of.ensures.0 ∙ sym (rank_here a.rate rs a.spans.now a.rank c.loop-s.s-index _ c.loop-s-test.true c.if-s-rank.true) ∙ c.loop-s.invariant, c.frame_of.ensures.1 ∙ c.loop-s.auto.out)
 
-pub returns-then-c-rank : goal.returns-then-c-rank
-returns-then-c-rank c =
-    let a = c.args in (c.frame_of-then-c-rank.ensures.0 ∙ sym (rank-c a.rate (readings_of (take a.count a.at.now) (take a.count a.lo.now) (take a.count a.hz.now)) a.a a.b a.c a.rank c.if-a-rank.false c.if-b-rank.false c.if-c-rank.true), c.frame_of-then-c-rank.ensures.1)
+pub loop-s-preserved : goal.loop-s-preserved
+loop-s-preserved c =
+    let a = c.args in
+    let rs = readings_of (take a.count a.at.now) (take a.count a.lo.now) (take a.count a.hz.now) in
+    sym (rank_later a.rate rs a.spans.now a.rank c.loop-s.s-index _ c.loop-s-test.true c.if-s-rank.false) ∙ c.loop-s.invariant
 
 pub returns : goal.returns
 returns c =
-    let a = c.args in (sym (rank_none a.rate (readings_of (take a.count a.at.now) (take a.count a.lo.now) (take a.count a.hz.now)) a.a a.b a.c a.rank c.if-a-rank.false c.if-b-rank.false c.if-c-rank.false), refl)
+    let a = c.args in
+    let rs = readings_of (take a.count a.at.now) (take a.count a.lo.now) (take a.count a.hz.now) in
+    (sym (rank_none a.rate rs a.spans.now a.rank c.loop-s.s-index (record { rank = 0; time = nan; end = nan }) c.loop-s-test.false) ∙ c.loop-s.invariant, c.loop-s.auto.out)

@@ -2,6 +2,7 @@ use mathlib.Core.Path.{sym, ap, ◌∙◌}
 use lib.ListN.{length}
 use lib.Seq.{sets}
 use Rattle.grip.proofs.AnswerLaws.{hears_short, hears-long, hears-bad, hears-time, hears-numbers}
+use Rattle.grip.proofs.TimeLaws.{finite_is}
 use Rattle.grip.proofs.MarkLaws.{unmarked}
 use borrow.Author.Rules.{rules}
 use Rattle.grip.proofs.on_air.Goals as goal
@@ -30,7 +31,7 @@ returns-then-not-is_finite c =
     let a = c.args in
     let m = c.mark_all in
     hears-time a.records.now a.x a.numbers.now c.if-numbers-records.false c.if-records-gt-MOST_RECORD_BYTES.false (sym m.ensures.0 ∙ c.if-not-mark_all.false)
-    (sym c.is_finite.ensures ∙ c.if-not-is_finite.true)
+    (sym (c.is_finite.ensures.value ∙ finite_is c.args.x) ∙ c.if-not-is_finite.true)
 
 pub returns : goal.returns
 returns c =
@@ -38,4 +39,4 @@ returns c =
     let m = c.mark_all in
     let k = c.note_all in
     hears-numbers a.records.now a.x a.numbers.now c.if-numbers-records.false c.if-records-gt-MOST_RECORD_BYTES.false (sym m.ensures.0 ∙ c.if-not-mark_all.false)
-    (sym c.is_finite.ensures ∙ c.if-not-is_finite.false) k.result k.new.numbers (k.ensures.0 ∙ ap length m.ensures.1) (k.ensures.1 ∙ ap (sets a.numbers.now 0) m.ensures.1)
+    (sym (c.is_finite.ensures.value ∙ finite_is c.args.x) ∙ c.if-not-is_finite.false) k.result k.new.numbers (k.ensures.0 ∙ ap length m.ensures.1) (k.ensures.1 ∙ ap (sets a.numbers.now 0) m.ensures.1)

@@ -1,42 +1,55 @@
-use borrow.Author.Rules.{rules}
-use native.Mathlib.Omega.{arith}
-use mathlib.Core.Path.{refl, sym, ap, ◌∙◌}
-use mathlib.Core.List.{[]}
-use Prim.Native.Nat.{◌+◌, ◌<◌}
-use lib.ListN.{drop, get_or}
-use Rattle.event_list.specs.Events.{events_of, wholes}
-use Rattle.event_list.proofs.EventLaws.{length-records, event_part}
+use Rattle.std.proofs.Common.{◌≡◌, ◌<◌, length, refl, sym, ap, ◌∙◌, arith, length-append}
+use Rattle.std.specs.Slice.Iter.{chunks_exact_rest}
+use Rattle.limits.specs.Limits.{record_size}
+use Rattle.event_list.specs.Events.{events_of, list_ok}
+use Rattle.event_list.proofs.EventLaws.{ok_next, ok_last}
 use Rattle.grip.specs.declared.Best.{Best}
-use Rattle.grip.specs.Reading.{looked, looks}
-use Rattle.grip.proofs.NearLaws.{looks-turn, looks_end, looked-count}
+use Rattle.grip.specs.Reading.{looks}
+use Rattle.grip.proofs.NearLaws.{looks-next, looks-last, looked-count}
 use Rattle.grip.proofs.read_records.Goals as goal
 
-pub loop-i-init : goal.loop-i-init
-loop-i-init c = (search rules, search rules, refl)
+pub loop-r-init : goal.loop-r-init
+loop-r-init c =
+    let e = c.into_iter-r-iterator.ensures.into_iter_gives in
+    let x = c.chunks_exact-r-items.ensures in
+    rw (e, x.rest, x.size) (record { size = refl; count = refl; tested = refl; looked = refl })
 
 pub looked_at-best-requires : goal.looked_at-best-requires
-looked_at-best-requires c = (search rules, omega (arith, c.loop-i.invariant.1, c.requires, c.loop-i-test.true))
+looked_at-best-requires c =
+    let l = c.loop-r in
+    let s = c.in-Some.ensures.steps in
+    let whole = s.1.1 ∙ l.invariant.size in
+    let split = ap length s.1.0 ∙ length-append c.in-Some.r.now (chunks_exact_rest c.next.new.self) in
+    (omega arith, omega (arith, l.invariant.count, c.requires))
 
-pub loop-i-preserved : goal.loop-i-preserved
-loop-i-preserved c =
+pub loop-r-preserved : goal.loop-r-preserved
+loop-r-preserved c =
     let a = c.args in
-    let x = a.records.now in
-    let es = events_of x in
-    let l = c.loop-i in
-    let h : l.i < wholes x = omega (arith, c.loop-i-test.true) in
-    let e = c.looked_at-best.ensures ∙ ap (looked a.grip a.within l.best) (event_part x l.i h) in (
-      omega (arith, c.loop-i-test.true),
-      omega (arith, ap (λ (b : Best). b.count) e, looked-count a.grip a.within l.best (get_or es l.i []), l.invariant.1),
-      ap (λ (b : Best). looks a.grip a.within b (drop (l.i + 1) es)) e
-          ∙ sym (looks-turn a.grip a.within l.best es l.i (omega (arith, length-records (wholes x) x)))
-          ∙ l.invariant.2,
-    )
+    let l = c.loop-r in
+    let s = c.in-Some.ensures.steps in
+    let split = s.1.0 in
+    let whole = s.1.1 ∙ l.invariant.size in
+    let e = c.looked_at-best.ensures in
+    let n = ap (λ (b : Best). b.count) e ∙ looked-count a.grip a.within l.best c.in-Some.r.now in
+    record {
+      size = s.0 ∙ l.invariant.size;
+      count = omega (arith, n, whole, ap length split, length-append c.in-Some.r.now (chunks_exact_rest c.next.new.self), l.invariant.count);
+      tested = ok_next _ _ _ split whole l.ok _ _ c.record_ok-ok.ensures l.invariant.tested;
+      looked = ap (λ (b : Best). looks a.grip a.within b (events_of (chunks_exact_rest c.next.new.self))) e ∙ sym (looks-next a.grip a.within _ _ _ split whole l.best) ∙ l.invariant.looked;
+    }
+
+pub returns-then-not-ok : goal.returns-then-not-ok
+returns-then-not-ok c =
+    let l = c.loop-r in
+    let h : length (chunks_exact_rest l.r-iterator) < record_size = omega (arith, c.in-None.ensures.steps.1.0, l.invariant.size) in
+    let e : list_ok c.args.records.now ≡ l.ok = sym (ok_last _ h l.ok _ l.invariant.tested) in
+    (rw (e, c.if-not-ok.true) refl, tt)
 
 pub returns : goal.returns
 returns c =
     let a = c.args in
-    let x = a.records.now in
-    let l = c.loop-i in (
-      sym (looks_end a.grip a.within l.best (events_of x) l.i (omega (arith, length-records (wholes x) x, c.loop-i-test.false))) ∙ l.invariant.2,
-      omega (arith, l.invariant.1, c.loop-i-test.false),
-    )
+    let l = c.loop-r in
+    let h : length (chunks_exact_rest l.r-iterator) < record_size = omega (arith, c.in-None.ensures.steps.1.0, l.invariant.size) in
+    let e : list_ok a.records.now ≡ l.ok = sym (ok_last _ h l.ok _ l.invariant.tested) in
+    let b : l.best ≡ looks a.grip a.within a.b (events_of a.records.now) = sym (looks-last a.grip a.within _ h l.best) ∙ l.invariant.looked in
+    (rw (e, c.if-not-ok.false, b) refl, omega (arith, h, l.invariant.count))

@@ -1,11 +1,7 @@
 -- The invariant: what was seen is valid just where the first samples of both halves are.
 use mathlib.Core.Path.{◌≡◌}
-use Prim.Native.Nat.{◌-◌, ◌≤◌}
 use Rattle.limits.proofs.Pairs.{seen}
 use Rattle.limits.proofs.all_dbm.Given as goal
 
 abbrev pub invariant-loop-i : goal.invariant-loop-i
-invariant-loop-i l = (l.i ≤ l.half) × (l.ok ≡ seen l.dbm l.half l.i)
-
-abbrev pub decreases-loop-i : goal.decreases-loop-i
-decreases-loop-i l = l.half - l.i
+invariant-loop-i l = l.ok ≡ seen l.dbm l.half l.i

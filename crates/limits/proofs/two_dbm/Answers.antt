@@ -9,6 +9,6 @@ returns c =
     let b = c.args.b in
     rw (lowest_is, highest_is)
     (elim c.if-a-b.branch [
-      | then-a-b w ↦ rw (w.lower-is, w.higher-is) (two_less a b w.if-a-b.true)
-      | else-a-b w ↦ rw (w.lower-is, w.higher-is) (two_more a b w.if-a-b.false)
+      | then-a-b w ↦ rw w.lower-is (two_less a b w.if-a-b.true)
+      | else-a-b w ↦ rw w.lower-is (two_more a b w.if-a-b.false)
     ])

@@ -1,8 +1,9 @@
-use mathlib.Core.Path.{ap}
-use mathlib.Core.Bool.{false}
-use Rattle.frequency.specs.declared.FrequencyTracker.{FrequencyTracker}
-use Rattle.listening.specs.declared.Listener.{Listener}
+use mathlib.Core.Path.{refl, ◌∙◌}
+use Rattle.listening.proofs.StepLaws.{taken, accepted_ok}
 use Rattle.listening.proofs.fresh.Goals as goal
 
+pub unwrap-tracker-requires : goal.unwrap-tracker-requires
+unwrap-tracker-requires c = accepted_ok _ (c.new.ensures.number ∙ taken)
+
 pub returns : goal.returns
-returns c = ap (λ (t : FrequencyTracker). let l : Listener = record { started = false; passed = 0; samples = 0; frames = 0; messages = 0; tracker = t } in l) c.new-t.ensures.1
+returns c = let t = rw c.unwrap-tracker.ensures at c.new.ensures.value in rw t refl

@@ -4,10 +4,10 @@ use Rattle.listening_lines.proofs.TextLaws.{as_text}
 use borrow.Author.Rules.{rules}
 use Rattle.listening_lines.proofs.add_hz.Goals as goal
 
-pub returns-in-Nothing : goal.returns-in-Nothing
+pub returns-in-None : goal.returns-in-None
 unfolding hz_text
-returns-in-Nothing c = record { added = as_text (ap hz_text (sym c.in-Nothing.is)) c.add_byte.ensures; upper_bound = search rules }
+returns-in-None c = record { added = as_text (ap hz_text (sym c.in-None.is)) c.add_byte.ensures; upper_bound = search rules }
 
-pub returns-in-Hz : goal.returns-in-Hz
+pub returns-in-Some : goal.returns-in-Some
 unfolding hz_text
-returns-in-Hz c = record { added = as_text (ap hz_text (sym c.in-Hz.is)) c.add_number.ensures.added; upper_bound = search rules }
+returns-in-Some c = record { added = as_text (ap hz_text (sym c.in-Some.is)) (rw c.from.ensures at c.add_number.ensures.added); upper_bound = search rules }

@@ -1,8 +1,10 @@
 use mathlib.Core.Path.{◌∙◌}
+use Rattle.limits.specs.Answer.{said_by}
 use Rattle.listening_records.proofs.EmissionLaws.{not_started, answered}
 use Rattle.listening_records.proofs.answer_for.Goals as goal
 
 pub returns-then-not-started : goal.returns-then-not-started
+unfolding said_by
 returns-then-not-started c = not_started _ _ (c.if-not-started.true)
 
 pub returns : goal.returns

@@ -1,5 +1,5 @@
 -- The invariant: the first i records are told.
-use Prim.Native.Nat.{ℕ, ◌-◌, ◌≤◌}
+use Prim.Native.Nat.{ℕ}
 use mathlib.Core.List.{List}
 use lib.ListN.{length}
 use mathlib.Core.Path.{◌≡◌}
@@ -9,11 +9,7 @@ use Rattle.listening_records.proofs.tell_all.Given as goal
 
 abbrev pub invariant-loop-i : goal.invariant-loop-i
 invariant-loop-i l =
-    (l.i ≤ l.count)
-    × (length l.scratch ≡ length l.initial.scratch)
-    × Grown l.i l.initial.m l.m l.initial.out l.out
-    × ((old : List ℕ) (start : ℕ) (p : Emission) → Tells p old start l.initial.m l.initial.out
-    → Tells (emitted_all (record { started = l.started; passed = l.passed; tracker = l.tracker; at = l.at; lo = l.lo; hz = l.hz; room = length l.initial.scratch }) p (records_in l.i l.events)) old start l.m l.out)
-
-abbrev pub decreases-loop-i : goal.decreases-loop-i
-decreases-loop-i l = l.count - l.i
+    (length l.scratch ≡ length l.initial.scratch)
+    × Grown l.i l.initial.t l.t l.initial.out l.out
+    × ((old : List ℕ) (start : ℕ) (p : Emission) → Tells p old start 0 l.initial.t l.initial.out
+    → Tells (emitted_all (record { started = l.started; passed = l.passed; tracker = l.tracker; at = l.at; lo = l.lo; hz = l.hz; room = length l.initial.scratch }) p (records_in l.i l.events)) old start 0 l.t l.out)

@@ -7,5 +7,8 @@ use Rattle.listening_records.proofs.tell_line.Goals as goal
 
 pub returns : goal.returns
 returns c =
-    let a = c.add_message-end in
-    let s = c.args in record { by_index = (λ (old : List ℕ) (start : ℕ) (p : Emission) (h : Tells p old start s.t s.out.now). line_told p old _ _ start a.result s.t s.event.now s.answer a.ensures.added h); within = record { end = a.ensures.upper_bound; frames = omega arith; messages = omega arith; room = a.ensures.added.room } }
+    let a = c.add_message-t.ensures in
+    let s = c.args in record {
+      by_index = λ (old : List ℕ) (start : ℕ) (p : Emission) (h : Tells p old start 0 s.t.now s.out.now). line_told p old _ _ start _ s.t.now s.event.now s.answer a.added h;
+      within = record { end = a.upper_bound; frames = omega arith; messages = omega arith; room = a.added.room };
+    }

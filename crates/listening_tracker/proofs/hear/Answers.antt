@@ -1,21 +1,26 @@
-use native.Mathlib.Omega.{arith}
-use mathlib.Core.Path.{◌≡◌}
-use Rattle.listening_tracker.proofs.TurnLaws.{kept, samples-stop, samples_on}
+use Rattle.limits.specs.Answer.{cause_of}
+use Rattle.listening_tracker.proofs.TurnLaws.{samples-stop, samples_on}
 use Rattle.frequency_grown.proofs.KnownLaws.{grown-known}
 use Rattle.frequency_grown.proofs.RisingLaws.{single-grown, single-rises, after_samples}
 use Rattle.listening_tracker.proofs.hear.Goals as goal
 
-pub samples_rising-b-requires : goal.samples_rising-b-requires
-samples_rising-b-requires c = let g = c.requires in (grown-known (single-grown g), single-rises g)
+pub samples_rising-requires : goal.samples_rising-requires
+samples_rising-requires c = let g = c.requires in (grown-known (single-grown g), single-rises g)
 
-pub returns-then-b-ne0 : goal.returns-then-b-ne0
-returns-then-b-ne0 c =
-    let h : c.samples_rising-b.result.refused ≡ 0 → ⊥ = omega arith in record { turned = samples-stop _ _ _ _ _ _ _ _ _ c.samples_rising-b.ensures h c.refused.ensures; single = kept _ _ _ _ _ c.refused.ensures (c.samples_rising-b.ensures.same_state h) (after_samples _ _ c.requires c.samples_rising-b.ensures) }
+pub returns-in_err-samples_rising : goal.returns-in_err-samples_rising
+unfolding cause_of
+returns-in_err-samples_rising c = record {
+  turned = samples-stop _ _ _ c.in_err-samples_rising.field-0.0 c.from_residual.ensures.1 _ _ _ _ _ c.in_err-samples_rising.ensures;
+  single = after_samples _ _ c.requires c.in_err-samples_rising.ensures;
+}
 
 pub read-requires : goal.read-requires
-read-requires c = after_samples _ _ c.requires c.samples_rising-b.ensures
+unfolding cause_of
+read-requires c = after_samples _ _ c.requires c.in_ok-samples_rising.ensures
 
 pub returns : goal.returns
-returns c =
-    let z : c.samples_rising-b.result.refused ≡ 0 = omega (arith, c.if-b-ne0.false) in
-    record { turned = samples_on _ _ _ _ _ _ _ _ _ _ c.samples_rising-b.ensures z c.read.ensures.turned; single = c.read.ensures.single }
+unfolding cause_of
+returns c = record {
+  turned = samples_on _ _ _ _ _ _ _ _ _ _ c.in_ok-samples_rising.ensures c.read.ensures.turned;
+  single = c.read.ensures.single;
+}

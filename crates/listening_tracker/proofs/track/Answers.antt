@@ -1,28 +1,34 @@
 use native.Mathlib.Omega.{arith}
-use mathlib.Core.Path.{◌≡◌}
-use Rattle.listening_tracker.proofs.TurnLaws.{kept, tuned-stop, tuned_on, turn_of_0, turn-tuned}
+use mathlib.Core.Path.{◌≡◌, refl}
+use Rattle.limits.specs.Answer.{cause_of}
+use Rattle.listening_tracker.proofs.TurnLaws.{tuned-stop, tuned_on, turn_of_0, turn-tuned}
 use Rattle.frequency_grown.proofs.RisingLaws.{after_tuned}
 use Rattle.listening_tracker.proofs.track.Goals as goal
+use Rattle.listening_tracker.proofs.track.Goals.{then-now_hz-ne0+in_ok-tuned, else-now_hz-ne0}
+
+pub returns-in_err-tuned : goal.returns-in_err-tuned
+unfolding cause_of
+returns-in_err-tuned c = record {
+  turned = turn-tuned _ _ _ _ _ _ _ _ _ (omega arith) (tuned-stop _ _ _ _ _ _ _ _ _ _ _ _ _ _ _ c.in_err-tuned.field-0.0 c.from_residual.ensures.1 c.in_err-tuned.ensures refl);
+  single = after_tuned _ _ _ _ _ _ _ _ _ (omega (arith, c.well_formed)) c.requires c.in_err-tuned.ensures;
+}
 
 pub hear-requires : goal.hear-requires
-hear-requires c = c.requires
-
-pub returns-then-now_hz-eq0 : goal.returns-then-now_hz-eq0
-returns-then-now_hz-eq0 c =
-    let z : c.args.now_hz ≡ 0 = omega (arith, c.if-now_hz-eq0) in
-    record { turned = turn_of_0 _ _ _ _ _ _ _ _ z c.hear.ensures.turned; single = c.hear.ensures.single }
-
-pub returns-then-a-ne0 : goal.returns-then-a-ne0
-returns-then-a-ne0 c =
-    let h : c.tuned-a.result.refused ≡ 0 → ⊥ = omega (arith, c.if-a-ne0) in
-    let n : c.args.now_hz ≡ 0 → ⊥ = omega (arith, c.if-now_hz-eq0) in record { turned = turn-tuned _ _ _ _ _ _ _ _ n (tuned-stop _ _ _ _ _ _ _ _ _ _ _ _ _ _ _ c.tuned-a.ensures h c.refused.ensures); single = kept _ _ _ _ _ c.refused.ensures (c.tuned-a.ensures.same_state h) (after_tuned _ _ _ _ _ _ _ _ _ (omega (arith, c.well_formed)) c.requires c.tuned-a.ensures) }
-
-pub hear-requires-2 : goal.hear-requires-2
-hear-requires-2 c =
-    after_tuned _ _ _ _ _ _ _ _ _ (omega (arith, c.well_formed)) c.requires c.tuned-a.ensures
+unfolding cause_of
+hear-requires c = elim c.if-now_hz-ne0.branch [
+  | then-now_hz-ne0+in_ok-tuned w ↦ rw (w.t-is, w.tuned-is, w.freq-is) (after_tuned _ _ _ _ _ _ _ _ _ (omega (arith, c.well_formed)) c.requires w.in_ok-tuned.ensures)
+  | else-now_hz-ne0 w ↦ rw (w.t-is, w.tuned-is, w.freq-is) c.requires
+]
 
 pub returns : goal.returns
+unfolding cause_of
 returns c =
-    let z : c.tuned-a.result.refused ≡ 0 = omega (arith, c.if-a-ne0) in
-    let n : c.args.now_hz ≡ 0 → ⊥ = omega (arith, c.if-now_hz-eq0) in
-    record { turned = turn-tuned _ _ _ _ _ _ _ _ n (tuned_on _ _ _ _ _ _ _ _ _ _ _ _ _ _ _ c.tuned-a.ensures _ z c.requires c.hear-2.ensures.turned); single = c.hear-2.ensures.single }
+    let h = c.hear.ensures in
+    elim c.if-now_hz-ne0.branch [
+      | then-now_hz-ne0+in_ok-tuned w ↦
+          let n : c.args.now_hz ≡ 0 → ⊥ = omega (arith, w.if-now_hz-ne0) in
+          record { turned = turn-tuned _ _ _ _ _ _ _ _ _ n (tuned_on _ _ _ _ _ _ _ _ _ _ _ _ _ _ _ _ w.in_ok-tuned.ensures c.requires (rw (w.t-is, w.tuned-is, w.freq-is) at h.turned)); single = h.single }
+      | else-now_hz-ne0 w ↦
+          let z : c.args.now_hz ≡ 0 = omega (arith, w.if-now_hz-ne0) in
+          record { turned = turn_of_0 _ _ _ _ _ _ _ _ _ z (rw (w.t-is, w.tuned-is, w.freq-is) at h.turned); single = h.single }
+    ]

@@ -11,7 +11,7 @@ returns-then-right c =
     let ppm = to_z-of_z w32 c.args.d.clock_error_ppm (record { sfits = c.struct_told-1.given.1.1.1.1.0.1 }) in
     (if_true c.args.d.frame.crc_ok _ _ _ c.if-right.true (stands _ _ _ (rw ppm at c.join.ensures)).0, omega (arith, joined-few _ _ _ c.join.ensures, c.requires.0), rw ppm at c.put_frame.ensures)
 
-pub returns : goal.returns
-returns c =
+pub returns-else-right : goal.returns-else-right
+returns-else-right c =
     let ppm = to_z-of_z w32 c.args.d.clock_error_ppm (record { sfits = c.struct_told-1.given.1.1.1.1.0.1 }) in
     (if_false c.args.d.frame.crc_ok _ _ _ c.if-right.false refl, omega (arith, c.requires.0), rw ppm at c.put_frame.ensures)

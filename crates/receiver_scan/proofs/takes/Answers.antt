@@ -22,7 +22,7 @@ returns-then-held-burst c =
 
 pub near-requires : goal.near-requires
 near-requires c =
-    let h : length c.args.starts.at ≡ 96 = search rules in
+    let h : length c.args.starts.now.at ≡ 96 = search rules in
     omega arith
 
 pub returns : goal.returns

@@ -1,12 +1,8 @@
--- The invariant: those of the first i that stay lie over the array.
+-- The invariant: those passed that stay lie over the array.
 use mathlib.Core.Path.{◌≡◌}
-use Prim.Native.Nat.{◌-◌, ◌≤◌}
 use lib.ListN.{take}
 use Rattle.receiver_starts.specs.Starts.{lately, over}
 use Rattle.receiver_starts.proofs.forget.Given as goal
 
-abbrev pub invariant-loop-i : goal.invariant-loop-i
-invariant-loop-i l = (l.i ≤ l.n) × (l.t ≡ over l.initial.t (lately l.back (take l.i l.old)))
-
-abbrev pub decreases-loop-i : goal.decreases-loop-i
-decreases-loop-i l = l.n - l.i
+abbrev pub invariant-loop-x : goal.invariant-loop-x
+invariant-loop-x l = l.s ≡ over l.initial.s (lately l.back (take l.x-index l.x-items))

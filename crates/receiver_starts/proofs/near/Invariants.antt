@@ -1,13 +1,7 @@
--- The invariant: x is near one of all just where it is near one of those left.
-use mathlib.Core.Path.{◌≡◌}
-use Prim.Native.Nat.{◌-◌, ◌≤◌}
-use lib.ListN.{take}
-use lib.Seq.{slice}
+-- The invariant: one is near just where one of those left is.
+use Rattle.std.proofs.Common.{◌≡◌, drop, take}
 use Rattle.receiver_starts.specs.Starts.{near_one}
 use Rattle.receiver_starts.proofs.near.Given as goal
 
-abbrev pub invariant-loop-i : goal.invariant-loop-i
-invariant-loop-i l = (l.i ≤ l.n) × (near_one l.rate (take l.n l.starts) l.x ≡ near_one l.rate (slice l.i l.n l.starts) l.x)
-
-abbrev pub decreases-loop-i : goal.decreases-loop-i
-decreases-loop-i l = l.n - l.i
+abbrev pub invariant-loop-d : goal.invariant-loop-d
+invariant-loop-d l = near_one l.rate (take l.n l.starts) l.x ≡ near_one l.rate (drop l.d-index (take l.n l.starts)) l.x

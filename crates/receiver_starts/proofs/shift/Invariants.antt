@@ -1,16 +1,12 @@
--- The invariant: the first i are moved, the others not, and none of those is too old to be.
 use mathlib.Core.Bool.{true}
+-- The invariant: those passed are moved, and those left are not too old.
 use mathlib.Core.List.{◌++◌}
 use mathlib.Core.Path.{◌≡◌}
-use Prim.Native.Nat.{◌-◌, ◌^◌, ◌≤◌}
-use lib.ListN.{drop, take}
-use lib.Seq.{slice}
+use Prim.Native.Nat.{◌^◌}
+use lib.ListN.{drop, length, take}
 use Rattle.receiver_starts.specs.Starts.{all_from, moved}
 use Rattle.receiver_starts.proofs.shift.Given as goal
 
-abbrev pub invariant-loop-i : goal.invariant-loop-i
-invariant-loop-i l =
-    (l.i ≤ l.n) × (l.t.count ≡ l.n) × (l.t.at ≡ moved l.by (take l.i l.s.at) ++ drop l.i l.s.at) × (all_from (2 ^ 30) (slice l.i l.n l.s.at) ≡ true)
-
-abbrev pub decreases-loop-i : goal.decreases-loop-i
-decreases-loop-i l = l.n - l.i
+abbrev pub invariant-loop-x : goal.invariant-loop-x
+invariant-loop-x l = (all_from (2 ^ 30) (drop l.x-index l.initial.x-items) ≡ true)
+    × (l.x-items ≡ moved l.by (take l.x-index l.initial.x-items) ++ drop l.x-index l.initial.x-items)

@@ -1,30 +1,42 @@
-use mathlib.Core.Path.{◌∙◌, ◌≡◌, sym}
+use mathlib.Core.List.{List}
+use mathlib.Core.Path.{◌∙◌, ◌≡◌, refl, sym}
+use Prim.Native.Nat.{◌+◌, ◌≤◌}
 use native.Mathlib.Omega.{arith}
-use lib.ListN.{length}
+use lib.ListN.{drop, length, length-set, set, take}
+use lib.Seq.{drop-length, drop-set-lt, length-take-le}
 use borrow.Author.Rules.{rules}
 use Rattle.ledger.specs.Room.{open_places}
+use Rattle.ledger.specs.declared.Pending.{Pending}
 use Rattle.receiver_message.proofs.SpanLaws.{length_mapped}
 use Rattle.receiver_waiting.proofs.WaitingLaws.{keep_all, keep-leaves, keep_none, keep-stays, outside-message}
 use Rattle.receiver_waiting.specs.Waiting.{leaves}
 use Rattle.receiver_waiting.proofs.keep.Goals as goal
 
-pub loop-i-init : goal.loop-i-init
-loop-i-init c = let a = c.args in (search rules, search rules, keep_none (leaves a.all a.now) a.w.messages a.old.messages)
+pub loop-p-init : goal.loop-p-init
+loop-p-init c =
+    let a = c.args in
+    (omega arith, keep_none (leaves a.all a.now) (take a.w.now.count a.w.now.messages) a.old.now.messages)
 
-pub loop-i-preserved-then-not-leaves : goal.loop-i-preserved-then-not-leaves
-loop-i-preserved-then-not-leaves c = let a = c.args in
-    let l = c.loop-i in
-    let h : length a.w.messages ≡ open_places = search (rules, length_mapped, c.well_formed) in
-    let g : length a.old.messages ≡ open_places = search (rules, length_mapped, c.well_formed) in
-    (omega arith, omega arith, keep-stays (leaves a.all a.now) a.w.messages a.old.messages l.t.messages l.i l.k outside-message (omega arith) l.invariant.2 (omega arith) (sym c.leaves.ensures ∙ c.if-not-leaves.true))
+pub loop-p-preserved : goal.loop-p-preserved
+loop-p-preserved c =
+    let a = c.args in
+    let l = c.loop-p in
+    let ms : List Pending = take a.w.now.count a.w.now.messages in
+    let h : length a.w.now.messages ≡ open_places = search (rules, length_mapped, c.well_formed) in
+    let g : length a.old.now.messages ≡ open_places = search (rules, length_mapped, c.well_formed) in
+    let n : length ms ≡ a.w.now.count = length-take-le a.w.now.count a.w.now.messages (omega arith) in
+    (omega arith, keep-stays (leaves a.all a.now) ms a.old.now.messages l.old.messages l.p-index l.k outside-message (omega arith) l.invariant.1 (omega arith) (sym c.leaves.ensures ∙ c.if-leaves.false))
 
-pub loop-i-preserved : goal.loop-i-preserved
-loop-i-preserved c = let a = c.args in
-    let l = c.loop-i in
-    let h : length a.w.messages ≡ open_places = search (rules, length_mapped, c.well_formed) in
-    (omega arith, omega arith, keep-leaves (leaves a.all a.now) a.w.messages a.old.messages l.t.messages l.i l.k outside-message (omega arith) l.invariant.2 (sym c.leaves.ensures ∙ c.if-not-leaves.false))
+pub loop-p-preserved-then-leaves : goal.loop-p-preserved-then-leaves
+loop-p-preserved-then-leaves c =
+    let a = c.args in
+    let l = c.loop-p in
+    let ms : List Pending = take a.w.now.count a.w.now.messages in
+    (omega arith, keep-leaves (leaves a.all a.now) ms a.old.now.messages l.old.messages l.p-index l.k outside-message (omega arith) l.invariant.1 (sym c.leaves.ensures ∙ c.if-leaves.true))
 
 pub returns : goal.returns
-returns c = let a = c.args in
-    let l = c.loop-i in
-    keep_all (leaves a.all a.now) a.w.messages a.old l.t.messages l.i a.w.count l.k (omega arith) l.invariant.2
+returns c =
+    let a = c.args in
+    let l = c.loop-p in
+    let ms : List Pending = take a.w.now.count a.w.now.messages in
+    keep_all (leaves a.all a.now) ms a.old.now l.old.messages l.p-index l.k (omega arith) l.invariant.1

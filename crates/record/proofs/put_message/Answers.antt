@@ -12,7 +12,7 @@ use Rattle.record.proofs.put_message.Goals as goal
 
 pub put_front-requires : goal.put_front-requires
 put_front-requires c =
-    (omega (arith, c.requires), search rules, search rules)
+    omega (arith, c.requires)
 
 pub overflow_add-at : goal.overflow_add-at
 overflow_add-at c =
@@ -26,8 +26,8 @@ pub overflow_add-at-3 : goal.overflow_add-at-3
 overflow_add-at-3 c =
     record { fits = omega (arith, c.requires, c.well_formed.1.1.0.0) }
 
-pub put_u64-requires : goal.put_u64-requires
-put_u64-requires c =
+pub put-requires : goal.put-requires
+put-requires c =
     let a = c.args in
     let o1 = c.put_front.new.out in
     let o2 = c.put_middle.new.out in
@@ -48,6 +48,6 @@ put_u64-requires c =
 pub returns : goal.returns
 returns c = let a = c.args in
     message-written a.mark a.m (search rules) (search rules) c.message_head.result _ c.end_of.result a.out.now a.at
-    c.put_front.new.out c.put_middle.new.out c.put_spans.new.out c.put_u64.new.out
+    c.put_front.new.out c.put_middle.new.out c.put_spans.new.out c.put.new.out
     c.message_head.ensures (to_z-of_z w32 a.m.clock_error_ppm (search rules)) c.end_of.ensures
-    c.put_front.ensures c.put_middle.ensures c.put_spans.ensures c.put_u64.ensures
+    c.put_front.ensures c.put_middle.ensures c.put_spans.ensures c.put.ensures

@@ -6,4 +6,4 @@ pub returns-then-x : goal.returns-then-x
 returns-then-x c = plain-zero binary32 _ _ zero32_is c.if-x.true
 
 pub returns : goal.returns
-returns c = plain_other binary32 _ _ _ zero32_is c.if-x.false c.bits_of_f32.ensures
+returns c = plain_other binary32 _ _ _ zero32_is c.if-x.false c.f32_to_bits_with_nan.ensures

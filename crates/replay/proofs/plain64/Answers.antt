@@ -6,4 +6,4 @@ pub returns-then-x : goal.returns-then-x
 returns-then-x c = plain-zero binary64 _ _ zero64_is c.if-x.true
 
 pub returns : goal.returns
-returns c = plain_other binary64 _ _ _ zero64_is c.if-x.false c.bits_of_f64.ensures
+returns c = plain_other binary64 _ _ _ zero64_is c.if-x.false c.f64_to_bits_with_nan.ensures

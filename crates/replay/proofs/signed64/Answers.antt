@@ -1,11 +1,11 @@
-use native.Mathlib.Omega.{arith}
-use mathlib.Core.Path.{◌≡◌, refl, ap, ◌∙◌}
+use mathlib.Core.Path.{◌≡◌, refl, ◌∙◌}
 use mathlib.Core.Bool.{Bool, true, false, cond}
 use Prim.Native.Nat.{ℕ, suc, ◌-◌, ◌^◌}
 use lib.Dec.{ltb}
 use lib.IntN.{pos, negsuc}
 use mir.Syntax.{w64}
 use mir.Val.{to_z, sel}
+use mir.ValLaws.{to_z-of_z}
 use Rattle.endian.specs.Bytes.{signed_of}
 use Rattle.replay.proofs.signed64.Goals as goal
 
@@ -18,11 +18,5 @@ number_is n = go (ltb n (2 ^ 63))
     go true = refl
     go false = refl
 
-pub returns-then-n-lt9223372036854775808 : goal.returns-then-n-lt9223372036854775808
-returns-then-n-lt9223372036854775808 c = number_is c.args.n
-
 pub returns : goal.returns
-returns c =
-    let n = c.args.n in
-    let e : 18446744073709551615 - (18446744073709551615 - n) ≡ n = omega arith in
-    ap (to_z w64) e ∙ number_is n
+returns c = to_z-of_z w64 c.cast_signed.result (record { sfits = c.cast_signed.type_inv }) ∙ c.cast_signed.ensures ∙ number_is c.args.n

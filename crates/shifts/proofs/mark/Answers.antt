@@ -9,7 +9,7 @@ returns-in_default c = rw c.in_default.is refl
 
 pub returns-then-not-in_range : goal.returns-then-not-in_range
 unfolding mark_from
-returns-then-not-in_range c = rw (c.in-Given.is, sym c.in_range.ensures ∙ c.if-not-in_range.true) refl
+returns-then-not-in_range c = rw (c.in-Some.is, sym c.in_range.ensures ∙ c.if-not-in_range.true) refl
 
 pub whole_second-t-requires : goal.whole_second-t-requires
 whole_second-t-requires c = sym c.in_range.ensures ∙ c.if-not-in_range.false
@@ -18,5 +18,5 @@ pub returns : goal.returns
 returns c =
     let a = c.args in
     c.mark_at.ensures
-    ∙ given-mark a.s.start _ a.s a.closed.now a.time c.whole_second-t.result c.in-Given.is
+    ∙ given-mark a.s.start _ a.s a.closed.now a.time c.whole_second-t.result c.in-Some.is
     (sym c.in_range.ensures ∙ c.if-not-in_range.false) c.whole_second-t.ensures.0

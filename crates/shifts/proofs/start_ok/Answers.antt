@@ -2,10 +2,10 @@ use mathlib.Core.Path.{refl}
 use Rattle.shifts.specs.Shifts.{start_ok}
 use Rattle.shifts.proofs.start_ok.Goals as goal
 
-pub returns-in-Given : goal.returns-in-Given
+pub returns-in-Some : goal.returns-in-Some
 unfolding start_ok
-returns-in-Given c = rw c.in-Given.is refl
+returns-in-Some c = rw c.in-Some.is refl
 
-pub returns-in-Unknown : goal.returns-in-Unknown
+pub returns-in-None : goal.returns-in-None
 unfolding start_ok
-returns-in-Unknown c = rw c.in-Unknown.is refl
+returns-in-None c = rw c.in-None.is refl

@@ -6,19 +6,18 @@ use Rattle.writer.proofs.Stores.{digit-turn, digit_end, digit_start}
 use Rattle.writer.proofs.put_digits.Goals as goal
 
 pub loop-i-init : goal.loop-i-init
-loop-i-init c = (search rules, refl, digit_start c.args.out.now c.args.at c.args.n c.args.x)
+loop-i-init c = (refl, digit_start c.args.out.now c.args.at c.args.n c.args.x)
 
 pub loop-i-preserved : goal.loop-i-preserved
 loop-i-preserved c =
     let l = c.loop-i in
     let a = c.args in (
-      search rules,
-      simp length-set l.invariant.1,
-      digit-turn l.out a.at a.n a.x l.i _ (a.n - 1 - l.i) c.loop-i-test.true refl refl ∙ l.invariant.2,
+      simp length-set l.invariant.0,
+      digit-turn l.out a.at a.n a.x l.i _ (a.n - 1 - l.i) (search rules) refl refl ∙ l.invariant.1,
     )
 
 pub returns : goal.returns
 returns c =
     let l = c.loop-i in
     let a = c.args in
-    sym (digit_end l.out a.at a.n a.x l.i (search rules)) ∙ l.invariant.2
+    sym (digit_end l.out a.at a.n a.x l.i (search rules)) ∙ l.invariant.1

@@ -3,6 +3,7 @@ use Prim.Native.Nat.{◌+◌, ◌*◌}
 use native.Mathlib.Omega.{arith}
 use lib.ListN.{length}
 use lib.Seq.{length-take-le}
+use Rattle.limits.specs.Answer.{said_by}
 use Rattle.frame.specs.Sizes.{auth_size}
 use Rattle.writer.proofs.Sent.{Sendable}
 use Rattle.writer.proofs.WriteLaws.{size_most, count_is, body_read_back, body_are, body-odd, refuses, writes, cause-short, cause-long, cause-both, cause-counter, cause-auth, no_cause}
@@ -20,26 +21,31 @@ sendable c =
     }
 
 pub returns-then-out-lt-ALL_PLACES : goal.returns-then-out-lt-ALL_PLACES
+unfolding said_by
 returns-then-out-lt-ALL_PLACES c =
     let a = c.args in
     refuses a.fields a.payload.now a.auth.now a.out.now 1 (cause-short a.fields a.payload.now a.auth.now a.out.now c.if-out-lt-ALL_PLACES.true)
 
 pub returns-then-payload-gt-MOST_PAYLOAD : goal.returns-then-payload-gt-MOST_PAYLOAD
+unfolding said_by
 returns-then-payload-gt-MOST_PAYLOAD c =
     let a = c.args in
     refuses a.fields a.payload.now a.auth.now a.out.now 9 (cause-long a.fields a.payload.now a.auth.now a.out.now c.if-out-lt-ALL_PLACES.false c.if-payload-gt-MOST_PAYLOAD.true)
 
 pub returns-then-bit_and_payload : goal.returns-then-bit_and_payload
+unfolding said_by
 returns-then-bit_and_payload c =
     let a = c.args in
     refuses a.fields a.payload.now a.auth.now a.out.now 9 (cause-both a.fields a.payload.now a.auth.now a.out.now c.if-out-lt-ALL_PLACES.false c.if-payload-gt-MOST_PAYLOAD.false (sym c.bit_and_payload.ensures ∙ c.if-bit_and_payload.true))
 
 pub returns-then-fields-gt-HIGHEST_COUNTER : goal.returns-then-fields-gt-HIGHEST_COUNTER
+unfolding said_by
 returns-then-fields-gt-HIGHEST_COUNTER c =
     let a = c.args in
     refuses a.fields a.payload.now a.auth.now a.out.now 9 (cause-counter a.fields a.payload.now a.auth.now a.out.now c.if-out-lt-ALL_PLACES.false c.if-payload-gt-MOST_PAYLOAD.false (sym c.bit_and_payload.ensures ∙ c.if-bit_and_payload.false) c.if-fields-gt-HIGHEST_COUNTER.true)
 
 pub returns-then-auth-called : goal.returns-then-auth-called
+unfolding said_by
 returns-then-auth-called c =
     let a = c.args in
     let r = c.layout_of-layout in
@@ -92,6 +98,7 @@ put_all-requires c =
     )
 
 pub returns : goal.returns
+unfolding said_by
 returns c =
     let a = c.args in
     let s = sendable (goal.at.returns c).Else-auth-called in

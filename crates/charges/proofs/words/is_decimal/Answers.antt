@@ -1,24 +1,22 @@
+use Rattle.std.proofs.Common.{◌≡◌, ℕ, Bool, ◌&&◌, not, eqb, ltb, List, [], ◌∷◌, length, refl, sym, ap, ◌∙◌, ne_eqb, lt-ltb}
+use Rattle.charges.specs.Words.{are_digits}
 use native.Mathlib.Omega.{arith}
-use mathlib.Core.Path.{◌≡◌}
-use Prim.Native.Nat.{◌<◌}
-use lib.ListN.{length}
-use Rattle.charges.proofs.WordLaws.{digits_first, digits-turn, digits_end}
+use Rattle.charges.proofs.WordLaws.{digits-turn, digits_end}
 use Rattle.charges.proofs.words.is_decimal.Goals as goal
 
-pub loop-i-init : goal.loop-i-init
-loop-i-init c =
-    (c.requires, digits_first c.args.text.now c.args.from)
+some : (l : List ℕ) → not (eqb (length l) 0) ≡ ltb 0 (length l)
+some [] = refl
+some (x ∷ l) = ap not (ne_eqb (length (x ∷ l)) 0 (λ e. omega (arith, e))) ∙ sym (lt-ltb 0 (length (x ∷ l)) (omega arith))
 
-pub loop-i-preserved : goal.loop-i-preserved
-loop-i-preserved c =
-    let x = c.args.text.now in
-    let l = c.loop-i in
-    let h : l.i < length x = omega (arith, c.loop-i-test.true) in
-    (omega arith, digits-turn x l.i l.ok c.is_digit-here.result _ h c.is_digit-here.ensures l.invariant.1)
+pub loop-c-init : goal.loop-c-init
+loop-c-init c = ap (λ (t : Bool). t && are_digits c.args.text.now) (ap not c.is_empty-ok.ensures ∙ some c.args.text.now)
+
+pub loop-c-preserved : goal.loop-c-preserved
+loop-c-preserved c =
+    let l = c.loop-c in
+    digits-turn c.args.text.now l.c-index l.ok c.is_digit-ok.result _ (omega arith) c.is_digit-ok.ensures l.invariant
 
 pub returns : goal.returns
 returns c =
-    let x = c.args.text.now in
-    let l = c.loop-i in
-    let e : l.i ≡ length x = omega arith in
-    digits_end x l.i l.ok _ e l.invariant.1
+    let l = c.loop-c in
+    digits_end c.args.text.now l.c-index l.ok _ (omega arith) l.invariant

@@ -1,24 +1,18 @@
 use borrow.Author.Rules.{rules}
 use native.Mathlib.Omega.{arith}
-use mathlib.Core.Path.{◌≡◌, refl}
-use Prim.Native.Nat.{◌<◌}
-use lib.ListN.{length}
+use mathlib.Core.Path.{refl}
 use Rattle.charges.proofs.WordLaws.{number-turn, number_end}
 use Rattle.charges.proofs.words.number.Goals as goal
 
-pub loop-i-init : goal.loop-i-init
-loop-i-init c = (c.requires, search rules, refl)
+pub loop-c-init : goal.loop-c-init
+loop-c-init c = (search rules, refl)
 
-pub loop-i-preserved : goal.loop-i-preserved
-loop-i-preserved c =
-    let x = c.args.text.now in
-    let l = c.loop-i in
-    let h : l.i < length x = omega (arith, c.loop-i-test.true) in
-    (omega arith, c.then-n.ensures.1, number-turn x l.i l.n c.then-n.result _ h c.then-n.ensures.0 l.invariant.2)
+pub loop-c-preserved : goal.loop-c-preserved
+loop-c-preserved c =
+    let l = c.loop-c in
+    (c.then-n.ensures.1, number-turn c.args.text.now l.c-index l.n c.then-n.result _ (omega arith) c.then-n.ensures.0 l.invariant.1)
 
 pub returns : goal.returns
 returns c =
-    let x = c.args.text.now in
-    let l = c.loop-i in
-    let e : l.i ≡ length x = omega arith in
-    (number_end x l.i l.n _ e l.invariant.2, l.invariant.1)
+    let l = c.loop-c in
+    (number_end c.args.text.now l.c-index l.n _ (omega arith) l.invariant.1, l.invariant.0)

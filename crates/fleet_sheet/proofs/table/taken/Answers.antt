@@ -3,6 +3,7 @@ use lib.Seq.{sets}
 use Rattle.fleet_sheet.specs.declared.rows.Row.{Row}
 use Rattle.fleet_sheet.specs.Table.{Small, numbers}
 use Rattle.fleet_sheet.proofs.TakenLaws.{Found, skips, inside, joins, refuses, opens}
+use Rattle.fleet_sheet.proofs.PlaceLaws.{moved_on}
 use Rattle.fleet_sheet.proofs.RowLaws.{single-small}
 use Rattle.fleet_sheet.proofs.table.taken.Goals as goal
 
@@ -95,7 +96,7 @@ returns c =
       place = c.place-p.ensures.0;
       there = sym c.is_there.ensures ∙ c.if-is_there.false;
     } in
-    let w = opens a.r.now a.n a.ids.now a.table.now d p f (omega (arith, c.if-n-ge-MOST_DEVICES.false)) (set c.shift_ids.new.ids p d) c.put_row-2.new.table
-    (ap (λ (l : List ℕ). set l p d) c.shift_ids.ensures)
-    (c.put_row-2.ensures ∙ cc (c.shift_rows.ensures, c.single-m.ensures)) in
+    let w = opens a.r.now a.n a.ids.now a.table.now d p f (omega (arith, c.if-n-ge-MOST_DEVICES.false)) (set c.copy_within.new.self p d) c.put_row-2.new.table
+    (ap (λ (l : List ℕ). set l p d) (c.copy_within.ensures.after ∙ moved_on 1 p a.n a.ids.now c.place-p.ensures.1))
+    (c.put_row-2.ensures ∙ cc (c.copy_within-2.ensures.after ∙ moved_on 7 (7 * p) (7 * a.n) a.table.now (omega (arith, c.place-p.ensures.1)), c.single-m.ensures)) in
     (w.0, w.1, w.2, c.place-p.ensures.2)

@@ -1,6 +1,5 @@
 -- The invariant: the number of the first `j` plain bits, and the state after them.
 use mathlib.Core.List.{map}
-use Prim.Native.Nat.{◌-◌}
 use lib.ListN.{drop}
 use Rattle.coding.specs.Bits.{odd}
 use Rattle.frame.specs.Plain.{ending}
@@ -9,6 +8,3 @@ use Rattle.frame.proofs.bodies.straight_byte.Given as goal
 
 abbrev pub invariant-loop-j : goal.invariant-loop-j
 invariant-loop-j l = Part l.rank (ending l.last) (drop l.from (map odd l.body)) l.j l.v l.a l.b
-
-abbrev pub decreases-loop-j : goal.decreases-loop-j
-decreases-loop-j l = 8 - l.j

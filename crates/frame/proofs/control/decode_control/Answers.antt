@@ -8,13 +8,13 @@ use Rattle.frame.proofs.control.decode_control.Goals.{then-payload-eq-KEEP_ALIVE
 
 pub returns-then-payload-eq-KEEP_ALIVE : goal.returns-then-payload-eq-KEEP_ALIVE
 returns-then-payload-eq-KEEP_ALIVE c = let l = c.args.payload.now in
-    control-keep l c.get_u16.result c.get_u16-then-payload-eq-KEEP_ALIVE.result c.celsius_of.result c.if-payload-eq-KEEP_ALIVE_SIZE.true c.if-payload-eq-KEEP_ALIVE.true
-    c.get_u16.ensures c.get_u16-then-payload-eq-KEEP_ALIVE.ensures (c.celsius_of.ensures ∙ ap celsius c.get_u16-then-payload-eq-KEEP_ALIVE-2.ensures)
+    control-keep l c.get.result c.get-then-payload-eq-KEEP_ALIVE.result c.celsius_of.result c.if-payload-eq-KEEP_ALIVE_SIZE.true c.if-payload-eq-KEEP_ALIVE.true
+    c.get.ensures c.get-then-payload-eq-KEEP_ALIVE.ensures (c.celsius_of.ensures ∙ ap celsius c.get-then-payload-eq-KEEP_ALIVE-2.ensures)
 
 pub returns-then-payload-eq-CONFIRMATION : goal.returns-then-payload-eq-CONFIRMATION
 returns-then-payload-eq-CONFIRMATION c = let l = c.args.payload.now in
-    control_confirm l c.get_u16-then-payload-eq-CONFIRMATION.result c.get_u16-then-payload-eq-CONFIRMATION-2.result c.celsius_of-then-payload-eq-CONFIRMATION.result _ c.if-payload-eq-CONFIRMATION_SIZE.true c.if-payload-eq-CONFIRMATION.true
-    c.get_u16-then-payload-eq-CONFIRMATION.ensures c.get_u16-then-payload-eq-CONFIRMATION-2.ensures (c.celsius_of-then-payload-eq-CONFIRMATION.ensures ∙ ap celsius c.get_u16-then-payload-eq-CONFIRMATION-3.ensures)
+    control_confirm l c.get-then-payload-eq-CONFIRMATION.result c.get-then-payload-eq-CONFIRMATION-2.result c.celsius_of-then-payload-eq-CONFIRMATION.result _ c.if-payload-eq-CONFIRMATION_SIZE.true c.if-payload-eq-CONFIRMATION.true
+    c.get-then-payload-eq-CONFIRMATION.ensures c.get-then-payload-eq-CONFIRMATION-2.ensures (c.celsius_of-then-payload-eq-CONFIRMATION.ensures ∙ ap celsius c.get-then-payload-eq-CONFIRMATION-3.ensures)
     (to_z-of_z w32 c.rssi_of.result (record { sfits = c.rssi_of.type_inv }) ∙ c.rssi_of.ensures)
 
 pub returns-else-payload-eq-CONFIRMATION : goal.returns-else-payload-eq-CONFIRMATION

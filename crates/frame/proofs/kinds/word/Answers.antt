@@ -13,7 +13,7 @@ use Rattle.frame.proofs.kinds.word.Goals as goal
 
 pub loop-j-init : goal.loop-j-init
 unfolding value
-loop-j-init c = (omega arith, refl)
+loop-j-init c = refl
 
 pub overflow_add-v : goal.overflow_add-v
 overflow_add-v c = omega (arith, c.wide.ensures, bit_at c.args.bits.now (c.args.at + c.loop-j.j) c.requires.0)
@@ -25,9 +25,9 @@ loop-j-preserved c = let a = c.args in
     let n : j < length z = omega (arith, length-drop a.at (map odd a.bits.now), length-map-odd a.bits.now) in
     let b : get_or a.bits.now (a.at + j) 0 ≡ bit_of (get_or z j false) =
     bit_of_lem a.bits.now (a.at + j) c.requires.0 ∙ ap bit_of (sym (get_or-drop a.at (map odd a.bits.now) j false)) in
-    (omega arith, omega (arith, c.wide.ensures, b, c.loop-j.invariant.1, value-below z j 15 (omega arith) (omega arith), value-next z j n))
+    omega (arith, c.wide.ensures, b, c.loop-j.invariant, value-below z j 15 (omega arith) (omega arith), value-next z j n)
 
 pub returns : goal.returns
 returns c = let a = c.args in
     let e : c.loop-j.j ≡ sync_size = omega arith in
-    c.loop-j.invariant.1 ∙ ap (λ (k : ℕ). value (take k (drop a.at (map odd a.bits.now)))) e
+    c.loop-j.invariant ∙ ap (λ (k : ℕ). value (take k (drop a.at (map odd a.bits.now)))) e

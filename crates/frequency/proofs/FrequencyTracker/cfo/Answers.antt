@@ -1,13 +1,18 @@
-use mathlib.Core.Path.{refl, sym, ◌∙◌}
+use Rattle.std.proofs.Common.{refl, sym}
+use Rattle.limits.specs.Answer.{cause_of}
+use Rattle.limits.proofs.AnswerLaws.{cause_refused}
 use Rattle.frequency.proofs.FrequencyTracker.cfo.Goals as goal
 
-pub returns-then-cause-ne0 : goal.returns-then-cause-ne0
-returns-then-cause-ne0 c =
-    let t = c.if-cause-ne0.true in
-    record { refusal = c.cause_cfo-cause.ensures; state = λ e. absurd (t e); lists = λ e. absurd (t e); same_state = λ e. refl; same_lists = λ e. refl }
+pub returns-in_err-check_cfo : goal.returns-in_err-check_cfo
+unfolding cause_of
+returns-in_err-check_cfo c =
+    let r = cause_refused _ _ _ c.from_residual.ensures.1 c.in_err-check_cfo.ensures in
+    record { refusal = r.0; state = λ e. absurd (r.1 e); lists = λ e. absurd (r.1 e); same_state = λ e. refl; same_lists = λ e. refl }
 
 pub read_line-requires : goal.read_line-requires
-read_line-requires c = sym c.cause_cfo-cause.ensures ∙ c.if-cause-ne0.false
+unfolding cause_of
+read_line-requires c = sym c.in_ok-check_cfo.ensures
 
 pub returns : goal.returns
+unfolding cause_of
 returns c = c.read_line.ensures

@@ -1,25 +1,26 @@
-use Rattle.frequency.proofs.Framing.{free_of, frame_refused, frame_told, as_it_was, freed}
+use Rattle.std.proofs.Common.{◌≡◌, length, Option, Ok, sym, ap, ◌∙◌}
+use Rattle.limits.specs.Answer.{cause_of, said}
+use Rattle.limits.proofs.AnswerLaws.{said_refused, said_accepted, free_kept}
+use Rattle.record.specs.Spans.{span_ok}
+use Rattle.frequency_measure.specs.declared.FrameFrequency.{FrameFrequency}
 use Rattle.frequency.specs.Order.{cause_frame}
-use Rattle.limits.specs.Answer.{accepted}
-use lib.ListN.{length}
-use mathlib.Core.Path.{sym, ap, ◌∙◌}
+use Rattle.frequency.proofs.Framing.{free_of, freed}
 use Rattle.frequency.proofs.FrequencyTracker.frame_frequency.Goals as goal
 
-pub returns-then-cause-ne0 : goal.returns-then-cause-ne0
-returns-then-cause-ne0 c =
+pub returns-in_err-check_frame : goal.returns-in_err-check_frame
+unfolding cause_of
+returns-in_err-check_frame c =
     let a = c.args in
-    let k = c.cause_frame-cause.ensures ∙ ap (cause_frame a.self a.at.now a.lo.now a.hz.now (length a.out.now)) c.span_ok.ensures in
-    record { says = frame_refused a.self a.at.now a.lo.now a.hz.now (length a.out.now) a.f c.cause_frame-cause.result k c.if-cause-ne0.true; scratch = as_it_was _ _ }
+    let k = c.in_err-check_frame.ensures ∙ ap (cause_frame a.self.now a.at.now a.lo.now a.hz.now (length a.out.now)) c.span_ok.ensures in
+    record { says = said_refused _ _ _ c.from_residual.ensures.1 k _; scratch = free_kept _ _ }
 
 pub frame_of-requires : goal.frame_of-requires
-frame_of-requires c =
-    let a = c.args in free_of a.self a.at.now a.lo.now a.hz.now a.out.now c.span_ok.result (sym c.cause_frame-cause.ensures ∙ c.if-cause-ne0.false)
+unfolding cause_of
+frame_of-requires c = let a = c.args in free_of a.self.now a.at.now a.lo.now a.hz.now a.out.now c.span_ok.result (sym c.in_ok-check_frame.ensures)
 
 pub returns : goal.returns
+unfolding cause_of
 returns c =
     let a = c.args in
-    let k = c.cause_frame-cause.ensures ∙ ap (cause_frame a.self a.at.now a.lo.now a.hz.now (length a.out.now)) c.span_ok.ensures in
-    record {
-      says = c.frame_answer.ensures ∙ ap accepted c.frame_of.ensures.0 ∙ frame_told a.self a.at.now a.lo.now a.hz.now (length a.out.now) a.f c.cause_frame-cause.result k c.if-cause-ne0.false;
-      scratch = freed _ _ _ (sym k ∙ c.if-cause-ne0.false);
-    }
+    let k : 0 ≡ cause_frame a.self.now a.at.now a.lo.now a.hz.now (length a.out.now) (span_ok a.f) = c.in_ok-check_frame.ensures ∙ ap (cause_frame a.self.now a.at.now a.lo.now a.hz.now (length a.out.now)) c.span_ok.ensures in
+    record { says = ap (λ (m : Option FrameFrequency). said (Ok m)) c.frame_of.ensures.0 ∙ said_accepted _ k _; scratch = freed _ _ _ k }

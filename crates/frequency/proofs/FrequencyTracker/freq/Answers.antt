@@ -1,12 +1,17 @@
-use Rattle.frequency.proofs.Framing.{freq-ordered, freq-refused, freq_told}
-use mathlib.Core.Path.{sym, ◌∙◌}
+use Rattle.std.proofs.Common.{ℕ, Ok, sym, ap, ◌∙◌}
+use Rattle.limits.specs.Answer.{cause_of, said}
+use Rattle.limits.proofs.AnswerLaws.{said_refused, said_accepted}
+use Rattle.frequency.proofs.Framing.{freq-ordered}
 use Rattle.frequency.proofs.FrequencyTracker.freq.Goals as goal
 
-pub returns-then-cause-ne0 : goal.returns-then-cause-ne0
-returns-then-cause-ne0 c = let a = c.args in freq-refused a.self a.tuned.now a.freq.now c.cause_freq-cause.result c.cause_freq-cause.ensures c.if-cause-ne0.true
+pub returns-in_err-check_freq : goal.returns-in_err-check_freq
+unfolding cause_of
+returns-in_err-check_freq c = said_refused _ _ _ c.from_residual.ensures.1 c.in_err-check_freq.ensures _
 
 pub last_freq-requires : goal.last_freq-requires
-last_freq-requires c = let a = c.args in (freq-ordered a.self a.tuned.now a.freq.now (sym c.cause_freq-cause.ensures ∙ c.if-cause-ne0.false)).places.freqs
+unfolding cause_of
+last_freq-requires c = let a = c.args in (freq-ordered a.self.now a.tuned.now a.freq.now (sym c.in_ok-check_freq.ensures)).places.freqs
 
 pub returns : goal.returns
-returns c = let a = c.args in freq_told a.self a.tuned.now a.freq.now c.cause_freq-cause.result c.cause_freq-cause.ensures c.if-cause-ne0.false c.last_freq.result c.last_freq.ensures
+unfolding cause_of
+returns c = ap (λ (f : ℕ). said (Ok f)) c.last_freq.ensures ∙ said_accepted _ c.in_ok-check_freq.ensures _

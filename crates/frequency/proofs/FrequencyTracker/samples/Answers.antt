@@ -1,17 +1,20 @@
-use mathlib.Core.Path.{refl, sym, ◌∙◌}
+use Rattle.std.proofs.Common.{ℕ, refl, sym}
+use Rattle.std.proofs.lemmas.Option.{IfSome_then}
+use Rattle.limits.specs.Answer.{cause_of}
+use Rattle.limits.proofs.AnswerLaws.{cause_refused}
+use Rattle.frequency_retain.specs.Retain.{Looked}
 use Rattle.frequency.proofs.FrequencyTracker.samples.Goals as goal
 
-pub cause_samples-cause-requires : goal.cause_samples-cause-requires
-cause_samples-cause-requires c = λ e. (c.first_look-look.ensures e).within
-
-pub returns-then-cause-ne0 : goal.returns-then-cause-ne0
-returns-then-cause-ne0 c =
-    let t = c.if-cause-ne0.true in
-    record { refusal = c.cause_samples-cause.ensures; state = λ e. absurd (t e); lists = λ e. absurd (t e); same_state = λ e. refl; same_lists = λ e. refl }
+pub returns-in_err-check_samples : goal.returns-in_err-check_samples
+unfolding cause_of
+returns-in_err-check_samples c =
+    let r = cause_refused _ _ _ c.from_residual.ensures.1 c.in_err-check_samples.ensures in
+    record { refusal = r.0; state = λ e. absurd (r.1 e); lists = λ e. absurd (r.1 e); same_state = λ e. refl; same_lists = λ e. refl }
 
 pub hear_line-requires : goal.hear_line-requires
-hear_line-requires c =
-    (sym c.cause_samples-cause.ensures ∙ c.if-cause-ne0.false, λ e. (c.first_look-look.ensures e).front)
+unfolding cause_of
+hear_line-requires c = (sym c.in_ok-check_samples.ensures, IfSome_then _ c.first_look-look.ensures (λ (lead : ℕ) (l : Looked _ _ _ lead _). l.front))
 
 pub returns : goal.returns
+unfolding cause_of
 returns c = c.hear_line.ensures

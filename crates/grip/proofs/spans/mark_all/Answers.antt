@@ -1,42 +1,60 @@
-use mathlib.Core.Path.{◌≡◌, refl, ap, ◌∙◌}
-use Prim.Native.Nat.{ℕ, ◌<◌}
-use native.Mathlib.Omega.{arith}
-use lib.ListN.{length}
-use Rattle.event_list.specs.Events.{events_of, wholes, record_ok, list_ok}
-use Rattle.event_list.proofs.EventLaws.{length-records, event_part, ok_turn, ok_end}
+use Rattle.std.proofs.Common.{◌≡◌, ◌<◌, ℕ, length, refl, ap, ◌∙◌, arith}
+use Rattle.std.specs.Iterator.Adapters.{enumerate_source, enumerate_count}
+use Rattle.std.specs.Slice.Iter.{chunks_exact_rest}
+use Rattle.limits.specs.Limits.{record_size}
+use Rattle.event_list.specs.Events.{events_of, wholes}
+use Rattle.event_list.proofs.EventLaws.{length-records, event_at, ok_next, none_left, ok_last}
 use Rattle.grip.specs.OnAir.{is_on_air}
 use Rattle.grip.specs.Marks.{marked_of}
-use Rattle.grip.proofs.MarkLaws.{length-mark, marked_start, marked_turn, marked_end}
-use borrow.Author.Rules.{rules}
+use Rattle.grip.proofs.MarkLaws.{marked_start, marked_turn, marked_end}
 use Rattle.grip.proofs.spans.mark_all.Goals as goal
 
 pub loop-i-init : goal.loop-i-init
 loop-i-init c =
     let a = c.args in
-    (search rules, refl, refl, marked_start a.x (events_of a.records.now) a.marks.now c.requires.1)
+    let e = c.into_iter-i-iterator.ensures.into_iter_gives in
+    let n = c.enumerate-i-items.ensures in
+    let x = c.chunks_exact.ensures in
+    rw (e, n.source, n.count, x.rest, x.size)
+    (record { size = refl; many = omega arith; place = refl; tested = refl; marked = marked_start a.x (events_of a.«records».now) a.marks.now c.requires.1 })
+
+pub mark-requires : goal.mark-requires
+mark-requires c =
+    let x = c.args.«records».now in
+    let l = c.loop-i in
+    let n = c.in-Some.ensures.steps in
+    let s = n.0 in
+    let at = event_at _ _ _ s.1.0 (s.1.1 ∙ l.invariant.size) (events_of x) _ l.invariant.place in
+    omega (arith, at.0, n.1, length-records (wholes x) x, c.requires.0)
 
 pub loop-i-preserved : goal.loop-i-preserved
 loop-i-preserved c =
     let a = c.args in
+    let x = a.«records».now in
+    let es = events_of x in
     let l = c.loop-i in
-    let es = events_of a.records.now in
-    let h : l.i < wholes a.records.now = omega arith in
-    let hl : l.i < length es = omega (arith, length-records (wholes a.records.now) a.records.now) in
-    let e = event_part a.records.now l.i h in
-    let k = c.mark in
-    let on = c.is_on_air-on in
-    let right = c.record_ok-right in (
-      omega arith,
-      ap length k.ensures ∙ length-mark on.result l.marks l.i ∙ l.invariant.1,
-      ok_turn l.ok es l.i right.result (list_ok a.records.now) hl (right.ensures ∙ ap record_ok e) l.invariant.2,
-      marked_turn a.x es l.i l.marks k.new.marks on.result (omega (arith, l.invariant.1, c.requires.0)) (on.ensures ∙ ap (is_on_air a.x) e) k.ensures l.invariant.3,
-    )
+    let n = c.in-Some.ensures.steps in
+    let s = n.0 in
+    let split = s.1.0 in
+    let whole = s.1.1 ∙ l.invariant.size in
+    let at = event_at _ _ _ split whole es _ l.invariant.place in
+    let next = n.2 in
+    rw next (record {
+      size = s.0 ∙ l.invariant.size;
+      many = omega (arith, at.0);
+      place = at.2;
+      tested = ok_next _ _ _ split whole l.ok _ _ c.record_ok-ok.ensures l.invariant.tested;
+      marked = marked_turn a.x es (enumerate_count l.i-iterator) l.marks c.mark.new.marks c.is_on_air.result (omega (arith, at.0, length-records (wholes x) x, c.requires.0))
+          (c.is_on_air.ensures ∙ ap (is_on_air a.x) at.1) (rw (← n.1) c.mark.ensures) l.invariant.marked;
+    })
 
 pub returns : goal.returns
 returns c =
     let a = c.args in
+    let x = a.«records».now in
+    let es = events_of x in
     let l = c.loop-i in
-    let r = a.records.now in
-    let e : l.i ≡ length (events_of r) = omega (arith, length-records (wholes r) r) in
-    let n : wholes r ≡ l.i = omega arith in
-    (ok_end l.ok (events_of r) l.i (list_ok r) e l.invariant.2, ap (λ (k : ℕ). marked_of k l.marks) n ∙ marked_end a.x (events_of r) l.i l.marks e l.invariant.3)
+    let h : length (chunks_exact_rest (enumerate_source l.i-iterator)) < record_size = omega (arith, c.in-None.ensures.steps.0.1.0, l.invariant.size) in
+    let e : enumerate_count l.i-iterator ≡ length es = none_left _ h es (enumerate_count l.i-iterator) l.invariant.many l.invariant.place in
+    let m : wholes x ≡ enumerate_count l.i-iterator = omega (arith, e, length-records (wholes x) x) in
+    (ok_last _ h l.ok _ l.invariant.tested, ap (λ (k : ℕ). marked_of k l.marks) m ∙ marked_end a.x es _ l.marks e l.invariant.marked)

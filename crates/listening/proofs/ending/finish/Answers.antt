@@ -10,18 +10,18 @@ use Rattle.listening.specs.Hand.{state_of}
 use Rattle.listening.proofs.StepLaws.{ending-added}
 use Rattle.listening.proofs.ending.finish.Goals as goal
 
-pub close-h-requires : goal.close-h-requires
-close-h-requires c =
+pub close-went-requires : goal.close-went-requires
+close-went-requires c =
     let p = c.requires in
     record { standing = p.standing; most_in_bounds = (omega (arith, p.room.1), p.room.0.frames, p.room.0.messages, omega (arith, p.room.0.passed)) }
 
 pub returns : goal.returns
 returns c =
     let s = c.args in
-    let h = c.close-h in
+    let h = c.close-went in
     let a = c.add_last in record {
       added = λ (g : Ledger by_frames) (tuned freq : List ℕ) (st : StandsFor s.receiver s.samples.now g).
-          ending-added (state_of s.l (lists s.at.now s.lo.now s.hz.now tuned freq) g) _ _ _ _ _ _
+          ending-added (state_of s.l (lists s.at.now s.lo.now s.hz.now tuned freq) g) _ _ _ _ _ _ _
           (h.ensures.told g st _ 0 _ (record { refused = refl; frames = refl; messages = refl; text = nothing _ 0 })) a.ensures.added;
       upper_bound = omega (arith, h.ensures.end, a.ensures.upper_bound);
     }

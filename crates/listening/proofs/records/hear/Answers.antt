@@ -42,7 +42,7 @@ loop-i-preserved g c =
     let a = c.loop-i.invariant in
     let less = c.loop-i-test.true in
     let r = c.record_step-r.ensures in
-    along-next _ _ _ _ _ _ _ _ _ _ _ _ _ _ _ _ refl (omega (arith, less, p.1)) a.from _ c.if-going.true a _ _ _ _ _ less r.goes r.steps (went_on c.hand_over-written.result _)
+    rw c.number_of-refused.ensures (along-next _ _ _ _ _ _ _ _ _ _ _ _ _ _ _ _ refl (omega (arith, less, p.1)) a.from _ c.if-going.true a _ _ _ _ _ less r.goes r.steps (went_on c.hand_over-written.result _))
 
 pub returns-else-going : goal.returns-else-going
 returns-else-going g c =

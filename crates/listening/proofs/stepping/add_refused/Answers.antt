@@ -1,13 +1,14 @@
-use mathlib.Core.Path.{◌≡◌, sym}
+use mathlib.Core.Path.{refl}
 use native.Mathlib.Omega.{arith}
+use Rattle.limits.specs.Answer.{cause_of}
 use Rattle.listening_lines.proofs.TextLaws.{as_text}
-use Rattle.listening.proofs.StepLaws.{refusal-line, no_refusal}
+use Rattle.listening.proofs.StepLaws.{refusal-text, no_refusal}
 use Rattle.listening.proofs.stepping.add_refused.Goals as goal
 
-pub returns-then-refused-eq0 : goal.returns-then-refused-eq0
-returns-then-refused-eq0 c = record { added = no_refusal _ _ _ (omega arith); upper_bound = omega arith }
+pub returns-in-Ok : goal.returns-in-Ok
+unfolding cause_of
+returns-in-Ok c = record { added = rw c.in-Ok.is (no_refusal 0 _ _ refl); upper_bound = omega arith }
 
-pub returns : goal.returns
-returns c =
-    let n : c.args.refused ≡ 0 → ⊥ = omega (arith, c.if-refused-eq0.false) in
-    record { added = as_text (sym (refusal-line _ n)) c.add_refusal.ensures.added; upper_bound = c.add_refusal.ensures.upper_bound }
+pub returns-in-Err : goal.returns-in-Err
+unfolding cause_of
+returns-in-Err c = record { added = rw c.in-Err.is (as_text (refusal-text c.in-Err.refusal) c.add_refusal.ensures.added); upper_bound = c.add_refusal.ensures.upper_bound }

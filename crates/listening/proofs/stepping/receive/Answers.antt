@@ -10,17 +10,17 @@ use Rattle.listening.specs.Hand.{state_of}
 use Rattle.listening.proofs.StepLaws.{goes-received}
 use Rattle.listening.proofs.stepping.receive.Goals as goal
 
-pub hear-h-requires : goal.hear-h-requires
-hear-h-requires c =
+pub hear-went-requires : goal.hear-went-requires
+hear-went-requires c =
     let p = c.requires in
     record { standing = p.standing; most_in_bounds = (omega (arith, p.end_le_widest.0, p.end_le_widest.1), p.end_le_widest.3, p.end_le_widest.4, p.end_le_widest.2) }
 
 pub returns : goal.returns
 returns c =
-    let h = c.hear-h in
+    let h = c.hear-went in
     let b = c.add_refused-last.ensures in record {
-      goes = λ (g : Ledger by_frames) (tuned freq old text : List ℕ) (st : StandsFor c.args.receiver c.args.samples.now g) (a : Added old 0 text c.args.end c.args.out.now).
-          goes-received (state_of c.args.l (lists c.args.at.now c.args.lo.now c.args.hz.now tuned freq) g) _ text old _ _ _ _ _ _ _ _ _ _ st a h.ensures b.added;
+      goes = λ (g : Ledger by_frames) (tuned freq old text : List ℕ) (st : StandsFor c.args.receiver.now c.args.samples.now g) (a : Added old 0 text c.args.end c.args.out.now).
+          goes-received (state_of c.args.l.now (lists c.args.at.now c.args.lo.now c.args.hz.now tuned freq) g) _ text old _ _ _ _ _ _ _ _ _ _ st a h.ensures b.added;
       receives = record {
         tracker = refl;
         passed = refl;

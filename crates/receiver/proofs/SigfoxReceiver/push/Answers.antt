@@ -1,15 +1,15 @@
-use mathlib.Core.Path.{◌≡◌, ◌∙◌, sym}
+use mathlib.Core.List.{map}
+use mathlib.Core.Path.{◌≡◌, sym}
+use Prim.Native.Nat.{◌≤◌}
 use native.Mathlib.Omega.{arith}
-use lib.ListN.{length}
-use borrow.Author.Rules.{rules}
-use Rattle.ledger.specs.Room.{open_places}
+use lib.ListN.{length, length-map, take}
+use Rattle.limits.specs.Answer.{cause_of}
 use Rattle.ledger.specs.Ledger.{push}
-use Rattle.receiver_message.proofs.SpanLaws.{length_mapped}
 use Rattle.shifts.specs.Shifts.{Schedule}
 use Rattle.receiver.specs.Calls.{Memory, refusal_of}
 use Rattle.receiver.specs.Running.{Passes}
-use Rattle.receiver.proofs.AnswerLaws.{passes, no_cause, refusal_is, answered_no, answered_yes}
-use Rattle.receiver.proofs.SigfoxReceiver.push.Goals.{Start}
+use Rattle.receiver.proofs.AnswerLaws.{passes, no_cause, refused_first, refused_later, refused_none, answered_exit, answered_yes}
+use Rattle.receiver.proofs.SigfoxReceiver.push.Goals.{Start, After-places, In_ok-check}
 use Rattle.receiver.proofs.SigfoxReceiver.push.Goals as goal
 
 abbrev given : Start → Memory
@@ -18,25 +18,36 @@ given c = record { samples = c.args.samples.now; events = c.args.events.now; scr
 abbrev plan : Start → Schedule
 plan c = record { shifts = c.args.shifts; closed = c.args.closed.now }
 
-starts-places : (c : Start) → length c.args.self.starts.at ≡ 96
-starts-places c = search rules
+passing : (c : After-places) → refusal_of c.args.self.now (push c.args.dbm.now) (record { shifts = c.args.shifts; closed = c.args.closed.now }) (record { samples = c.args.samples.now; events = c.args.events.now; scratch32 = c.args.scratch32.now; scratch64 = c.args.scratch64.now }) ≡ 0 → Passes c.args.self.now (push c.args.dbm.now) c.args.samples.now c.args.events.now c.args.scratch64.now
+passing c e = passes c.args.self.now (push c.args.dbm.now) (record { samples = c.args.samples.now; events = c.args.events.now; scratch32 = c.args.scratch32.now; scratch64 = c.args.scratch64.now }) c.places.ensures.0 c.places.ensures.1 (no_cause c.args.self.now (push c.args.dbm.now) (record { shifts = c.args.shifts; closed = c.args.closed.now }) (record { samples = c.args.samples.now; events = c.args.events.now; scratch32 = c.args.scratch32.now; scratch64 = c.args.scratch64.now }) e)
 
-open-places : (c : Start) → length c.args.self.waiting.messages ≡ open_places
-open-places c = search (rules, length_mapped)
+-- no cause applies
+none : (c : In_ok-check) → refusal_of c.args.self.now (push c.args.dbm.now) (record { shifts = c.args.shifts; closed = c.args.closed.now }) (record { samples = c.args.samples.now; events = c.args.events.now; scratch32 = c.args.scratch32.now; scratch64 = c.args.scratch64.now }) ≡ 0
+unfolding cause_of
+none c = refused_none c.args.self.now (push c.args.dbm.now) (record { shifts = c.args.shifts; closed = c.args.closed.now }) (record { samples = c.args.samples.now; events = c.args.events.now; scratch32 = c.args.scratch32.now; scratch64 = c.args.scratch64.now }) c.in_ok-check_push.ensures c.in_ok-check.ensures
 
-passing : (c : Start) → refusal_of c.args.self (push c.args.dbm.now) (plan c) (given c) ≡ 0 → Passes c.args.self (push c.args.dbm.now) c.args.samples.now c.args.events.now c.args.scratch64.now
-passing c e = passes c.args.self (push c.args.dbm.now) (given c) (starts-places c) (open-places c) (no_cause c.args.self (push c.args.dbm.now) (plan c) (given c) e)
+pub returns-in_err-check_push : goal.returns-in_err-check_push
+unfolding cause_of
+returns-in_err-check_push c =
+    let b = (goal.at.returns-in_err-check_push c).Start in
+    let e = c.in_err-check_push.field-0.0 in
+    answered_exit c.args.self.now (push c.args.dbm.now) (plan b) (given b) c.from_residual.result e c.from_residual.ensures.1
+    (refused_first c.args.self.now (push c.args.dbm.now) (plan b) (given b) e c.in_err-check_push.ensures)
 
-pub returns-then-refused-ge1 : goal.returns-then-refused-ge1
-returns-then-refused-ge1 c =
-    answered_no c.args.self (push c.args.dbm.now) (plan (goal.at.returns-then-refused-ge1 c).Start) (given (goal.at.returns-then-refused-ge1 c).Start) c.or_shifts-refused.result
-    (refusal_is c.args.self (push c.args.dbm.now) (plan (goal.at.returns-then-refused-ge1 c).Start) (given (goal.at.returns-then-refused-ge1 c).Start) c.push_cause-first.result c.or_shifts-refused.result c.or_shifts-refused.ensures c.push_cause-first.ensures) c.if-refused-ge1.true
+pub returns-in_err-check : goal.returns-in_err-check
+unfolding cause_of
+returns-in_err-check c =
+    let b = (goal.at.returns-in_err-check c).Start in
+    let e = c.in_err-check.field-0.0 in
+    answered_exit c.args.self.now (push c.args.dbm.now) (plan b) (given b) c.from_residual-in_err-check.result e c.from_residual-in_err-check.ensures.1
+    (refused_later c.args.self.now (push c.args.dbm.now) (plan b) (given b) e c.in_ok-check_push.ensures c.in_err-check.ensures)
 
 pub hear-requires : goal.hear-requires
 hear-requires c =
-    passing (goal.at.hear-requires c).Start (sym (refusal_is c.args.self (push c.args.dbm.now) (plan (goal.at.hear-requires c).Start) (given (goal.at.hear-requires c).Start) c.push_cause-first.result c.or_shifts-refused.result c.or_shifts-refused.ensures c.push_cause-first.ensures) ∙ omega (arith, c.if-refused-ge1.false))
+    let d = goal.at.hear-requires c in
+    passing d.After-places (none d.In_ok-check)
 
 pub returns : goal.returns
 returns c =
-    answered_yes c.args.self (push c.args.dbm.now) (plan (goal.at.returns c).Start) (given (goal.at.returns c).Start) c.hear.result _
-    (sym (refusal_is c.args.self (push c.args.dbm.now) (plan (goal.at.returns c).Start) (given (goal.at.returns c).Start) c.push_cause-first.result c.or_shifts-refused.result c.or_shifts-refused.ensures c.push_cause-first.ensures) ∙ omega (arith, c.if-refused-ge1.false)) c.hear.ensures
+    let d = goal.at.returns c in
+    answered_yes c.args.self.now (push c.args.dbm.now) (plan d.Start) (given d.Start) _ _ (none d.In_ok-check) c.hear.ensures

@@ -5,7 +5,6 @@ use Rattle.receiver.proofs.run.add.Goals as goal
 
 pub returns : goal.returns
 returns c =
-    let a = c.args in
     let f = c.fill-n in
-    let n : f.result ≡ length a.dbm.now = omega (arith, f.ensures.0, c.requires.0.fits) in
+    let n : f.result ≡ length c.args.dbm.now = omega (arith, f.ensures.0, c.requires.0.fits) in
     record { answer = rw n refl; samples = f.ensures.1 ∙ rw n refl }

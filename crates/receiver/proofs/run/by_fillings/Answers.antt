@@ -12,48 +12,48 @@ use Rattle.receiver.proofs.run.by_fillings.Goals.{After-loop-from, After-slice_k
 use Rattle.receiver.proofs.run.by_fillings.Goals as goal
 
 -- how far it went
-bounds : (c : After-slice_known-in-loop-from-2-1) → (1 ≤ c.fill-n.result) × (c.halve-left.result + c.fill-n.result ≤ 12 * c.args.s.rate)
+bounds : (c : After-slice_known-in-loop-from-2-1) → (1 ≤ c.fill-n.result) × (c.halve-left.result + c.fill-n.result ≤ 12 * c.args.s.now.rate)
     × (c.loop-from.from + c.fill-n.result ≤ length c.args.dbm.now) × (c.halve-left.result ≤ c.loop-from.held)
-    × (c.loop-from.unscanned + c.fill-n.result < 13 * c.args.s.rate)
+    × (c.loop-from.unscanned + c.fill-n.result < 13 * c.args.s.now.rate)
 bounds c =
     let l = c.loop-from in
-    fill-bounds c.args.s.rate c.args.dbm.now (allIn c.args.s c.args.samples.now c.args.events.now c.args.scratch.now c.args.dbm.now) (lastBuffer c.args.s c.args.samples.now c.args.events.now c.args.scratch.now c.args.dbm.now) c.args.events.now l.samples l.events l.held l.base l.unscanned l.t l.from c.requires.lowest c.requires.accepted.samples l.invariant.3 (omega (arith, c.loop-from-test.true)) c.halve-left.result c.fill-n.result c.halve-left.ensures.0 c.fill-n.ensures.0
+    fill-bounds c.args.s.now.rate c.args.dbm.now (allIn c.args.s.now c.args.samples.now c.args.events.now c.args.scratch.now c.args.dbm.now) (lastBuffer c.args.s.now c.args.samples.now c.args.events.now c.args.scratch.now c.args.dbm.now) c.args.events.now l.samples l.events l.held l.base l.unscanned l.t l.from c.requires.lowest c.requires.accepted.samples l.invariant.3 (omega (arith, c.loop-from-test.true)) c.halve-left.result c.fill-n.result c.halve-left.ensures.0 c.fill-n.ensures.0
 
 -- what it made
-filled : (c : After-slice_known-in-loop-from-2-1) → FilledAt c.args.s.rate c.args.dbm.now (allIn c.args.s c.args.samples.now c.args.events.now c.args.scratch.now c.args.dbm.now) (lastBuffer c.args.s c.args.samples.now c.args.events.now c.args.scratch.now c.args.dbm.now) c.args.events.now c.fill-n.new.samples c.loop-from.events (c.halve-left.result + c.fill-n.result)
-    (c.loop-from.base + (c.loop-from.held - c.halve-left.result)) (c.loop-from.unscanned + c.fill-n.result) (record { starts = c.shift-t.result; waiting = c.loop-from.t.waiting; count = c.loop-from.t.count }) (c.loop-from.from + c.fill-n.result)
+filled : (c : After-slice_known-in-loop-from-2-1) → FilledAt c.args.s.now.rate c.args.dbm.now (allIn c.args.s.now c.args.samples.now c.args.events.now c.args.scratch.now c.args.dbm.now) (lastBuffer c.args.s.now c.args.samples.now c.args.events.now c.args.scratch.now c.args.dbm.now) c.args.events.now c.fill-n.new.samples c.loop-from.events (c.halve-left.result + c.fill-n.result)
+    (c.loop-from.base + (c.loop-from.held - c.halve-left.result)) (c.loop-from.unscanned + c.fill-n.result) (record { starts = c.shift.new.s; waiting = c.loop-from.t.waiting; count = c.loop-from.t.count }) (c.loop-from.from + c.fill-n.result)
 filled c =
     let l = c.loop-from in
-    fill-turn c.args.s.rate c.args.dbm.now (allIn c.args.s c.args.samples.now c.args.events.now c.args.scratch.now c.args.dbm.now) (lastBuffer c.args.s c.args.samples.now c.args.events.now c.args.scratch.now c.args.dbm.now) c.args.events.now l.samples l.events l.held l.base l.unscanned l.t l.from c.requires.lowest c.requires.accepted.samples l.invariant.3 (omega (arith, c.loop-from-test.true)) c.halve-left.result c.fill-n.result c.halve-left.new.samples c.fill-n.new.samples c.shift-t.result c.halve-left.ensures.0 c.halve-left.ensures.1 c.fill-n.ensures.0 c.fill-n.ensures.1
-    (shifted_is l.t.starts c.shift-t.result (l.held - c.halve-left.result) l.invariant.3.within.starts c.shift-t.ensures)
+    fill-turn c.args.s.now.rate c.args.dbm.now (allIn c.args.s.now c.args.samples.now c.args.events.now c.args.scratch.now c.args.dbm.now) (lastBuffer c.args.s.now c.args.samples.now c.args.events.now c.args.scratch.now c.args.dbm.now) c.args.events.now l.samples l.events l.held l.base l.unscanned l.t l.from c.requires.lowest c.requires.accepted.samples l.invariant.3 (omega (arith, c.loop-from-test.true)) c.halve-left.result c.fill-n.result c.halve-left.new.samples c.fill-n.new.samples c.shift.new.s c.halve-left.ensures.0 c.halve-left.ensures.1 c.fill-n.ensures.0 c.fill-n.ensures.1
+    (shifted_is l.t.starts c.shift.new.s (l.held - c.halve-left.result) l.invariant.3.within.starts c.shift.ensures)
 
 -- the buffer is as long as it was
 sized : (c : After-slice_known-in-loop-from-2-1) → length c.fill-n.new.samples ≡ length c.args.samples.now
 sized c = c.fill-n.auto.samples ∙ c.halve-left.auto.samples ∙ c.loop-from.invariant.0
 
 pub loop-from-init : goal.loop-from-init
-loop-from-init c = let a = c.args in (refl, refl, refl, fill_start a.s a.samples.now a.events.now a.scratch.now a.dbm.now c.requires)
+loop-from-init c = let a = c.args in (refl, refl, refl, rw c.begin-t.ensures (fill_start a.s.now a.samples.now a.events.now a.scratch.now a.dbm.now c.requires))
 
 pub halve-left-requires : goal.halve-left-requires
 halve-left-requires c = c.loop-from.invariant.3.places
 
 pub overflow_sub-dropped : goal.overflow_sub-dropped
-overflow_sub-dropped c = rw c.halve-left.ensures.0 (left_le c.args.s.rate c.loop-from.held)
+overflow_sub-dropped c = rw c.halve-left.ensures.0 (left_le c.args.s.now.rate c.loop-from.held)
 
 pub overflow_add-base : goal.overflow_add-base
 overflow_add-base c = let m = c.loop-from.invariant.3 in omega (arith, m.stream, m.inside)
 
-pub shift-t-requires : goal.shift-t-requires
-shift-t-requires c =
+pub shift-requires : goal.shift-requires
+shift-requires c =
     let l = c.loop-from in
     let h = c.halve-left in
-    shift-asks c.args.s.rate c.args.dbm.now (allIn c.args.s c.args.samples.now c.args.events.now c.args.scratch.now c.args.dbm.now) (lastBuffer c.args.s c.args.samples.now c.args.events.now c.args.scratch.now c.args.dbm.now) c.args.events.now l.samples l.events l.held l.base l.unscanned l.t l.from c.requires.lowest c.requires.accepted.samples l.invariant.3 (omega (arith, c.loop-from-test.true)) c.requires.highest c.requires.accepted.size h.result h.ensures.0
+    shift-asks c.args.s.now.rate c.args.dbm.now (allIn c.args.s.now c.args.samples.now c.args.events.now c.args.scratch.now c.args.dbm.now) (lastBuffer c.args.s.now c.args.samples.now c.args.events.now c.args.scratch.now c.args.dbm.now) c.args.events.now l.samples l.events l.held l.base l.unscanned l.t l.from c.requires.lowest c.requires.accepted.samples l.invariant.3 (omega (arith, c.loop-from-test.true)) c.requires.highest c.requires.accepted.size h.result h.ensures.0
 
 pub fill-n-requires : goal.fill-n-requires
 fill-n-requires c =
     let l = c.loop-from in
     let h = c.halve-left in
-    let g = fill-asks c.args.s.rate c.args.dbm.now (allIn c.args.s c.args.samples.now c.args.events.now c.args.scratch.now c.args.dbm.now) (lastBuffer c.args.s c.args.samples.now c.args.events.now c.args.scratch.now c.args.dbm.now) c.args.events.now l.samples l.events l.held l.base l.unscanned l.t l.from c.requires.lowest c.requires.accepted.samples l.invariant.3 (omega (arith, c.loop-from-test.true)) in
+    let g = fill-asks c.args.s.now.rate c.args.dbm.now (allIn c.args.s.now c.args.samples.now c.args.events.now c.args.scratch.now c.args.dbm.now) (lastBuffer c.args.s.now c.args.samples.now c.args.events.now c.args.scratch.now c.args.dbm.now) c.args.events.now l.samples l.events l.held l.base l.unscanned l.t l.from c.requires.lowest c.requires.accepted.samples l.invariant.3 (omega (arith, c.loop-from-test.true)) in
     (rw h.ensures.1 g.0, rw h.ensures.0 g.1, g.2)
 
 pub overflow_add-held : goal.overflow_add-held
@@ -69,7 +69,7 @@ pub overflow_cast-rate : goal.overflow_cast-rate
 overflow_cast-rate c = omega (arith, c.requires.highest)
 
 pub overflow_mul-unscanned : goal.overflow_mul-unscanned
-overflow_mul-unscanned c = omega (arith, bounds c, c.requires.highest)
+overflow_mul-unscanned c = omega (arith, bounds (goal.at.overflow_mul-unscanned c).After-slice_known-in-loop-from-2-1, c.requires.highest)
 
 pub slice_bounds-scan_tail-end : goal.slice_bounds-scan_tail-end
 slice_bounds-scan_tail-end c = let m = filled (goal.at.slice_bounds-scan_tail-end c).After-slice_known-in-loop-from-2-1 in omega (arith, m.fits, m.places)
@@ -79,9 +79,9 @@ slice_bounds-scan_tail-end-then-rate-unscanned c =
     let m = filled (goal.at.slice_bounds-scan_tail-end-then-rate-unscanned c).After-slice_known-in-loop-from-2-1 in
     sym (length-take-le (c.halve-left.result + c.fill-n.result) c.fill-n.new.samples (omega (arith, m.fits, m.places)))
 
-pub scan_tail-u-requires : goal.scan_tail-u-requires
-scan_tail-u-requires c =
-    scan-asks _ _ _ _ _ _ _ _ _ _ _ _ (filled (goal.at.scan_tail-u-requires c).After-slice_known-in-loop-from-2-1) _ c.requires.lowest c.requires.highest (omega (arith, c.requires.numbers, c.loop-from.invariant.2))
+pub scan_tail-requires : goal.scan_tail-requires
+scan_tail-requires c =
+    scan-asks _ _ _ _ _ _ _ _ _ _ _ _ (filled (goal.at.scan_tail-requires c).After-slice_known-in-loop-from-2-1) _ c.requires.lowest c.requires.highest (omega (arith, c.requires.numbers, c.loop-from.invariant.2))
 
 pub loop-from-smaller-then-rate-unscanned : goal.loop-from-smaller-then-rate-unscanned
 loop-from-smaller-then-rate-unscanned c = omega (arith, bounds (goal.at.loop-from-smaller-then-rate-unscanned c).After-slice_known-in-loop-from-2-1, c.loop-from-test.true)
@@ -89,8 +89,8 @@ loop-from-smaller-then-rate-unscanned c = omega (arith, bounds (goal.at.loop-fro
 pub loop-from-preserved-then-rate-unscanned : goal.loop-from-preserved-then-rate-unscanned
 loop-from-preserved-then-rate-unscanned c =
     let l = c.loop-from in
-    let t = c.scan_tail-u in
-    (sized (goal.at.loop-from-preserved-then-rate-unscanned c).After-slice_known-in-loop-from-2-1, t.auto.events ∙ l.invariant.1, t.auto.scratch ∙ l.invariant.2, fill-scanned _ _ _ _ _ _ _ _ _ _ _ _ (filled (goal.at.loop-from-preserved-then-rate-unscanned c).After-slice_known-in-loop-from-2-1) (omega (arith, c.if-rate-unscanned.true)) c.requires.lowest t.result _ t.auto.events t.ensures)
+    let t = c.scan_tail in
+    (sized (goal.at.loop-from-preserved-then-rate-unscanned c).After-slice_known-in-loop-from-2-1, t.auto.events ∙ l.invariant.1, t.auto.scratch ∙ l.invariant.2, fill-scanned _ _ _ _ _ _ _ _ _ _ _ _ (filled (goal.at.loop-from-preserved-then-rate-unscanned c).After-slice_known-in-loop-from-2-1) (omega (arith, c.if-rate-unscanned.true)) c.requires.lowest t.new.t _ t.auto.events t.ensures)
 
 pub loop-from-smaller : goal.loop-from-smaller
 loop-from-smaller c = omega (arith, bounds (goal.at.loop-from-smaller c).After-slice_known-in-loop-from-2-1, c.loop-from-test.true)
@@ -101,23 +101,23 @@ loop-from-preserved c =
     (sized (goal.at.loop-from-preserved c).After-slice_known-in-loop-from-2-1, l.invariant.1, l.invariant.2, fill-still _ _ _ _ _ _ _ _ _ _ _ _ (filled (goal.at.loop-from-preserved c).After-slice_known-in-loop-from-2-1) (omega (arith, c.if-rate-unscanned.false)))
 
 -- what the scans left
-done : (c : After-loop-from) → Done c.args.s (push c.args.dbm.now) c.args.samples.now c.args.events.now
+done : (c : After-loop-from) → Done c.args.s.now (push c.args.dbm.now) c.args.samples.now c.args.events.now
     c.loop-from.held c.loop-from.base c.loop-from.unscanned c.loop-from.t c.loop-from.samples c.loop-from.events
 done c =
     let a = c.args in
     let l = c.loop-from in
-    fill_end a.s a.samples.now a.events.now a.scratch.now a.dbm.now l.samples l.events l.held l.base l.unscanned l.t l.from l.invariant.3 (omega (arith, c.loop-from-test.false))
+    fill_end a.s.now a.samples.now a.events.now a.scratch.now a.dbm.now l.samples l.events l.held l.base l.unscanned l.t l.from l.invariant.3 (omega (arith, c.loop-from-test.false))
 
 pub finish-requires : goal.finish-requires
 finish-requires c =
     let a = c.args in
-    closable (mark_of a.shifts a.closed.now) a.s (push a.dbm.now) a.samples.now _ a.events.now _ a.scratch.now _ _ _ _ false c.requires (done (goal.at.finish-requires c).After-loop-from) (ends_push a.dbm.now) c.loop-from.invariant.1
+    closable (mark_of a.shifts a.closed.now) a.s.now (push a.dbm.now) a.samples.now _ a.events.now _ a.scratch.now _ _ _ _ false c.requires (done (goal.at.finish-requires c).After-loop-from) (ends_push a.dbm.now) c.loop-from.invariant.1
 
 pub returns : goal.returns
 returns c =
     let a = c.args in
     let d = done (goal.at.returns c).After-loop-from in
     record {
-      ended = c.finish.ensures (push a.dbm.now) (allIn a.s a.samples.now a.events.now a.scratch.now a.dbm.now) a.events.now (ends_push a.dbm.now) d.under;
+      ended = c.finish.ensures (push a.dbm.now) (allIn a.s.now a.samples.now a.events.now a.scratch.now a.dbm.now) a.events.now (ends_push a.dbm.now) d.under;
       samples = d.samples;
     }

@@ -11,7 +11,6 @@ returns c k l old e u =
     let a = c.args in
     let t = c.seconds-time in
     let w = c.write_messages-written in
-    let m = c.keep-waiting in
     let x = rw t.ensures at w.ensures in
-    ended a.s l old a.held a.base a.unscanned a.t a.events.now u (mark_of a.shifts a.closed.now) k a.all e w.result _
-    (λ rs was z q b. records-behind rs _ was a.events.now _ a.t.count w.result z x.2 q b c.requires.room x.0 x.1) c.over-starts.result m.result c.over-starts.ensures (rw t.ensures at m.ensures)
+    ended a.s.now l old a.held a.base a.unscanned a.t.now a.events.now u (mark_of a.shifts a.closed.now) k a.all e w.result _
+    (λ rs was z q b. records-behind rs _ was a.events.now _ a.t.now.count w.result z x.2 q b c.requires.room x.0 x.1) c.over.new.old c.keep.new.old c.over.ensures (rw t.ensures at c.keep.ensures)

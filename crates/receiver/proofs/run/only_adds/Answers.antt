@@ -1,24 +1,15 @@
 use mathlib.Core.Bool.{false}
 use mathlib.Core.Path.{◌∙◌, refl, sym}
 use Rattle.ledger.proofs.Basics.{clash}
-use Rattle.receiver_waiting.specs.Waiting.{any_expires}
 use Rattle.receiver.proofs.StateLaws.{not_true}
 use Rattle.receiver.proofs.run.only_adds.Goals as goal
 
 pub returns-then-not-fits : goal.returns-then-not-fits
 returns-then-not-fits c e = clash false e refl
 
-pub returns-then-s-eq0 : goal.returns-then-s-eq0
-unfolding any_expires
-returns-then-s-eq0 c e =
-    let f = c.fits in
-    let g = f.ensures (c.if-not-fits.false) in
-    record { some = g.0; fits = g.1; quiet = g.2; stay = rw c.if-s-eq0.true refl }
-
 pub returns : goal.returns
 returns c e =
-    let f = c.fits in
-    let g = f.ensures (c.if-not-fits.false) in
+    let g = c.fits.ensures c.if-not-fits.false in
     record {
       some = g.0;
       fits = g.1;

@@ -24,4 +24,4 @@ returns c =
     follow l at (h.kind ∷ h.rank ∷ h.flags ∷ h.payload_len ∷ []) c.put_byte-4.new.out (h.auth_len ∷ []) c.put_byte-5.new.out (at + 4) f3 c.put_byte-5.ensures refl in
     let f5 : c.put_byte-6.new.out ≡ sets l at (h.kind ∷ h.rank ∷ h.flags ∷ h.payload_len ∷ h.auth_len ∷ h.repair ∷ []) =
     follow l at (h.kind ∷ h.rank ∷ h.flags ∷ h.payload_len ∷ h.auth_len ∷ []) c.put_byte-5.new.out (h.repair ∷ []) c.put_byte-6.new.out (at + 5) f4 c.put_byte-6.ensures refl in
-    follow l at (h.kind ∷ h.rank ∷ h.flags ∷ h.payload_len ∷ h.auth_len ∷ h.repair ∷ []) c.put_byte-6.new.out (bytes_of 2 h.place) c.put_u16.new.out (at + 6) f5 (c.put_u16.ensures ∙ ap (sets c.put_byte-6.new.out (at + 6)) (place-bytes h.place)) refl
+    follow l at (h.kind ∷ h.rank ∷ h.flags ∷ h.payload_len ∷ h.auth_len ∷ h.repair ∷ []) c.put_byte-6.new.out (bytes_of 2 h.place) c.put.new.out (at + 6) f5 (c.put.ensures ∙ ap (sets c.put_byte-6.new.out (at + 6)) (place-bytes h.place)) refl

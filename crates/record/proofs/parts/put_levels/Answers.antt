@@ -14,4 +14,4 @@ use Rattle.record.proofs.parts.put_levels.Goals as goal
 pub returns : goal.returns
 unfolding level_bytes
 returns c = let a = c.args in
-    follow a.out.now a.at (bytes_of 4 (signed_bits 32 a.ppm)) c.put_i32.new.out (bytes_of 4 (bits_of binary32 a.rssi)) c.put_f32.new.out (a.at + 4) (c.put_i32.ensures ∙ ap (λ z. sets a.out.now a.at (bytes_of 4 (signed_bits 32 z))) (to_z-of_z w32 a.ppm c.ranges.ppm)) c.put_f32.ensures (omega (arith, bytes-length 4 (signed_bits 32 a.ppm)))
+    follow a.out.now a.at (bytes_of 4 (signed_bits 32 a.ppm)) c.put.new.out (bytes_of 4 (bits_of binary32 a.rssi)) c.put-2.new.out (a.at + 4) (c.put.ensures ∙ ap (λ z. sets a.out.now a.at (bytes_of 4 (signed_bits 32 z))) (to_z-of_z w32 a.ppm c.ranges.ppm)) c.put-2.ensures (omega (arith, bytes-length 4 (signed_bits 32 a.ppm)))

@@ -1,20 +1,13 @@
-use mathlib.Core.Path.{refl, sym, ◌∙◌}
-use Prim.Native.Nat.{◌+◌}
-use native.Mathlib.Omega.{arith}
-use lib.ListN.{length-set}
-use Rattle.record.proofs.PartLaws.{spare-step, spare_end, spare_start}
+use Rattle.std.proofs.Common.{ℕ, ◌≡◌, ◌+◌, ◌-◌, ap, ◌∙◌, length, take, drop, arith}
+use lib.ListN.{length-replicate}
+use Rattle.record.specs.Record.{spare}
+use Rattle.frame.proofs.CopyLaws.{part_put, part_length}
 use Rattle.record.proofs.parts.put_spare.Goals as goal
-
-pub loop-i-init : goal.loop-i-init
-loop-i-init c = let a = c.args in (omega arith, refl, spare_start a.out.now a.at a.n)
-
-pub loop-i-preserved : goal.loop-i-preserved
-loop-i-preserved c = let a = c.args in (
-  omega arith,
-  length-set c.loop-i.out (a.at + c.loop-i.i) 0 ∙ c.loop-i.invariant.1,
-  spare-step c.loop-i.out a.at a.n c.loop-i.i c.loop-i-test.true ∙ c.loop-i.invariant.2,
-)
 
 pub returns : goal.returns
 returns c = let a = c.args in
-    sym (spare_end c.loop-i.out a.at a.n c.loop-i.i c.loop-i-test.false) ∙ c.loop-i.invariant.2
+    let n : a.at + a.n - a.at ≡ a.n = omega arith in
+    let part = drop a.at a.out.now in
+    part_put a.at a.n a.out.now c.fill.new.self (spare a.n)
+    (c.fill.ensures.after (λ y e. e) ∙ ap spare (ap (λ (k : ℕ). length (take k part)) n ∙ part_length a.out.now a.at a.n c.requires))
+    (length-replicate {A = ℕ} a.n 0) c.requires

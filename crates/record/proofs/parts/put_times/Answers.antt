@@ -10,4 +10,4 @@ use Rattle.record.proofs.parts.put_times.Goals as goal
 pub returns : goal.returns
 unfolding time_bytes
 returns c = let a = c.args in
-    follow a.out.now a.at (bytes_of 8 (bits_of binary64 a.time)) c.put_f64.new.out (bytes_of 8 (bits_of binary64 a.end)) c.put_f64-2.new.out (a.at + 8) c.put_f64.ensures c.put_f64-2.ensures (omega (arith, bytes-length 8 (bits_of binary64 a.time)))
+    follow a.out.now a.at (bytes_of 8 (bits_of binary64 a.time)) c.put.new.out (bytes_of 8 (bits_of binary64 a.end)) c.put-2.new.out (a.at + 8) c.put.ensures c.put-2.ensures (omega (arith, bytes-length 8 (bits_of binary64 a.time)))

@@ -1,4 +1,3 @@
-use borrow.Author.Rules.{rules}
 use native.Mathlib.Omega.{arith}
 use mathlib.Core.Path.{◌≡◌, refl, ap, ◌∙◌}
 use lib.Dec.{leb}
@@ -9,17 +8,17 @@ use Rattle.subscription.proofs.prices.cheap.Goals as goal
 
 pub loop-j-init : goal.loop-j-init
 unfolding all_to
-loop-j-init c = (search rules, refl)
+loop-j-init c = refl
 
 pub loop-j-preserved : goal.loop-j-preserved
 loop-j-preserved c =
     let prices = c.args.plan.prices in
     let l = c.loop-j in
-    (omega arith, all_more (λ i. leb (get_or prices i 0) dearest) l.j l.ok (leb (get_or prices l.j 0) dearest) l.invariant.1 refl)
+    all_more (λ i. leb (get_or prices i 0) dearest) l.j l.ok (leb (get_or prices l.j 0) dearest) l.invariant refl
 
 pub returns : goal.returns
 returns c =
     let a = c.args in
     let l = c.loop-j in
     let e : l.j ≡ a.n = omega arith in
-    l.invariant.1 ∙ ap (all_to (λ i. leb (get_or a.plan.prices i 0) dearest)) e
+    l.invariant ∙ ap (all_to (λ i. leb (get_or a.plan.prices i 0) dearest)) e

@@ -1,4 +1,3 @@
-use borrow.Author.Rules.{rules}
 use native.Mathlib.Omega.{arith}
 use native.Mathlib.Numerals.{add-one}
 use mathlib.Core.Path.{◌≡◌, refl, sym, ap, ◌∙◌}
@@ -10,7 +9,7 @@ use Rattle.subscription.proofs.prices.day_cost.Goals as goal
 
 pub loop-j-init : goal.loop-j-init
 unfolding sum_to
-loop-j-init c = (search rules, refl, refl)
+loop-j-init c = (refl, refl)
 
 pub reach-end-requires : goal.reach-end-requires
 reach-end-requires c = omega (arith, c.loop-j-test.true, (sound c.args.plan c.requires.0).few)
@@ -19,7 +18,7 @@ pub overflow_sub-end : goal.overflow_sub-end
 overflow_sub-end c =
     let l = c.loop-j in
     let ok = sound c.args.plan c.requires.0 in
-    omega (arith, reached_more c.args.plan ok c.over-extra.result l.j c.loop-j-test.true, l.invariant.1, c.reach-end.ensures)
+    omega (arith, reached_more c.args.plan ok c.saturating_sub-extra.result l.j c.loop-j-test.true, l.invariant.0, c.reach-end.ensures)
 
 pub step_cost-sum-requires : goal.step_cost-sum-requires
 step_cost-sum-requires c = omega (arith, c.loop-j-test.true, (sound c.args.plan c.requires.0).few)
@@ -27,30 +26,29 @@ step_cost-sum-requires c = omega (arith, c.loop-j-test.true, (sound c.args.plan 
 pub overflow_add-sum : goal.overflow_add-sum
 overflow_add-sum c =
     let l = c.loop-j in
-    let x = c.over-extra in
+    let x = c.saturating_sub-extra in
     let ok = sound c.args.plan c.requires.0 in
     let r = c.reach-end in
-    let e = step-more c.args.plan ok x.result l.j l.passed r.result c.step_cost-sum.result l.sum c.loop-j-test.true l.invariant.1 r.ensures c.step_cost-sum.ensures l.invariant.2 in
+    let e = step-more c.args.plan ok x.result l.j l.passed r.result c.step_cost-sum.result l.sum c.loop-j-test.true l.invariant.0 r.ensures c.step_cost-sum.ensures l.invariant.1 in
     let most = reached-few c.args.plan ok x.result (suc l.j) in
     record { fits = omega (arith, e, most, ap (sum_to (extra_price c.args.plan)) r.ensures, x.ensures, c.requires.1) }
 
 pub loop-j-preserved : goal.loop-j-preserved
 loop-j-preserved c =
     let l = c.loop-j in
-    let x = c.over-extra in
+    let x = c.saturating_sub-extra in
     let ok = sound c.args.plan c.requires.0 in
     let r = c.reach-end in (
-      search rules,
       r.ensures ∙ ap (reached c.args.plan x.result) (sym (add-one l.j)),
-      step-more c.args.plan ok x.result l.j l.passed r.result c.step_cost-sum.result l.sum c.loop-j-test.true l.invariant.1 r.ensures c.step_cost-sum.ensures l.invariant.2,
+      step-more c.args.plan ok x.result l.j l.passed r.result c.step_cost-sum.result l.sum c.loop-j-test.true l.invariant.0 r.ensures c.step_cost-sum.ensures l.invariant.1,
     )
 
 pub returns : goal.returns
 returns c =
     let l = c.loop-j in
-    let x = c.over-extra in
+    let x = c.saturating_sub-extra in
     let ok = sound c.args.plan c.requires.0 in
     let e : l.j ≡ c.args.plan.steps = omega arith in (
-      day_all c.args.plan ok c.args.n x.result l.sum l.j l.passed x.ensures e l.invariant.1 l.invariant.2,
-      omega (arith, l.invariant.2, ap (sum_to (extra_price c.args.plan)) l.invariant.1, reached-few c.args.plan ok x.result l.j, x.ensures, c.requires.1),
+      day_all c.args.plan ok c.args.n x.result l.sum l.j l.passed x.ensures e l.invariant.0 l.invariant.1,
+      omega (arith, l.invariant.1, ap (sum_to (extra_price c.args.plan)) l.invariant.0, reached-few c.args.plan ok x.result l.j, x.ensures, c.requires.1),
     )

@@ -1,12 +1,9 @@
 use mathlib.Core.Path.{◌≡◌}
-use Prim.Native.Nat.{◌-◌, ◌*◌, ◌≤◌}
+use Prim.Native.Nat.{◌*◌, ◌≤◌}
 use lib.ListN.{get_or}
-use Rattle.subscription.specs.Charges.{sum_to, day_cost, days, dearest}
+use Rattle.subscription.specs.Charges.{sum_to, day_cost, dearest}
 use Rattle.event_list.specs.Events.{most_records}
 use Rattle.subscription.proofs.prices.month_cost.Given as goal
 
-abbrev pub invariant-loop-k : goal.invariant-loop-k
-invariant-loop-k l = (l.k ≤ days) × (l.sum ≡ sum_to (λ i. day_cost l.plan (get_or l.counts i 0)) l.k) × (l.sum ≤ l.k * (most_records * dearest))
-
-abbrev pub decreases-loop-k : goal.decreases-loop-k
-decreases-loop-k l = days - l.k
+abbrev pub invariant-loop-n : goal.invariant-loop-n
+invariant-loop-n l = (l.sum ≡ sum_to (λ i. day_cost l.plan (get_or l.counts i 0)) l.n-index) × (l.sum ≤ l.n-index * (most_records * dearest))

@@ -1,9 +1,0 @@
--- The characters are counted up.
-use Rattle.std.proofs.Common.{◌-◌, length}
-use Rattle.explain.proofs.arguments.number_of.Given as goal
-
-abbrev pub invariant-loop-i : goal.invariant-loop-i
-invariant-loop-i l = Unit
-
-abbrev pub decreases-loop-i : goal.decreases-loop-i
-decreases-loop-i l = length l.text - l.i

@@ -1,0 +1,52 @@
+use Rattle.limits.specs.Answer.{cause_of}
+use Rattle.frequency.proofs.Ordered.{ordered_of}
+use Rattle.frequency.proofs.Choices.{chosen, passed}
+use Rattle.frequency.specs.Order.{cause_cfo}
+use Rattle.frequency.specs.Lent.{lists}
+use mathlib.Core.Bool.{not}
+use mathlib.Core.Path.{sym, ap, ◌∙◌}
+use native.Mathlib.Omega.{arith}
+use borrow.Author.Tests.{lt-ltb, le-ltb}
+use Rattle.frequency.proofs.check_cfo.Goals as goal
+
+pub returns-then-not-rate_ok : goal.returns-then-not-rate_ok
+unfolding cause_of cause_cfo
+returns-then-not-rate_ok c =
+    let a = c.args in sym (chosen 1 _ (ap not (sym c.rate_ok.ensures ∙ c.if-not-rate_ok.true)))
+
+pub returns-then-raw-gt-MOST_READINGS : goal.returns-then-raw-gt-MOST_READINGS
+unfolding cause_of cause_cfo
+returns-then-raw-gt-MOST_READINGS c =
+    let a = c.args in sym (passed 1 _ (ap not (sym c.rate_ok.ensures ∙ c.if-not-rate_ok.false)) ∙ chosen 3 _ (lt-ltb _ _ c.if-raw-gt-MOST_READINGS.true))
+
+pub returns-then-not-in_order : goal.returns-then-not-in_order
+unfolding cause_of cause_cfo
+returns-then-not-in_order c =
+    let a = c.args in sym (passed 1 _ (ap not (sym c.rate_ok.ensures ∙ c.if-not-rate_ok.false)) ∙ passed 3 _ (le-ltb _ _ c.if-raw-gt-MOST_READINGS.false) ∙ chosen 5 _ (ap not (sym c.in_order.ensures ∙ c.if-not-in_order.true)))
+
+pub overflow_add-t : goal.overflow_add-t
+overflow_add-t c =
+    let a = c.args in
+    let o = ordered_of a.t.now (lists a.at.now a.lo.now a.hz.now a.tuned.now a.freq.now) (sym c.in_order.ensures ∙ c.if-not-in_order.false) in
+    let h = o.r.places.ats in
+    record { fits = omega arith }
+
+pub returns-then-not-fits_readings : goal.returns-then-not-fits_readings
+unfolding cause_of cause_cfo
+returns-then-not-fits_readings c =
+    let a = c.args in sym (passed 1 _ (ap not (sym c.rate_ok.ensures ∙ c.if-not-rate_ok.false)) ∙ passed 3 _ (le-ltb _ _ c.if-raw-gt-MOST_READINGS.false) ∙ passed 5 _ (ap not (sym c.in_order.ensures ∙ c.if-not-in_order.false)) ∙ chosen 8 _ (ap not (sym c.fits_readings.ensures ∙ c.if-not-fits_readings.true)))
+
+pub numbers_ok-requires : goal.numbers_ok-requires
+numbers_ok-requires c =
+    let a = c.args in
+    (ordered_of a.t.now (lists a.at.now a.lo.now a.hz.now a.tuned.now a.freq.now) (sym c.in_order.ensures ∙ c.if-not-in_order.false)).r.places.hzs
+
+pub returns-then-not-numbers_ok : goal.returns-then-not-numbers_ok
+unfolding cause_of cause_cfo
+returns-then-not-numbers_ok c =
+    let a = c.args in sym (passed 1 _ (ap not (sym c.rate_ok.ensures ∙ c.if-not-rate_ok.false)) ∙ passed 3 _ (le-ltb _ _ c.if-raw-gt-MOST_READINGS.false) ∙ passed 5 _ (ap not (sym c.in_order.ensures ∙ c.if-not-in_order.false)) ∙ passed 8 _ (ap not (sym c.fits_readings.ensures ∙ c.if-not-fits_readings.false)) ∙ chosen 9 _ (ap not (sym c.numbers_ok.ensures ∙ c.if-not-numbers_ok.true)))
+
+pub returns : goal.returns
+unfolding cause_of cause_cfo
+returns c =
+    let a = c.args in sym (passed 1 _ (ap not (sym c.rate_ok.ensures ∙ c.if-not-rate_ok.false)) ∙ passed 3 _ (le-ltb _ _ c.if-raw-gt-MOST_READINGS.false) ∙ passed 5 _ (ap not (sym c.in_order.ensures ∙ c.if-not-in_order.false)) ∙ passed 8 _ (ap not (sym c.fits_readings.ensures ∙ c.if-not-fits_readings.false)) ∙ passed 9 _ (ap not (sym c.numbers_ok.ensures ∙ c.if-not-numbers_ok.false)))

@@ -1,2 +1,0 @@
--- The definitions that the contracts of `reading` cite.
-pub mod Input

@@ -1,0 +1,2 @@
+-- What std's conversion of a test to a number gives (Tests).
+pub mod Tests
