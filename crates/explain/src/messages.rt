@@ -1,9 +1,10 @@
 // The messages that a call wrote: their ranks, when they closed and why.
-ghost use Rattle.std.specs.Prelude.{◌≤◌, length};
+ghost use Rattle.std.specs.Prelude.{◌≤◌};
 
 use crate::words::print_parts;
 use ledger::Pending;
 use receiver_waiting::{OPEN_PLACES, Waiting};
+use record::read::EventRecord;
 
 // No message waited.
 const NEVER: f64 = -1.0;
@@ -62,18 +63,16 @@ fn print_reason(rt: &impl Print, mask: u8, ended: bool, time: f64, last: Option<
 }
 
 // A message's record.
-fn print_message(rt: &impl Print, r: &[u8], waiting: Waiting, time: f64, ended: bool)
-    requires { 120 ≤ length r.now }
-{
-    let device = record::read::device_of(r);
-    let counter = record::read::counter_of(r);
-    let mask = record::read::rank_of(r);
+fn print_message(rt: &impl Print, r: EventRecord, waiting: Waiting, time: f64, ended: bool) {
+    let device = r.device();
+    let counter = r.counter();
+    let mask = r.rank();
     replay::print(rt, b"message of device ");
     replay::print_hex(rt, device as u64, 8);
     replay::print(rt, b", counter ");
     replay::print_number(rt, counter as u64);
     replay::print(rt, b", first heard at ");
-    print_parts(rt, record::read::time_of(r));
+    print_parts(rt, r.time());
     replay::print(rt, b" s, ranks");
     print_ranks(rt, mask);
     replay::print(rt, b"; closed at ");
@@ -82,10 +81,8 @@ fn print_message(rt: &impl Print, r: &[u8], waiting: Waiting, time: f64, ended: 
     print_reason(rt, mask, ended, time, last_of(waiting, device, counter));
 }
 
-fn print_record(rt: &impl Print, r: &[u8], waiting: Waiting, time: f64, ended: bool)
-    requires { 120 ≤ length r.now }
-{
-    if record::read::kind_of(r) == record::MESSAGE {
+fn print_record(rt: &impl Print, r: EventRecord, waiting: Waiting, time: f64, ended: bool) {
+    if r.kind() == record::MESSAGE {
         print_message(rt, r, waiting, time, ended);
     }
 }
@@ -98,7 +95,7 @@ fn print_one(rt: &impl Print, events: &[u8], i: usize, waiting: Waiting, time: f
     if events.len() < to {
         return;
     }
-    print_record(rt, &events[at..to], waiting, time, ended);
+    print_record(rt, EventRecord::new(&events[at..to]), waiting, time, ended);
 }
 
 // Those among the first n records.

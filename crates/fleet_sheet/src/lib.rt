@@ -16,6 +16,7 @@ ghost use Rattle.fleet_sheet.specs.Tallies.{Tallied, Reads, Reported};
 use crate::rows::Row;
 use crate::table::{WIDTH, taken};
 use limits::Refusal;
+use record::read::EventRecord;
 
 // The most devices of a report.
 pub const MOST_DEVICES: usize = 256;
@@ -56,9 +57,10 @@ pub fn read_records(
     let mut ok = records.len() % limits::RECORD == 0;
     let mut n = t.devices;
     for r in records.chunks_exact(limits::RECORD) {
-        ok &= event_list::record_ok(r);
+        let event = EventRecord::new(r);
+        ok &= event_list::record_ok(event);
         if n <= MOST_DEVICES {
-            n = taken(ids, sums, hints, n, r);
+            n = taken(ids, sums, hints, n, event);
         }
     }
     if !ok {

@@ -2,11 +2,10 @@
 ghost use Rattle.std.specs.Prelude.{◌≡◌, ◌+◌, ◌*◌, ◌/◌, ◌%◌, ◌^◌, ◌<◌, ◌≤◌, length, ◌+ℤ◌};
 ghost use Rattle.std.proofs.lemmas.List.Edits.{sets};
 ghost use Rattle.std.specs.Int.Signed.{mag};
-ghost use Rattle.limits.specs.Limits.{record_size};
 ghost use Rattle.fleet_sheet.specs.Fleet.{half_decibels, one_if, min_z, max_z};
 ghost use Rattle.fleet_sheet.specs.Table.{single, merge, Small, numbers, row_at};
 
-use record::read;
+use record::read::EventRecord;
 
 #[derive(Clone, Copy)]
 pub struct Row {
@@ -59,13 +58,12 @@ fn higher(a: i64, b: i64) -> i64
 }
 
 // The row of a single message.
-pub fn single(r: &[u8]) -> Row
-    requires { record_size ≤ length r.now }
-    ensures { result ≡ single r.now }
+pub fn single(r: EventRecord) -> Row
+    ensures { result ≡ single r.entry.bytes.now }
 {
-    let n = ranks(read::rank_of(r));
-    let ppm = i64::from(read::ppm_of(r));
-    let halves = i64::from(half_decibels(read::rssi_of(r)));
+    let n = ranks(r.rank());
+    let ppm = i64::from(r.ppm());
+    let halves = i64::from(half_decibels(r.rssi()));
     Row {
         messages: 1,
         one: one_if(n == 1),

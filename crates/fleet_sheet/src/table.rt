@@ -1,10 +1,9 @@
 // The rows of the devices met so far, in rising device number: numbers of devices, and seven numbers a row.
 ghost use Rattle.std.specs.Prelude.{◌≡◌, ℕ, ◌+◌, ◌*◌, ◌<◌, ◌≤◌, length, take};
-ghost use Rattle.limits.specs.Limits.{record_size};
 ghost use Rattle.fleet_sheet.specs.Table.{Small, row_at, place_of, Rising, is_there, taken_count, taken_ids, taken_table, rows_most, hints_most};
 
 use crate::{MOST_DEVICES, rows};
-use record::read;
+use record::read::EventRecord;
 
 // Numbers of a row in the table.
 pub const WIDTH: usize = 7;
@@ -54,18 +53,24 @@ fn place(ids: &[u32], hints: &mut [u8], n: usize, d: u32) -> usize
 }
 
 // A record is taken into the first n rows: a message joins its device's row or opens one. The answer is their number then, or one more than the table holds.
-pub fn taken(ids: &mut [u32], table: &mut [i64], hints: &mut [u8], n: usize, r: &[u8]) -> usize
-    requires { (record_size ≤ length r.now) × (length ids.old ≡ rows_most) × (length table.old ≡ 7 * rows_most) × (n ≤ rows_most)
+pub fn taken(
+    ids: &mut [u32],
+    table: &mut [i64],
+    hints: &mut [u8],
+    n: usize,
+    r: EventRecord,
+) -> usize
+    requires { (length ids.old ≡ rows_most) × (length table.old ≡ 7 * rows_most) × (n ≤ rows_most)
         × Rising (take n ids.old) × ((p : ℕ) → p < n → Small (row_at table.old (7 * p))) × (length hints.old ≡ hints_most) }
-    ensures { (result ≡ taken_count r.now n ids.old)
-        × (ids.new ≡ taken_ids r.now n ids.old)
-        × (table.new ≡ taken_table r.now n ids.old table.old)
+    ensures { (result ≡ taken_count r.entry.bytes.now n ids.old)
+        × (ids.new ≡ taken_ids r.entry.bytes.now n ids.old)
+        × (table.new ≡ taken_table r.entry.bytes.now n ids.old table.old)
         × (length hints.new ≡ hints_most) }
 {
     if !event_list::is_message(r) {
         return n;
     }
-    let device = read::device_of(r);
+    let device = r.device();
     let p = place(ids, hints, n, device);
     let at = WIDTH * p;
     let m = rows::single(r);

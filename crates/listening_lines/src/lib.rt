@@ -4,14 +4,13 @@
 mod writing; // text and numbers behind what stands in a buffer
 
 ghost use Rattle.std.specs.Prelude.{◌≡◌, ◌+◌, ◌≤◌, length};
-ghost use Rattle.limits.specs.Limits.{record_size};
 ghost use Rattle.limits.specs.Refusals.{number_of};
 ghost use Rattle.listening_lines.specs.Text.{Added, hex, widest};
 ghost use Rattle.listening_lines.specs.Lines.{tune_line, payload_text, hz_text, sender_text, message_line, refusal_line, end_line};
 
 use crate::writing::{add_byte, add_field, add_head, add_hex, add_number};
 use limits::Refusal;
-use record::read;
+use record::read::EventRecord;
 
 // The room of a line: no line is longer.
 pub const WIDEST: usize = 128;
@@ -41,18 +40,18 @@ fn add_hex_byte(out: &mut [u8], at: usize, b: u8) -> usize
 }
 
 // The payload in hexadecimal digits, or `-`.
-fn add_payload(out: &mut [u8], at: usize, event: &[u8]) -> usize
-    requires { (at + 48 ≤ length out.old) × (record_size ≤ length event.now) }
-    ensures added { Added out.old at (payload_text event.now) result out.new }
+fn add_payload(out: &mut [u8], at: usize, event: EventRecord) -> usize
+    requires { at + 48 ≤ length out.old }
+    ensures added { Added out.old at (payload_text event.entry.bytes.now) result out.new }
     ensures upper_bound { result ≤ at + 24 }
 {
-    let n = read::payload_len_of(event);
+    let n = event.payload_len();
     if n == 0 {
         return add_byte(out, at, b'-');
     }
     let mut next = at;
     let end = 16 + usize::from(n.min(12));
-    for b in &event[16..end] {
+    for b in &event.bytes[16..end] {
         next = add_hex_byte(out, next, *b);
     }
     next
@@ -102,22 +101,22 @@ pub fn add_end(
 }
 
 // `M device counter ranks `
-fn add_sender(out: &mut [u8], at: usize, event: &[u8]) -> usize
-    requires { (at + 64 ≤ length out.old) × (record_size ≤ length event.now) }
-    ensures added { Added out.old at (sender_text event.now) result out.new }
+fn add_sender(out: &mut [u8], at: usize, event: EventRecord) -> usize
+    requires { at + 64 ≤ length out.old }
+    ensures added { Added out.old at (sender_text event.entry.bytes.now) result out.new }
     ensures upper_bound { result ≤ at + 64 }
 {
     let a = add_head(out, at, b'M');
-    let b = add_hex(out, a, u64::from(read::device_of(event)), 8);
+    let b = add_hex(out, a, u64::from(event.device()), 8);
     let c = add_byte(out, b, b' ');
-    let d = add_field(out, c, u64::from(read::counter_of(event)), b' ');
-    add_field(out, d, u64::from(read::rank_of(event)), b' ')
+    let d = add_field(out, c, u64::from(event.counter()), b' ');
+    add_field(out, d, u64::from(event.rank()), b' ')
 }
 
 // `M device counter ranks payload hz`
-pub fn add_message(out: &mut [u8], at: usize, event: &[u8], answer: Option<u32>) -> usize
-    requires { (at + widest ≤ length out.old) × (record_size ≤ length event.now) }
-    ensures added { Added out.old at (message_line event.now answer) result out.new }
+pub fn add_message(out: &mut [u8], at: usize, event: EventRecord, answer: Option<u32>) -> usize
+    requires { at + widest ≤ length out.old }
+    ensures added { Added out.old at (message_line event.entry.bytes.now answer) result out.new }
     ensures upper_bound { result ≤ at + widest }
 {
     let a = add_sender(out, at, event);

@@ -5,7 +5,7 @@ use Rattle.std.specs.Float.Ieee.{sub, div}
 use Rattle.floats.specs.Number.{num}
 use Rattle.record.specs.declared.FrameSpan.{FrameSpan}
 use Rattle.record.specs.Record.{frame_kind}
-use Rattle.record.specs.Readers.{kind_of, flags_of, span_rank_of, span_time_of, span_end_of}
+use Rattle.record.specs.Readers.{kind_of, flags_of, span_at}
 use Rattle.frequency.specs.declared.FrequencyTracker.{FrequencyTracker}
 use Rattle.limits.specs.Answer.{Answer, refused, accepted}
 use Rattle.frequency.specs.Calls.{frame1_answer}
@@ -25,8 +25,11 @@ abbrev pub earlier : ℕ → Float
 earlier passed = div binary64 (num passed) (num 1000)
 
 -- a message's spans and flag, read off its record, its times earlier by that; the rank is as it is
+abbrev pub shifted : Float → FrameSpan → FrameSpan
+shifted by s = record { rank = s.rank; time = sub binary64 s.time by; end = sub binary64 s.end by }
+
 abbrev pub span_in : Float → List ℕ → ℕ → FrameSpan
-span_in by e i = record { rank = span_rank_of e i; time = sub binary64 (span_time_of e i) by; end = sub binary64 (span_end_of e i) by }
+span_in by e i = shifted by (span_at e i)
 
 abbrev pub spans_in : Float → List ℕ → List FrameSpan
 spans_in by e = span_in by e 0 ∷ span_in by e 1 ∷ span_in by e 2 ∷ []

@@ -5,12 +5,13 @@ ghost use Rattle.std.specs.Prelude.{◌≡◌, ℕ, ◌+◌, ◌*◌, ◌^◌, �
 ghost use Rattle.limits.specs.Limits.{record_size};
 ghost use Rattle.limits.specs.Answer.{said, cause_of};
 ghost use Rattle.listening_lines.specs.Text.{widest};
-ghost use Rattle.listening_records.specs.Emission.{Emission, span_in, spans_in, earlier, downlink_in, answer_for, with_line, emitted, emitted_all, Tells, Within, Grown};
+ghost use Rattle.listening_records.specs.Emission.{Emission, shifted, spans_in, earlier, downlink_in, answer_for, with_line, emitted, emitted_all, Tells, Within, Grown};
 ghost use Rattle.ledger.specs.Records.{records_in};
 
 use frequency::FrequencyTracker;
 use limits::Refusal;
-use record::{FrameSpan, read};
+use record::FrameSpan;
+use record::read::EventRecord;
 
 // Samples per second.
 const RATE: f64 = 1_000.0;
@@ -23,26 +24,25 @@ pub struct Told {
     pub end: usize,
 }
 
-// A message's span i, in seconds of the tracker.
-fn span_of(event: &[u8], i: usize, by: f64) -> FrameSpan
-    requires { (record_size ≤ length event.now) × (i < 3) }
-    ensures { result ≡ span_in by event.now i }
+// A span in seconds of the tracker.
+fn span_of(span: FrameSpan, by: f64) -> FrameSpan
+    ensures { result ≡ shifted by span }
 {
     FrameSpan {
-        rank: read::span_rank_of(event, i),
-        time: read::span_time_of(event, i) - by,
-        end: read::span_end_of(event, i) - by,
+        rank: span.rank,
+        time: span.time - by,
+        end: span.end - by,
     }
 }
 
 // A message's spans, for `frame1`.
-fn spans_of(event: &[u8], by: f64) -> [FrameSpan; 3]
-    requires { record_size ≤ length event.now }
-    ensures { result ≡ spans_in by event.now }
+fn spans_of(event: EventRecord, by: f64) -> [FrameSpan; 3]
+    ensures { result ≡ spans_in by event.entry.bytes.now }
 {
-    let first = span_of(event, 0, by);
-    let second = span_of(event, 1, by);
-    let third = span_of(event, 2, by);
+    let spans = event.spans();
+    let first = span_of(spans[0], by);
+    let second = span_of(spans[1], by);
+    let third = span_of(spans[2], by);
     [first, second, third]
 }
 
@@ -55,11 +55,10 @@ fn earlier(passed: u64) -> f64
 }
 
 // Whether the message asks for a downlink: byte 2 includes the value 1.
-fn downlink_of(event: &[u8]) -> bool
-    requires { record_size ≤ length event.now }
-    ensures { result ≡ downlink_in event.now }
+fn downlink_of(event: EventRecord) -> bool
+    ensures { result ≡ downlink_in event.entry.bytes.now }
 {
-    read::flags_of(event) % 2 == 1
+    event.flags() % 2 == 1
 }
 
 // What `frame1` answers for a message; nothing while no frequency has come.
@@ -67,14 +66,14 @@ fn answer_for(
     started: bool,
     passed: u64,
     tracker: FrequencyTracker,
-    event: &[u8],
+    event: EventRecord,
     at: &[u64; 8000],
     lo: &[u32; 8000],
     hz: &[f64; 8000],
     scratch: &mut [f64],
 ) -> Result<Option<u32>, Refusal>
-    requires { (record_size ≤ length event.now) × (passed ≤ 2 ^ 53) }
-    ensures { said result ≡ answer_for (record { started = started; passed = passed; tracker = tracker; at = at.now; lo = lo.now; hz = hz.now; room = length scratch.old }) event.now }
+    requires { passed ≤ 2 ^ 53 }
+    ensures { said result ≡ answer_for (record { started = started; passed = passed; tracker = tracker; at = at.now; lo = lo.now; hz = hz.now; room = length scratch.old }) event.entry.bytes.now }
 {
     if !started {
         return Ok(None);
@@ -84,10 +83,10 @@ fn answer_for(
 }
 
 // A message's line behind the text.
-fn tell_line(t: &mut Told, event: &[u8], answer: Option<u32>, out: &mut [u8])
-    requires { (record_size ≤ length event.now) × (t.old.end + widest ≤ length out.old) × (t.old.messages + 1 < 2 ^ 64) }
+fn tell_line(t: &mut Told, event: EventRecord, answer: Option<u32>, out: &mut [u8])
+    requires { (t.old.end + widest ≤ length out.old) × (t.old.messages + 1 < 2 ^ 64) }
     ensures by_index { (old : List ℕ) (start : ℕ) (p : Emission) → Tells p old start 0 t.old out.old
-        → Tells (with_line event.now answer p) old start 0 t.new out.new }
+        → Tells (with_line event.entry.bytes.now answer p) old start 0 t.new out.new }
     ensures within { Within t.old t.new out.old out.new }
 {
     t.end = listening_lines::add_message(out, t.end, event, answer);
@@ -100,19 +99,19 @@ fn tell(
     started: bool,
     passed: u64,
     tracker: FrequencyTracker,
-    event: &[u8],
+    event: EventRecord,
     at: &[u64; 8000],
     lo: &[u32; 8000],
     hz: &[f64; 8000],
     scratch: &mut [f64],
     out: &mut [u8],
 ) -> Result<(), Refusal>
-    requires { (record_size ≤ length event.now) × (t.old.end + widest ≤ length out.old) × (t.old.frames + 1 < 2 ^ 64) × (t.old.messages + 1 < 2 ^ 64) × (passed ≤ 2 ^ 53) }
+    requires { (t.old.end + widest ≤ length out.old) × (t.old.frames + 1 < 2 ^ 64) × (t.old.messages + 1 < 2 ^ 64) × (passed ≤ 2 ^ 53) }
     ensures by_index { (old : List ℕ) (start : ℕ) (p : Emission) → Tells p old start 0 t.old out.old
-        → Tells (emitted (record { started = started; passed = passed; tracker = tracker; at = at.now; lo = lo.now; hz = hz.now; room = length scratch.old }) p event.now) old start (cause_of result) t.new out.new }
+        → Tells (emitted (record { started = started; passed = passed; tracker = tracker; at = at.now; lo = lo.now; hz = hz.now; room = length scratch.old }) p event.entry.bytes.now) old start (cause_of result) t.new out.new }
     ensures within { Within t.old t.new out.old out.new }
 {
-    if read::kind_of(event) == record::FRAME {
+    if event.kind() == record::FRAME {
         t.frames += 1;
         return Ok(());
     }
@@ -148,7 +147,7 @@ pub fn tell_all(
             started,
             passed,
             tracker,
-            &events[from..to],
+            EventRecord::new(&events[from..to]),
             at,
             lo,
             hz,

@@ -5,7 +5,8 @@ use ledger::Pending;
 use receiver::SigfoxReceiver;
 use receiver_starts::Starts;
 use receiver_waiting::Waiting;
-use record::{FrameSpan, NO_RANK, SigfoxMessage, read};
+use record::read::EventRecord;
+use record::{FrameSpan, NO_RANK, SigfoxMessage};
 
 fn least(a: u64, b: u64) -> u64
     ensures { (result ≤ a) × (result ≤ b) }
@@ -72,18 +73,8 @@ fn end_of(flags: u8, end: f64) -> Option<f64> {
     Some(end)
 }
 
-fn span_of(r: &[u8; 120], i: usize) -> FrameSpan
-    requires { i < 3 }
-{
-    FrameSpan {
-        rank: read::span_rank_of(r, i),
-        time: read::span_time_of(r, i),
-        end: read::span_end_of(r, i),
-    }
-}
-
 // The spans of a record, in front of the places that hold none.
-fn spans_of(r: &[u8; 120]) -> [FrameSpan; 3] {
+fn spans_of(r: EventRecord) -> [FrameSpan; 3] {
     let none = FrameSpan {
         rank: NO_RANK,
         time: 0.0,
@@ -91,10 +82,7 @@ fn spans_of(r: &[u8; 120]) -> [FrameSpan; 3] {
     };
     let mut spans = [none; 3];
     let mut n: usize = 0;
-    let mut i: usize = 0;
-    while i < 3 {
-        let span = span_of(r, i);
-        i += 1;
+    for span in r.spans() {
         if span.rank != NO_RANK {
             spans[n] = span;
             n += 1;
@@ -105,31 +93,32 @@ fn spans_of(r: &[u8; 120]) -> [FrameSpan; 3] {
 
 // The message of a record. What payload and auth hold past their lengths is handed in as it stands.
 fn message_of(r: &[u8; 120]) -> SigfoxMessage {
-    let flags = read::flags_of(r);
+    let event = EventRecord::new(r);
+    let flags = event.flags();
     let payload = [
         r[16], r[17], r[18], r[19], r[20], r[21], r[22], r[23], r[24], r[25], r[26], r[27],
     ];
     let bit = bit_of(flags);
     let auth = [r[28], r[29], r[30], r[31], r[32]];
-    let first_frame_end = end_of(flags, read::end_of(r));
-    let spans = spans_of(r);
+    let first_frame_end = end_of(flags, event.end());
+    let spans = spans_of(event);
     SigfoxMessage {
-        device_id: read::device_of(r),
-        counter: read::counter_of(r),
+        device_id: event.device(),
+        counter: event.counter(),
         payload,
-        payload_len: read::payload_len_of(r),
+        payload_len: event.payload_len(),
         bit,
         downlink: flags % 2 == 1,
         control: flags / 2 % 2 == 1,
         auth,
-        auth_len: read::auth_len_of(r),
-        time: read::time_of(r),
+        auth_len: event.auth_len(),
+        time: event.time(),
         first_frame_end,
-        rssi: read::rssi_of(r),
+        rssi: event.rssi(),
         spans,
-        clock_error_ppm: read::ppm_of(r),
-        start: read::start_of(r),
-        depth: read::depth_of(r),
+        clock_error_ppm: event.ppm(),
+        start: event.start(),
+        depth: event.depth(),
     }
 }
 

@@ -1,12 +1,11 @@
 // The days of a month, and the messages on each.
-ghost use Rattle.std.specs.Prelude.{◌≡◌, ◌≤◌, length};
-ghost use Rattle.limits.specs.Limits.{record_size};
+ghost use Rattle.std.specs.Prelude.{◌≡◌, ◌≤◌};
 ghost use Rattle.event_list.specs.Events.{most_records};
 ghost use Rattle.subscription.specs.Charges.{days, latest_start};
 ghost use Rattle.subscription.specs.Counting.{day_at, inside, stepped, Few};
 
 use crate::DAYS;
-use record::read;
+use record::read::EventRecord;
 
 const DAY_S: usize = 86_400;
 
@@ -27,14 +26,14 @@ fn day_of(start: usize, time: f64) -> usize
 }
 
 // A message in the month is counted on its day. Whether the record is no message outside the month.
-pub fn counted(r: &[u8], start: usize, counts: &mut [u32]) -> bool
-    requires { (record_size ≤ length r.now) × (start ≤ latest_start) × Few counts.old most_records }
-    ensures { (result ≡ inside start r.now) × (counts.new ≡ stepped start counts.old r.now) }
+pub fn counted(r: EventRecord, start: usize, counts: &mut [u32]) -> bool
+    requires { (start ≤ latest_start) × Few counts.old most_records }
+    ensures { (result ≡ inside start r.entry.bytes.now) × (counts.new ≡ stepped start counts.old r.entry.bytes.now) }
 {
     if !event_list::is_message(r) {
         return true;
     }
-    let day = day_of(start, read::time_of(r));
+    let day = day_of(start, r.time());
     if day == DAYS {
         return false;
     }

@@ -12,6 +12,7 @@ ghost use Rattle.subscription.specs.Charges.{latest_start, plan_ok, start_ok, ce
 ghost use Rattle.subscription.specs.Counting.{second_of, read_on, tallied, Few};
 
 use limits::Refusal;
+use record::read::EventRecord;
 
 // The most steps of a plan.
 pub const MOST_STEPS: usize = 8;
@@ -80,8 +81,9 @@ pub fn read_records(
     let mut ok = records.len() % limits::RECORD == 0;
     let mut within = t.within;
     for r in records.chunks_exact(limits::RECORD) {
-        let right = event_list::record_ok(r);
-        let inside = days::counted(r, start, counts);
+        let event = EventRecord::new(r);
+        let right = event_list::record_ok(event);
+        let inside = days::counted(event, start, counts);
         ok &= right;
         within &= inside;
     }

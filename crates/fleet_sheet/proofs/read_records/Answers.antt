@@ -2,9 +2,9 @@ use Rattle.std.proofs.Common.{rules, ◌≡◌, ℕ, ◌+◌, ◌<◌, List, [],
 use mathlib.Core.List.{map-append}
 use Rattle.std.specs.Slice.Iter.{chunks_exact_rest}
 use Rattle.limits.specs.Limits.{record_size}
-use Rattle.event_list.specs.Events.{events_of, list_ok, wholes}
+use Rattle.event_list.specs.Events.{events_of, list_ok, record_ok, wholes}
 use Rattle.event_list.proofs.EventLaws.{length-records, event_next, event_end, ok_next, ok_last}
-use Rattle.fleet_sheet.specs.Table.{Rising, Gathered}
+use Rattle.fleet_sheet.specs.Table.{Rising, Gathered, taken_count, taken_ids, taken_table}
 use Rattle.fleet_sheet.proofs.DeviceLaws.{rising-devices}
 use Rattle.fleet_sheet.proofs.StandLaws.{small-rows}
 use Rattle.fleet_sheet.proofs.SheetLaws.{read_to, read_none, read_few, read_next, read_over}
@@ -37,7 +37,7 @@ taken-n-requires c =
     let n = ap length v.split in
     let few = read_few ms done a.t.«records» c.requires.2.held.few in
     let small = small-rows l.ids l.sums l.n (read_to ms done) st [] (omega (arith, few, n, length-append done (events_of (chunks_exact_rest l.r-iterator)), length-records (wholes x) x, c.requires.0)) in
-    (omega arith, st.places, st.long, u, subst Rising (sym st.named) (rising-devices (read_to ms done)), small, v.hints)
+    (st.places, st.long, u, subst Rising (sym st.named) (rising-devices (read_to ms done)), small, v.hints)
 
 pub loop-r-preserved-then-n-le-MOST_DEVICES : goal.loop-r-preserved-then-n-le-MOST_DEVICES
 loop-r-preserved-then-n-le-MOST_DEVICES c =
@@ -47,16 +47,17 @@ loop-r-preserved-then-n-le-MOST_DEVICES c =
     let whole = s.1.1 ∙ v.size in
     let r = c.in-Some.r.now in
     let w = c.taken-n in
+    let same = c.new-event.ensures in
     let done = map (λ r. r.now) l.yielded in
     let more = map-append (λ r. r.now) l.yielded (c.in-Some.r ∷ []) in
     rw more (record {
       size = s.0 ∙ v.size;
       split = append_assoc done (r ∷ []) _ ∙ ap (λ es. done ++ es) (sym (event_next _ _ _ s.1.0 whole)) ∙ v.split;
-      tested = ok_next _ _ _ s.1.0 whole l.ok _ _ c.record_ok-ok.ensures v.tested;
+      tested = ok_next _ _ _ s.1.0 whole l.ok _ _ (c.record_ok-ok.ensures ∙ ap record_ok c.new-event.ensures) v.tested;
       hints = w.ensures.3;
       ids = search rules;
       sums = search rules;
-      gathered = λ ms g. read_next ms done r l.ids l.sums l.n c.if-n-le-MOST_DEVICES.true (v.gathered ms g) w.result w.new.ids w.new.table (w.ensures.0, w.ensures.1, w.ensures.2);
+      gathered = λ ms g. read_next ms done r l.ids l.sums l.n c.if-n-le-MOST_DEVICES.true (v.gathered ms g) w.result w.new.ids w.new.table (w.ensures.0 ∙ ap (λ (e : List ℕ). taken_count e l.n l.ids) same, w.ensures.1 ∙ ap (λ (e : List ℕ). taken_ids e l.n l.ids) same, w.ensures.2 ∙ ap (λ (e : List ℕ). taken_table e l.n l.ids l.sums) same);
     })
 
 pub loop-r-preserved : goal.loop-r-preserved
@@ -71,7 +72,7 @@ loop-r-preserved c =
     rw more (record {
       size = s.0 ∙ v.size;
       split = append_assoc done (r ∷ []) _ ∙ ap (λ es. done ++ es) (sym (event_next _ _ _ s.1.0 whole)) ∙ v.split;
-      tested = ok_next _ _ _ s.1.0 whole l.ok _ _ c.record_ok-ok.ensures v.tested;
+      tested = ok_next _ _ _ s.1.0 whole l.ok _ _ (c.record_ok-ok.ensures ∙ ap record_ok c.new-event.ensures) v.tested;
       hints = v.hints;
       ids = v.ids;
       sums = v.sums;

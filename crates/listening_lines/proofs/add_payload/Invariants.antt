@@ -7,4 +7,4 @@ use Rattle.record.specs.Readers.{payload_of}
 use Rattle.listening_lines.proofs.add_payload.Given as goal
 
 abbrev pub invariant-loop-b : goal.invariant-loop-b
-invariant-loop-b l = (l.next ≡ l.at + 2 * l.b-index) × Added l.initial.out l.at (hex_bytes (take l.b-index (payload_of l.event))) l.next l.out
+invariant-loop-b l = (l.next ≡ l.at + 2 * l.b-index) × Added l.initial.out l.at (hex_bytes (take l.b-index (payload_of l.event.bytes.now))) l.next l.out

@@ -2,7 +2,7 @@ use Rattle.std.proofs.Common.{◌≡◌, ◌<◌, ℕ, length, refl, ap, ◌∙�
 use Rattle.std.specs.Iterator.Adapters.{enumerate_source, enumerate_count}
 use Rattle.std.specs.Slice.Iter.{chunks_exact_rest}
 use Rattle.limits.specs.Limits.{record_size}
-use Rattle.event_list.specs.Events.{events_of, wholes}
+use Rattle.event_list.specs.Events.{events_of, wholes, record_ok}
 use Rattle.event_list.proofs.EventLaws.{length-records, event_at, ok_next, none_left, ok_last}
 use Rattle.grip.specs.OnAir.{is_on_air}
 use Rattle.grip.specs.Marks.{marked_of}
@@ -43,9 +43,9 @@ loop-i-preserved c =
       size = s.0 ∙ l.invariant.size;
       many = omega (arith, at.0);
       place = at.2;
-      tested = ok_next _ _ _ split whole l.ok _ _ c.record_ok-ok.ensures l.invariant.tested;
+      tested = ok_next _ _ _ split whole l.ok _ _ (c.record_ok-ok.ensures ∙ ap record_ok c.new-event.ensures) l.invariant.tested;
       marked = marked_turn a.x es (enumerate_count l.i-iterator) l.marks c.mark.new.marks c.is_on_air.result (omega (arith, at.0, length-records (wholes x) x, c.requires.0))
-          (c.is_on_air.ensures ∙ ap (is_on_air a.x) at.1) (rw (← n.1) c.mark.ensures) l.invariant.marked;
+          (c.is_on_air.ensures ∙ ap (is_on_air a.x) (c.new-event.ensures ∙ at.1)) (rw (← n.1) c.mark.ensures) l.invariant.marked;
     })
 
 pub returns : goal.returns
