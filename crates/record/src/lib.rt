@@ -70,12 +70,11 @@ pub struct SigfoxMessage {
 fn frame_head(f: UplinkFrame) -> Head
     ensures { result ≡ frame_head f }
 {
-    let bit = f.bit;
     let how = f.repaired;
     Head {
         kind: FRAME,
         rank: f.rank,
-        flags: frame_flags(f.downlink, f.control, f.crc_ok, bit),
+        flags: frame_flags(f),
         payload_len: f.payload_len,
         auth_len: f.auth_len,
         repair: repair_number(how),
@@ -111,15 +110,10 @@ pub fn put_frame(f: UplinkFrame, r: Reception, out: &mut [u8], at: usize)
 fn message_head(m: SigfoxMessage) -> Head
     ensures { result ≡ message_head m }
 {
-    let bit = m.bit;
-    let end = m.first_frame_end;
-    let a = m.spans[0];
-    let b = m.spans[1];
-    let c = m.spans[2];
     Head {
         kind: MESSAGE,
-        rank: mask_of(a.rank, b.rank, c.rank),
-        flags: message_flags(m.downlink, m.control, bit, end),
+        rank: mask_of(m),
+        flags: message_flags(m),
         payload_len: m.payload_len,
         auth_len: m.auth_len,
         repair: 0,
