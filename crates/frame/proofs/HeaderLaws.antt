@@ -3,8 +3,8 @@ use mathlib.Core.Path.{◌≡◌, refl, ap, ap₂, ◌∙◌}
 use mathlib.Core.List.{List, [], ◌∷◌, ◌++◌}
 use Prim.Native.Nat.{ℕ, zero, suc, ◌+◌, ◌-◌, ◌*◌, ◌/◌, ◌%◌, ◌≤◌, ◌<◌}
 use native.Mathlib.Omega.{arith}
-use lib.ListN.{length, take, drop, length-append}
-use lib.Seq.{sets, sets-eq, take-length}
+use lib.ListN.{length, drop, length-append}
+use lib.Seq.{sets, sets-eq}
 use borrow.Author.Tests.{lt-ltb, le-ltb}
 use Rattle.limits.specs.Limits.{short, bad_number}
 use Rattle.limits.specs.Answer.{refused, accepted, answer, leaves}
@@ -40,7 +40,7 @@ length_header f payload = omega (arith, length-append (bytes_of 4 f.device_id) p
 
 -- header, counter, device and payload one after the other
 pub written : (out a b c d : List ℕ) (f : UplinkFields) (payload : List ℕ) (x y : ℕ) → a ≡ sets out 0 (x ∷ []) → b ≡ sets a 1 (y ∷ []) → c ≡ sets b 2 (bytes_of 4 f.device_id)
-    → d ≡ sets c header_size (take (length payload) (drop 0 payload))
+    → d ≡ sets c header_size payload
     → x ≡ li_of f.bit (length payload) * 64 + bit_of f.downlink * 32 + f.counter / 256 % 16 → y ≡ f.counter % 256
     → d ≡ sets out 0 (header_bytes f payload)
 unfolding header_bytes
@@ -49,7 +49,7 @@ written out a b c d f payload x y ea eb ec ed ex ey =
     let fb : b ≡ sets out 0 (x ∷ y ∷ []) = eb ∙ ap (λ (l : List ℕ). sets l 1 (y ∷ [])) ea in
     let fc : c ≡ sets out 0 (x ∷ y ∷ dev) = ec ∙ ap (λ (l : List ℕ). sets l 2 dev) fb ∙ sets_then out 0 (x ∷ y ∷ []) dev 2 refl in
     let fd : d ≡ sets out 0 (x ∷ y ∷ (dev ++ payload)) =
-    ed ∙ ap₂ (λ (l p : List ℕ). sets l header_size p) fc (take-length payload)
+    ed ∙ ap (λ (l : List ℕ). sets l header_size payload) fc
     ∙ sets_then out 0 (x ∷ y ∷ dev) payload header_size (omega (arith, length-bytes_of 4 f.device_id)) in
     fd ∙ ap₂ (λ (u v : ℕ). sets out 0 (u ∷ v ∷ (dev ++ payload))) ex ey
 

@@ -8,3 +8,4 @@ pub mod Splices
 pub mod Plain
 pub mod Header
 pub mod Control
+pub mod Bodies

@@ -6,7 +6,7 @@ ghost use Rattle.record.specs.Record.{spare, up_to, head_bytes, mark_bytes, iden
 
 use crate::FrameSpan;
 use endian::LittleEndian;
-use frame::bodies::{copy_into, put_byte};
+use frame::bytes::{copy_into, put_byte};
 
 // Bytes 0 to 7.
 #[derive(Clone, Copy)]
@@ -53,10 +53,10 @@ pub fn put_up_to(out: &mut [u8], at: usize, len: usize, bytes: &[u8])
     ensures { out.new ≡ sets out.old at (up_to len bytes.now) }
 {
     if bytes.len() <= len {
-        copy_into(bytes, 0, bytes.len(), out, at);
+        copy_into(bytes, out, at);
         return;
     }
-    copy_into(bytes, 0, len, out, at);
+    copy_into(&bytes[..len], out, at);
     put_spare(out, at + len, bytes.len() - len);
 }
 

@@ -1,5 +1,5 @@
-use mathlib.Core.Path.{◌≡◌, refl, sym, ap, ◌∙◌}
-use mathlib.Core.List.{map}
+use mathlib.Core.Path.{◌≡◌, refl, sym, ap, ap₂, ◌∙◌}
+use mathlib.Core.List.{List, map}
 use Prim.Native.Nat.{ℕ, suc, ◌+◌, ◌-◌}
 use native.Mathlib.Omega.{arith}
 use lib.ListN.{length, length-drop}
@@ -7,6 +7,7 @@ use Rattle.coding.specs.Bits.{odd, are_bits}
 use Rattle.coding.proofs.BitLaws.{bits-drop, length-map-odd}
 use Rattle.frame.specs.Kinds.{sync_size, kinds, kind_of}
 use Rattle.frame.specs.Decode.{decode_body, search_from, decode_uplink}
+use Rattle.frame.specs.declared.kinds.FrameKind.{FrameKind}
 use Rattle.frame.proofs.KindLaws.{found_class}
 use Rattle.frame.proofs.SearchLaws.{search_short, search-found, search-later, search_none, part_is, part-bits}
 use Rattle.frame.proofs.decode_bits.Goals as goal
@@ -22,14 +23,13 @@ returns-then-bits-after c = let z = c.args.bits.now in
 pub word-requires : goal.word-requires
 word-requires c = (c.requires.0, omega arith)
 
-pub decode_body-requires : goal.decode_body-requires
-decode_body-requires c = let z = c.args.bits.now in
-    let n = c.loop-start.start + sync_size in
-    record {
-      bits = ap are_bits (part_is z n) ∙ bits-drop n z c.requires.0;
-      few = omega (arith, c.requires.1, ap length (part_is z n), length-drop n z);
-      class = found_class c.word.result c.in-Some.kind (sym c.find_kind.ensures ∙ c.in-Some.is);
-    }
+pub new-requires : goal.new-requires
+new-requires c = let z = c.args.bits.now in
+    let n = c.loop-start.start + sync_size in (
+      ap are_bits (part_is z n) ∙ bits-drop n z c.requires.0,
+      omega (arith, c.requires.1, ap length (part_is z n), length-drop n z),
+      found_class c.word.result c.in-Some.kind (sym c.find_kind.ensures ∙ c.in-Some.is),
+    )
 
 pub returns-in-Some : goal.returns-in-Some
 returns-in-Some c = let z = c.args.bits.now in
@@ -37,7 +37,7 @@ returns-in-Some c = let z = c.args.bits.now in
     let s = c.loop-start.start in
     let kind = c.in-Some.kind in
     let x : suc (23 - (s + 1)) ≡ 23 - s = omega arith in
-    c.decode_body.ensures ∙ ap (decode_body kind) (part-bits z (s + sync_size))
+    c.decode.ensures ∙ ap₂ (λ (k : FrameKind) (l : List ℕ). decode_body k (map odd l)) c.new.ensures.1 c.new.ensures.0 ∙ ap (decode_body kind) (part-bits z (s + sync_size))
     ∙ search-found (23 - (s + 1)) s m (omega (arith, c.if-bits-after.false, length-map-odd z)) c.find_kind.result
     (c.find_kind.ensures ∙ ap (λ (w : ℕ). kind_of w kinds) c.word.ensures) kind c.in-Some.is
     ∙ ap (λ (y : ℕ). search_from y s m) x ∙ c.loop-start.invariant

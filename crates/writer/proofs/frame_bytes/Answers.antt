@@ -20,6 +20,6 @@ returns c =
     let p = c.put_byte in
     let q = c.put_byte-2 in
     let n = 6 + length a.payload.now + length a.auth.now in
-    bytes-stored a.fields a.payload.now a.auth.now c.requires.3 k.new.out p.new.out q.new.out n r.result
-    (covered-stored a.fields a.payload.now a.auth.now c.requires.3 h.new.out k.new.out (6 + length a.payload.now) h.ensures refl k.ensures)
+    bytes-stored a.fields a.payload.now a.auth.now c.requires.2 k.new.out p.new.out q.new.out n r.result
+    (covered-stored a.fields a.payload.now a.auth.now c.requires.2 h.new.out k.new.out (6 + length a.payload.now) h.ensures refl k.ensures)
     refl r.ensures p.ensures q.ensures

@@ -16,7 +16,7 @@ unfolding value
 loop-j-init c = refl
 
 pub overflow_add-v : goal.overflow_add-v
-overflow_add-v c = omega (arith, c.wide.ensures, bit_at c.args.bits.now (c.args.at + c.loop-j.j) c.requires.0)
+overflow_add-v c = omega (arith, c.from.ensures, bit_at c.args.bits.now (c.args.at + c.loop-j.j) c.requires.0)
 
 pub loop-j-preserved : goal.loop-j-preserved
 loop-j-preserved c = let a = c.args in
@@ -25,7 +25,7 @@ loop-j-preserved c = let a = c.args in
     let n : j < length z = omega (arith, length-drop a.at (map odd a.bits.now), length-map-odd a.bits.now) in
     let b : get_or a.bits.now (a.at + j) 0 ≡ bit_of (get_or z j false) =
     bit_of_lem a.bits.now (a.at + j) c.requires.0 ∙ ap bit_of (sym (get_or-drop a.at (map odd a.bits.now) j false)) in
-    omega (arith, c.wide.ensures, b, c.loop-j.invariant, value-below z j 15 (omega arith) (omega arith), value-next z j n)
+    omega (arith, c.from.ensures, b, c.loop-j.invariant, value-below z j 15 (omega arith) (omega arith), value-next z j n)
 
 pub returns : goal.returns
 returns c = let a = c.args in
