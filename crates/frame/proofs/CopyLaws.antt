@@ -4,8 +4,8 @@ use mathlib.Core.List.{List, [], ◌∷◌, ◌++◌}
 use Prim.Native.Nat.{ℕ, zero, suc, ◌+◌, ◌-◌, ◌≤◌}
 use native.Mathlib.Nat.{sub-zero}
 use native.Mathlib.Omega.{arith}
-use lib.ListN.{length, take, drop, set, replicate, length-replicate}
-use lib.Seq.{sets, sets-eq, drop-drop}
+use lib.ListN.{length, take, drop, set, replicate, length-drop, length-replicate}
+use lib.Seq.{sets, sets-eq, drop-drop, length-take-le}
 use borrow.Rule.Slice.PartMut.{put_mid}
 use Rattle.std.proofs.Common.{append_assoc}
 use Rattle.frame.specs.Fields.{padded}
@@ -15,6 +15,10 @@ pub part_put : (at n : ℕ) (out ys zs : List ℕ) → ys ≡ zs → length zs �
 part_put at n out ys zs e k h =
     let end : at + (at + n - at) ≡ at + length zs = omega (arith, k) in
     rw (e, drop-drop, end) (sym (append_assoc (take at out) zs (drop (at + length zs) out))) ∙ sym (sets-eq zs out at (omega (arith, k)))
+
+-- a part of a list is as long as it says
+pub part_length : (l : List ℕ) (from n : ℕ) → from + n ≤ length l → length (take n (drop from l)) ≡ n
+part_length l from n h = length-take-le n (drop from l) (omega (arith, length-drop from l))
 
 -- a part of a list, up to where it ends
 pub part_bytes : (from n : ℕ) (l : List ℕ) → take (from + n - from) (drop from l) ≡ take n (drop from l)
