@@ -46,6 +46,7 @@ impl<'a> Body<'a> {
     }
 
     // Eight bits, the convolution undone. The inputs before them end the byte before, `last`.
+    #[inline(always)]
     pub fn byte(self, from: usize, last: u8) -> u8
         requires { from + 8 ≤ length self.bits.now }
         ensures { NextByte self.entry.kind.rank (drop from (map odd self.entry.bits.now)) last result }
@@ -63,6 +64,7 @@ impl<'a> Body<'a> {
     }
 
     // The frame that its plain bytes hold.
+    #[inline(always)]
     fn frame(self, plain: Plaintext, how: Option<Repair>) -> UplinkFrame
         requires { plain.crc_ok ≡ crc_right self.size plain.bytes }
         ensures { result ≡ frame_from self.entry.kind how plain.bytes }

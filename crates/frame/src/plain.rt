@@ -23,24 +23,28 @@ pub struct Prefix {
 
 impl Plaintext {
     // LI: the top two bits of the first byte.
+    #[inline(always)]
     pub fn li(self) -> u8
         ensures { (result ≡ li self.bytes) × (result ≤ 3) }
     {
         self.bytes[0] / 64
     }
 
+    #[inline(always)]
     pub fn device(self) -> u32
         ensures { result ≡ device_of self.bytes }
     {
         endian::get::<u32>(&self.bytes, 2)
     }
 
+    #[inline(always)]
     pub fn counter(self) -> u16
         ensures { result ≡ counter_of self.bytes }
     {
         u16::from(self.bytes[0] % 16) * 256 + u16::from(self.bytes[1])
     }
 
+    #[inline(always)]
     pub fn payload(self, layout: Layout) -> [u8; 12]
         ensures { result ≡ padded most_payload (payload_of (payload_size layout.class layout.li) self.bytes) }
     {
@@ -50,6 +54,7 @@ impl Plaintext {
         payload
     }
 
+    #[inline(always)]
     pub fn auth(self, layout: Layout) -> [u8; 5]
         ensures { result ≡ padded most_auth (auth_of (payload_size layout.class layout.li) (auth_size layout.class layout.li) self.bytes) }
     {

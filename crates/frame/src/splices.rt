@@ -21,7 +21,7 @@ pub struct Splice {
     pub skip: usize,
 }
 
-// A body with a splice in it.
+// A body with a splice in it. What reads it is inlined: else each call copies it, and decoding takes a quarter more.
 #[derive(Clone, Copy)]
 pub struct Spliced<'a> {
     pub body: Body<'a>,
@@ -33,6 +33,7 @@ pub struct Spliced<'a> {
 }
 
 impl<'a> Body<'a> {
+    #[inline(always)]
     fn spliced(self, splice: Splice) -> Spliced<'a>
         requires { (splice.bit < 2) × (splice.put ≤ 1) × (splice.skip ≤ 1) × (splice.at + splice.skip ≤ length self.bits.now) }
         ensures { (result.body ≡ self.entry) × (result.splice ≡ splice) }
@@ -94,12 +95,14 @@ impl<'a> Body<'a> {
 impl<'a> Spliced<'a> {
     ghost use Rattle.frame.specs.Bodies.{bits_of};
 
+    #[inline(always)]
     pub fn len(self) -> usize
         ensures { result ≡ length (bits_of self.entry) }
     {
         self.body.bits.len() + self.splice.put - self.splice.skip
     }
 
+    #[inline(always)]
     fn bit(self, j: usize) -> u8
         requires { j < length (bits_of self) }
         ensures { result ≡ bit_of (get_or (bits_of self.entry) j false) }
@@ -132,6 +135,7 @@ impl<'a> Spliced<'a> {
     }
 
     // The same: past the splice the bits are the body's, and nothing is asked of each.
+    #[inline(always)]
     fn byte(self, from: usize, last: u8) -> u8
         requires { (from + 8 ≤ length (bits_of self)) × (from < 1024) }
         ensures { NextByte self.entry.body.kind.rank (drop from (bits_of self.entry)) last result }
@@ -144,6 +148,7 @@ impl<'a> Spliced<'a> {
     }
 
     // The plain bytes, the last two their CRC.
+    #[inline(always)]
     pub fn plain_bytes(self) -> Plaintext
         requires { 8 * self.body.size ≤ length (bits_of self) }
         ensures { (result.bytes ≡ padded most_bytes (to_bytes self.entry.body.size (deconvolved self.entry.body.kind.rank fresh (bits_of self.entry))))
@@ -169,6 +174,7 @@ impl<'a> Spliced<'a> {
     }
 
     // A byte more of the front.
+    #[inline(always)]
     pub fn further(self, front: Prefix) -> Prefix
         requires { Passed self.body.kind.rank (bits_of self) front
             × (8 * front.bytes + 8 ≤ length (bits_of self)) × (front.bytes < most_bytes) }
@@ -183,6 +189,7 @@ impl<'a> Spliced<'a> {
     }
 
     // Whether it parses as a frame with a right CRC; `front` has bytes from before the splice.
+    #[inline(always)]
     pub fn is_right(self, front: Prefix) -> bool
         requires { Passed self.body.kind.rank (map odd self.body.bits.now) front
             × (8 * front.bytes ≤ self.splice.at) × (front.bytes + 2 ≤ self.body.size) }
