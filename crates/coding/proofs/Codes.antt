@@ -9,7 +9,7 @@ use native.Mathlib.Numerals.{add-one}
 use lib.ListN.{length, take, drop, get_or, set, drop_of_length-le, take-append-drop}
 use lib.Seq.{drop-cons, take-suc-set, drop-set-lt, append_snoc}
 use Rattle.coding.specs.Bits.{plus, odd, bit_of}
-use Rattle.coding.specs.Convolution.{State, coded, tap, shift, state_of, state_after, numbered, convolved, deconvolved, through, taken}
+use Rattle.coding.specs.Convolution.{State, coded, tap, shift, state_of, state_after, numbered, convolved, deconvolved}
 use Rattle.coding.proofs.BitLaws.{odd-sum, bit-odd, odd-bit, plus-false, plus-twice}
 
 -- every generator has the coefficient 1: a product's bit is the input and what the state adds
@@ -113,6 +113,13 @@ no_tap (suc (suc zero)) b s l h k = absurd (k refl)
 no_tap (suc (suc (suc r))) b s l h k = no_sum b l
 
 -- ---- either direction: the next bit, and the state after it
+
+abbrev pub through : Bool → ℕ → State → List Bool → List Bool
+through undo r s l = cond undo (deconvolved r s l) (convolved r s l)
+
+-- and the inputs that the state takes up
+abbrev pub taken : Bool → ℕ → State → List Bool → List Bool
+taken undo r s l = cond undo (deconvolved r s l) l
 
 through-cons : (undo : Bool) (r : ℕ) (s : State) (b : Bool) (l : List Bool)
     → through undo r s (b ∷ l) ≡ plus b (tap r s) ∷ through undo r (shift s (cond undo (plus b (tap r s)) b)) l

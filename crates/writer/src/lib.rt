@@ -69,7 +69,7 @@ fn put_repetition(rank: u8, layout: Layout, body: &[u8], out: &mut [u8])
     let at = PLACES * (rank as usize);
     put_digits(&mut out[at..at + LEAD], LEAD_BITS);
     put_digits(&mut out[at + LEAD..at + LEAD + SYNC], type_of(rank, layout));
-    coding::code_into(body, rank, false, &mut out[at + LEAD + SYNC..]);
+    coding::convolve_from(body, rank, 0, &mut out[at + LEAD + SYNC..]);
 }
 
 // All three repetitions.

@@ -17,7 +17,7 @@ returns c = let a = c.args in
     let at = 212 * a.rank in
     let p = c.put_digits in
     let q = c.put_digits-2 in
-    let i = c.code_into in
+    let i = c.convolve_from in
     let o1 = put_mid at (at + 20 - at) o p.new.out in
     let o2 = put_mid (at + 20) (at + 20 + 16 - (at + 20)) o1 q.new.out in
     let e1 = part_digits o p.new.out at 20 0xaaaaa (omega (arith, c.requires.3)) p.ensures in
@@ -27,4 +27,4 @@ returns c = let a = c.args in
     let v = map bit_of (convolved a.rank fresh (map odd a.body.now)) in
     repetition-stored a.rank a.layout.class a.body.now o o1 o2 _ c.type_of.result at e1 c.type_of.ensures e2
     (part-stored o2 (at + 20 + 16) v i.new.out (length a.body.now) (length-coded a.rank a.body.now)
-    (omega (arith, n2, length-coded a.rank a.body.now, c.requires.2, c.requires.3)) i.ensures)
+    (omega (arith, n2, length-coded a.rank a.body.now, c.requires.2, c.requires.3)) i.ensures.0)
