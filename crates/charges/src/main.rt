@@ -38,27 +38,16 @@ fn start_of(text: &[u8]) -> Option<i64> {
     Some(if is_negative { -n } else { n })
 }
 
-fn count_at(rt: &impl Env, i: usize) -> Option<u32> {
+// What argument i says, or that it is wrong.
+fn argument<T, F: Fn(&[u8]) -> Option<T>>(rt: &impl Env, i: usize, parse: F) -> Result<T, usize>
+    requires { F.IsAlwaysCallable parse }
+{
     let mut text = [0u8; 32];
     let n = command_line::arg(rt, i, &mut text);
-    count_of(&text[..n])
+    parse(&text[..n]).ok_or(i)
 }
 
-fn start_at(rt: &impl Env, i: usize) -> Option<i64> {
-    let mut text = [0u8; 32];
-    let n = command_line::arg(rt, i, &mut text);
-    start_of(&text[..n])
-}
-
-// The upper count of a step; that of the last one is not read.
-fn upper_at(rt: &impl Env, i: usize, is_last: bool) -> Option<u32> {
-    if is_last {
-        return Some(0);
-    }
-    count_at(rt, i)
-}
-
-// The steps of the arguments, eight of them at most, or which argument is wrong.
+// The steps of the arguments, eight of them at most, or which argument is wrong. The upper count of the last one is not read.
 fn read_steps(
     rt: &impl Env,
     steps: usize,
@@ -69,17 +58,19 @@ fn read_steps(
 {
     for j in 0..steps.min(MOST_STEPS) {
         let at = FIRST_STEP + STEP * j;
-        uppers[j] = upper_at(rt, at, j + 1 == steps).ok_or(at)?;
-        prices[j] = count_at(rt, at + 1).ok_or(at + 1)?;
+        if j + 1 < steps {
+            uppers[j] = argument(rt, at, count_of)?;
+        }
+        prices[j] = argument(rt, at + 1, count_of)?;
     }
     Ok(())
 }
 
 // The plan and the month's start of the arguments, or which argument is wrong.
 fn read_arguments(rt: &impl Env, steps: usize) -> Result<(Plan, i64), usize> {
-    let fee = count_at(rt, 1).ok_or(1usize)?;
-    let allowance = count_at(rt, 2).ok_or(2usize)?;
-    let month_start = start_at(rt, 3).ok_or(3usize)?;
+    let fee = argument(rt, 1, count_of)?;
+    let allowance = argument(rt, 2, count_of)?;
+    let month_start = argument(rt, 3, start_of)?;
     let mut uppers = [0u32; 8];
     let mut prices = [0u32; 8];
     read_steps(rt, steps, &mut uppers, &mut prices)?;
