@@ -138,7 +138,7 @@ fn main(rt: HostRuntime) {
     let mut scratch32 = [0.0f32; 48000];
     let mut scratch64 = [0.0f64; limits::SCRATCH64];
     let mut head = [0u8; 12];
-    let whole = replay::read_part(&rt, &mut head);
+    let whole = replay::read_part(&rt, &mut head).is_ok();
     let receiver = SigfoxReceiver::new(endian::get::<u32>(&head, 0));
     let step = endian::get::<u32>(&head, 4) as usize;
     let proved = 0 < endian::get::<u32>(&head, 8);

@@ -252,7 +252,7 @@ fn start(rt: &impl Input, tracker: FrequencyTracker) -> State
     ensures { result.tracker ≡ tracker }
 {
     let mut first = [0u8; 2];
-    let there = replay::read_part(rt, &mut first);
+    let there = replay::read_part(rt, &mut first).is_ok();
     State {
         all: first[0] != 0,
         known: first[1] != 0,

@@ -21,7 +21,7 @@ fn print_row(rt: &impl Print, rows: &[i64; 2304], p: usize)
     print_device(rt, rows[NUMBERS * p]);
     for j in 1..NUMBERS {
         replay::print(rt, b" ");
-        replay::print_i64(rt, rows[NUMBERS * p + j]);
+        replay::print_number(rt, rows[NUMBERS * p + j]);
     }
     replay::print_end(rt);
 }

@@ -3,8 +3,7 @@
 
 ghost use Rattle.std.specs.Prelude.{◌≤◌};
 
-use limits::Refusal;
-use replay::Head;
+use replay::Unanswered;
 use subscription::Plan;
 
 // Bytes of a step: its upper count and its price.
@@ -27,53 +26,27 @@ fn plan_of(head: &[u8; 9], count: usize, steps: &[u8; 2040]) -> Plan {
     }
 }
 
-fn print_charge(rt: &impl Print, charge: Result<u64, Refusal>) -> bool {
-    match charge {
-        Ok(cents) => {
-            replay::print(rt, b"P ");
-            replay::print_number(rt, cents);
-            replay::print_end(rt)
-        }
-        Err(refusal) => replay::print_refusal(rt, refusal),
-    }
-}
-
 // The month's start and the records.
-fn charge_case(rt: &(impl Input + Print), plan: Plan) -> bool {
+fn charge_case(rt: &(impl Input + Print), plan: Plan) -> Result<(), Unanswered> {
     let mut month = [0u8; 8];
-    if !replay::read_part(rt, &mut month) {
-        return replay::print_short(rt);
-    }
+    replay::read_part(rt, &mut month)?;
     let mut records = [0u8; 120000];
-    let Some(n) = replay::read_bytes(rt, &mut records) else {
-        return replay::print_short(rt);
-    };
+    let records = replay::read_bytes(rt, &mut records)?;
     let start = replay::signed64(endian::get::<u64>(&month, 0));
-    print_charge(rt, subscription::charges(&records[..n], plan, start))
+    let cents = subscription::charges(records, plan, start)?;
+    replay::print(rt, b"P ");
+    replay::print_number(rt, cents);
+    replay::print_end(rt);
+    Ok(())
 }
 
-fn case(rt: &(impl Input + Print), head: &[u8; 9]) -> bool {
+fn case(rt: &(impl Input + Print), head: &[u8; 9]) -> Result<(), Unanswered> {
     let mut steps = [0u8; 2040];
     let count = usize::from(head[8]);
-    let Some(k) = replay::read_n_bytes(rt, STEP * count, &mut steps) else {
-        return replay::print_short(rt);
-    };
+    replay::read_n_bytes(rt, STEP * count, &mut steps)?;
     charge_case(rt, plan_of(head, count, &steps))
 }
 
-fn turn(rt: &(impl Input + Print)) -> bool {
-    let mut head = [0u8; 9];
-    match replay::read_head(rt, &mut head) {
-        Head::End => false,
-        Head::Cut => replay::print_short(rt),
-        Head::Whole => case(rt, &head),
-    }
-}
-
 fn main(rt: HostRuntime) {
-    for _ in 0..replay::MOST_CASES {
-        if !turn(&rt) {
-            return;
-        }
-    }
+    replay::run(&rt, |head: [u8; 9]| case(&rt, &head));
 }

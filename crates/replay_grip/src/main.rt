@@ -3,40 +3,31 @@
 
 ghost use Rattle.std.specs.Prelude.{◌≤◌, length};
 
-use limits::Refusal;
-use replay::Head;
+use replay::Unanswered;
 
 // The longest list that is lent.
 const MOST_PLACES: usize = 1000;
 
-fn print_nearest(rt: &impl Print, answer: Result<Option<usize>, Refusal>) -> bool {
-    match answer {
-        Ok(Some(n)) => {
-            replay::print(rt, b"N ");
-            replay::print_number(rt, n as u64);
-            replay::print_end(rt)
-        }
-        Ok(None) => replay::print_none(rt),
-        Err(refusal) => replay::print_refusal(rt, refusal),
-    }
-}
-
-fn nearest(rt: &(impl Input + Print)) -> bool {
+fn nearest(rt: &(impl Input + Print)) -> Result<(), Unanswered> {
     let mut head = [0u8; 16];
-    if !replay::read_part(rt, &mut head) {
-        return replay::print_short(rt);
-    }
+    replay::read_part(rt, &mut head)?;
     let mut records = [0u8; 120000];
-    let Some(n) = replay::read_bytes(rt, &mut records) else {
-        return replay::print_short(rt);
-    };
+    let records = replay::read_bytes(rt, &mut records)?;
     let time = endian::get::<f64>(&head, 0);
     let within = endian::get::<f64>(&head, 8);
-    print_nearest(rt, grip::nearest_message(&records[..n], time, within))
+    match grip::nearest_message(records, time, within)? {
+        None => replay::print_none(rt),
+        Some(n) => {
+            replay::print(rt, b"N ");
+            replay::print_number(rt, n);
+            replay::print_end(rt);
+        }
+    }
+    Ok(())
 }
 
 // How many places from one on up to another hold the fill.
-fn print_kept(rt: &impl Print, numbers: &[u32], from: usize, places: usize, fill: u32) -> bool
+fn print_kept(rt: &impl Print, numbers: &[u32], from: usize, places: usize, fill: u32)
     requires { places ≤ length numbers.now }
 {
     let mut count: u64 = 0;
@@ -47,7 +38,7 @@ fn print_kept(rt: &impl Print, numbers: &[u32], from: usize, places: usize, fill
     }
     replay::print(rt, b"K ");
     replay::print_number(rt, count);
-    replay::print_end(rt)
+    replay::print_end(rt);
 }
 
 // The first n numbers, of those that the list can hold, in a line.
@@ -55,7 +46,7 @@ fn print_numbers(rt: &impl Print, numbers: &[u32], n: usize) {
     replay::print(rt, b"A");
     for number in numbers.iter().take(n) {
         replay::print(rt, b" ");
-        replay::print_number(rt, u64::from(*number));
+        replay::print_number(rt, *number);
     }
     replay::print_end(rt);
 }
@@ -68,14 +59,14 @@ fn hear_into(
     numbers: &mut [u32],
     places: usize,
     fill: u32,
-) -> bool
+)
     requires { places ≤ length numbers.old }
 {
     let air = grip::on_air(records, instant, &mut numbers[..places]);
     match air {
         Err(refusal) => {
             replay::print_refusal(rt, refusal);
-            print_kept(rt, numbers, 0, places, fill)
+            print_kept(rt, numbers, 0, places, fill);
         }
         Ok(n) => {
             if n == 0 {
@@ -83,48 +74,32 @@ fn hear_into(
             } else {
                 print_numbers(rt, numbers, n);
             }
-            print_kept(rt, numbers, n, places, fill)
+            print_kept(rt, numbers, n, places, fill);
         }
     }
 }
 
-fn on_air(rt: &(impl Input + Print)) -> bool {
+fn on_air(rt: &(impl Input + Print)) -> Result<(), Unanswered> {
     let mut head = [0u8; 14];
-    if !replay::read_part(rt, &mut head) {
-        return replay::print_short(rt);
-    }
+    replay::read_part(rt, &mut head)?;
     let mut records = [0u8; 120000];
-    let Some(n) = replay::read_bytes(rt, &mut records) else {
-        return replay::print_short(rt);
-    };
+    let records = replay::read_bytes(rt, &mut records)?;
     let instant = endian::get::<f64>(&head, 0);
     let fill = endian::get::<u32>(&head, 10);
     let mut numbers = [fill; 1000];
     let places = usize::from(endian::get::<u16>(&head, 8)).min(MOST_PLACES);
-    hear_into(rt, &records[..n], instant, &mut numbers, places, fill)
+    hear_into(rt, records, instant, &mut numbers, places, fill);
+    Ok(())
 }
 
-fn case(rt: &(impl Input + Print), kind: u8) -> bool {
+fn case(rt: &(impl Input + Print), kind: u8) -> Result<(), Unanswered> {
     match kind {
         0 => nearest(rt),
         1 => on_air(rt),
-        _ => replay::print_short(rt),
-    }
-}
-
-fn turn(rt: &(impl Input + Print)) -> bool {
-    let mut kind = [0u8; 1];
-    match replay::read_head(rt, &mut kind) {
-        Head::End => false,
-        Head::Cut => replay::print_short(rt),
-        Head::Whole => case(rt, kind[0]),
+        _ => Err(Unanswered::Short),
     }
 }
 
 fn main(rt: HostRuntime) {
-    for _ in 0..replay::MOST_CASES {
-        if !turn(&rt) {
-            return;
-        }
-    }
+    replay::run(&rt, |kind: [u8; 1]| case(&rt, kind[0]));
 }

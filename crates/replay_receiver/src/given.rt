@@ -7,6 +7,7 @@ use receiver_starts::Starts;
 use receiver_waiting::Waiting;
 use record::read::EventRecord;
 use record::{FrameSpan, NO_RANK, SigfoxMessage};
+use replay::Unanswered;
 
 fn least(a: u64, b: u64) -> u64
     ensures { (result ≤ a) × (result ≤ b) }
@@ -39,24 +40,20 @@ fn distance(start: u64, base: u64) -> i32 {
     before(least(u64::MAX - start, 0xffff_ffff) + least(base, 0xffff_ffff) + 1)
 }
 
-// A count, and that many starts; those past the last place are read over. None where the input ends first.
-fn read_starts(rt: &impl Input, starts: Starts, base: u64) -> Option<Starts> {
+// A count, and that many starts; those past the last place are read over.
+fn read_starts(rt: &impl Input, starts: Starts, base: u64) -> Result<Starts, Unanswered> {
     let mut count = [0u8; 1];
-    if !replay::read_part(rt, &mut count) {
-        return None;
-    }
+    replay::read_part(rt, &mut count)?;
     let mut t = starts;
     t.count = usize::from(count[0]);
     for i in 0..t.count {
         let mut part = [0u8; 8];
-        if !replay::read_part(rt, &mut part) {
-            return None;
-        }
+        replay::read_part(rt, &mut part)?;
         if i < 96 {
             t.at[i] = distance(endian::get(&part, 0), base);
         }
     }
-    Some(t)
+    Ok(t)
 }
 
 fn bit_of(flags: u8) -> Option<bool> {
@@ -122,20 +119,17 @@ fn message_of(r: &[u8; 120]) -> SigfoxMessage {
     }
 }
 
-// A count, and for each message its record and the time of the frame that joined last; those past the last place are read over. None where the input ends first.
-fn read_waiting(rt: &impl Input, waiting: Waiting) -> Option<Waiting> {
+// A count, and for each message its record and the time of the frame that joined last; those past the last place are read over.
+fn read_waiting(rt: &impl Input, waiting: Waiting) -> Result<Waiting, Unanswered> {
     let mut count = [0u8; 1];
-    if !replay::read_part(rt, &mut count) {
-        return None;
-    }
+    replay::read_part(rt, &mut count)?;
     let mut t = waiting;
     t.count = usize::from(count[0]);
     for i in 0..t.count {
         let mut r = [0u8; 120];
         let mut part = [0u8; 8];
-        if !replay::read_part(rt, &mut r) || !replay::read_part(rt, &mut part) {
-            return None;
-        }
+        replay::read_part(rt, &mut r)?;
+        replay::read_part(rt, &mut part)?;
         if i < receiver_waiting::OPEN_PLACES {
             let message = message_of(&r);
             t.messages[i] = Pending {
@@ -144,24 +138,22 @@ fn read_waiting(rt: &impl Input, waiting: Waiting) -> Option<Waiting> {
             };
         }
     }
-    Some(t)
+    Ok(t)
 }
 
-// The state of the input, for a rate; its samples go into the buffer. None where the input ends first.
+// The state of the input, for a rate; its samples go into the buffer.
 pub fn read_state(
     rt: &impl Input,
     rate: u32,
     samples: &mut [f32; 48001],
-) -> Option<SigfoxReceiver> {
+) -> Result<SigfoxReceiver, Unanswered> {
     let mut head = [0u8; 12];
-    if !replay::read_part(rt, &mut head) {
-        return None;
-    }
+    replay::read_part(rt, &mut head)?;
     let mut receiver = SigfoxReceiver::new(rate);
     receiver.base = endian::get(&head, 0);
     receiver.unscanned = endian::get::<u32>(&head, 8) as usize;
-    receiver.held = replay::read_list(rt, samples)?;
+    receiver.held = replay::read_list(rt, samples)?.len();
     receiver.starts = read_starts(rt, receiver.starts, receiver.base)?;
     receiver.waiting = read_waiting(rt, receiver.waiting)?;
-    Some(receiver)
+    Ok(receiver)
 }

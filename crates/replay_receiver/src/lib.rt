@@ -10,7 +10,7 @@ use crate::given::read_state;
 use crate::lines::print_answer;
 use limits::Refusal;
 use receiver::SigfoxReceiver;
-use replay::Head;
+use replay::Unanswered;
 
 // Between two calls: whether shifts stand behind their arguments, how many there were, and the receiver.
 #[derive(Clone, Copy)]
@@ -20,20 +20,18 @@ struct State {
     receiver: SigfoxReceiver,
 }
 
-// The lines of a call; whether there may be another one.
+// The lines of a call.
 fn after(
     rt: &impl Print,
     s: &mut State,
     name: &[u8],
     answer: Result<usize, Refusal>,
     events: &mut [u8; 30720],
-) -> bool {
+) -> Result<(), Unanswered> {
     let index = s.index;
     s.index = index.wrapping_add(1);
-    match answer {
-        Ok(count) => print_answer(rt, index, name, count, &s.receiver, events),
-        Err(refusal) => replay::print_refusal(rt, refusal),
-    }
+    print_answer(rt, index, name, answer?, &s.receiver, events);
+    Ok(())
 }
 
 fn push(
@@ -43,19 +41,15 @@ fn push(
     events: &mut [u8; 30720],
     scratch32: &mut [f32; 48000],
     scratch64: &mut [f64; limits::SCRATCH64],
-) -> bool {
+) -> Result<(), Unanswered> {
     let mut dbm = [0.0f32; 48001];
     let mut closed = [0u32; 64];
-    let Some(n) = replay::read_list(rt, &mut dbm) else {
-        return replay::print_short(rt);
-    };
-    let Some(behind) = read_block(rt, s.shifted, &mut closed) else {
-        return replay::print_short(rt);
-    };
+    let dbm = replay::read_list(rt, &mut dbm)?;
+    let behind = read_block(rt, s.shifted, &mut closed)?;
     let answer = s.receiver.push(
-        &dbm[..n],
+        dbm,
         behind.shifts,
-        &closed[..behind.dates],
+        behind.closed,
         samples,
         events,
         scratch32,
@@ -71,19 +65,15 @@ fn push_raw(
     events: &mut [u8; 30720],
     scratch32: &mut [f32; 48000],
     scratch64: &mut [f64; limits::SCRATCH64],
-) -> bool {
+) -> Result<(), Unanswered> {
     let mut raw = [0u8; 48001];
     let mut closed = [0u32; 64];
-    let Some(n) = replay::read_bytes(rt, &mut raw) else {
-        return replay::print_short(rt);
-    };
-    let Some(behind) = read_block(rt, s.shifted, &mut closed) else {
-        return replay::print_short(rt);
-    };
+    let raw = replay::read_bytes(rt, &mut raw)?;
+    let behind = read_block(rt, s.shifted, &mut closed)?;
     let answer = s.receiver.push_raw(
-        &raw[..n],
+        raw,
         behind.shifts,
-        &closed[..behind.dates],
+        behind.closed,
         samples,
         events,
         scratch32,
@@ -99,14 +89,12 @@ fn flush(
     events: &mut [u8; 30720],
     scratch32: &mut [f32; 48000],
     scratch64: &mut [f64; limits::SCRATCH64],
-) -> bool {
+) -> Result<(), Unanswered> {
     let mut closed = [0u32; 64];
-    let Some(behind) = read_block(rt, s.shifted, &mut closed) else {
-        return replay::print_short(rt);
-    };
+    let behind = read_block(rt, s.shifted, &mut closed)?;
     let answer = s.receiver.flush(
         behind.shifts,
-        &closed[..behind.dates],
+        behind.closed,
         samples,
         events,
         scratch32,
@@ -116,12 +104,14 @@ fn flush(
 }
 
 // A state that is handed in takes the place of the receiver's; the next call judges it.
-fn take_over(rt: &(impl Input + Print), s: &mut State, samples: &mut [f32; 48001]) -> bool {
-    let Some(receiver) = read_state(rt, s.receiver.rate, samples) else {
-        return replay::print_short(rt);
-    };
+fn take_over(
+    rt: &(impl Input + Print),
+    s: &mut State,
+    samples: &mut [f32; 48001],
+) -> Result<(), Unanswered> {
+    let receiver = read_state(rt, s.receiver.rate, samples)?;
     s.receiver = receiver;
-    true
+    Ok(())
 }
 
 fn call(
@@ -132,29 +122,13 @@ fn call(
     events: &mut [u8; 30720],
     scratch32: &mut [f32; 48000],
     scratch64: &mut [f64; limits::SCRATCH64],
-) -> bool {
+) -> Result<(), Unanswered> {
     match number {
         0 => push(rt, s, samples, events, scratch32, scratch64),
         1 => push_raw(rt, s, samples, events, scratch32, scratch64),
         2 => flush(rt, s, samples, events, scratch32, scratch64),
         3 => take_over(rt, s, samples),
-        _ => replay::print_short(rt),
-    }
-}
-
-fn turn(
-    rt: &(impl Input + Print),
-    s: &mut State,
-    samples: &mut [f32; 48001],
-    events: &mut [u8; 30720],
-    scratch32: &mut [f32; 48000],
-    scratch64: &mut [f64; limits::SCRATCH64],
-) -> bool {
-    let mut head = [0u8; 1];
-    match replay::read_head(rt, &mut head) {
-        Head::End => false,
-        Head::Cut => replay::print_short(rt),
-        Head::Whole => call(rt, s, head[0], samples, events, scratch32, scratch64),
+        _ => Err(Unanswered::Short),
     }
 }
 
@@ -165,7 +139,7 @@ pub fn run(rt: &(impl Input + Print), shifted: bool) {
     let mut scratch32 = [0.0f32; 48000];
     let mut scratch64 = [0.0f64; limits::SCRATCH64];
     let mut head = [0u8; 4];
-    if !replay::read_part(rt, &mut head) {
+    if replay::read_part(rt, &mut head).is_err() {
         return;
     }
     let receiver = SigfoxReceiver::new(endian::get(&head, 0));
@@ -174,16 +148,15 @@ pub fn run(rt: &(impl Input + Print), shifted: bool) {
         index: 0,
         receiver,
     };
-    for _ in 0..replay::MOST_CASES {
-        if !turn(
+    replay::run(rt, |number: [u8; 1]| {
+        call(
             rt,
             &mut s,
+            number[0],
             &mut samples,
             &mut events,
             &mut scratch32,
             &mut scratch64,
-        ) {
-            return;
-        }
-    }
+        )
+    });
 }

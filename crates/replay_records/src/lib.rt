@@ -63,7 +63,7 @@ pub fn print_record(rt: &impl Print, record: &mut [u8])
     ensures { «record».new ≡ without_signs «record».old }
 {
     without_signs(record);
-    replay::print_bytes(rt, record, limits::RECORD);
+    replay::print_bytes(rt, &record[..limits::RECORD]);
 }
 
 // The line of one of the records in a buffer.
@@ -77,10 +77,9 @@ fn print_line(rt: &impl Print, events: &mut [u8], i: usize)
 }
 
 // A line a record, as many as `count` says, of those that the buffer can hold.
-pub fn print_records(rt: &impl Print, events: &mut [u8], count: usize) -> bool {
+pub fn print_records(rt: &impl Print, events: &mut [u8], count: usize) {
     let most = events.len() / limits::RECORD;
     for i in 0..count.min(most) {
         print_line(rt, events, i);
     }
-    true
 }

@@ -1,7 +1,7 @@
 // A tracker that is handed in: every field, the lists with lengths of their own, and the length of the scratch.
 use frequency::FrequencyTracker;
 use frequency_signal::Signal;
-use replay::read_list;
+use replay::{Unanswered, read_list};
 
 // The length of each list that is lent, and of the scratch.
 #[derive(Clone, Copy)]
@@ -60,19 +60,17 @@ pub fn read_tracker(
     hz: &mut [f64],
     tuned: &mut [u64],
     freq: &mut [u32],
-) -> Option<Given> {
+) -> Result<Given, Unanswered> {
     let mut head = [0u8; 85];
-    if !replay::read_part(rt, &mut head) {
-        return None;
-    }
-    Some(Given {
+    replay::read_part(rt, &mut head)?;
+    Ok(Given {
         tracker: tracker_of(&head),
         lengths: Lengths {
-            at: read_list(rt, at)?,
-            lo: read_list(rt, lo)?,
-            hz: read_list(rt, hz)?,
-            tuned: read_list(rt, tuned)?,
-            freq: read_list(rt, freq)?,
+            at: read_list(rt, at)?.len(),
+            lo: read_list(rt, lo)?.len(),
+            hz: read_list(rt, hz)?.len(),
+            tuned: read_list(rt, tuned)?.len(),
+            freq: read_list(rt, freq)?.len(),
             scratch: endian::get::<u32>(&head, 81) as usize,
         },
     })

@@ -37,23 +37,23 @@ fn print_floor(rt: &impl Print, floor: Option<f64>) {
 }
 
 // The line of `tuned`: the frequency, and how many tunings are held.
-pub fn print_tuned(rt: &impl Print, hz: u32, tunings: usize) -> bool {
+pub fn print_tuned(rt: &impl Print, hz: u32, tunings: usize) {
     replay::print(rt, b"tuned ");
     replay::print_number(rt, u64::from(hz));
     replay::print(rt, b" ");
     replay::print_number(rt, tunings as u64);
-    replay::print_end(rt)
+    replay::print_end(rt);
 }
 
 // The line of `freq`.
-pub fn print_freq(rt: &impl Print, hz: u32) -> bool {
+pub fn print_freq(rt: &impl Print, hz: u32) {
     replay::print(rt, b"since_freq ");
     replay::print_number(rt, u64::from(hz));
-    replay::print_end(rt)
+    replay::print_end(rt);
 }
 
 // The line of `samples`: what the tracker holds.
-pub fn print_samples(rt: &impl Print, t: FrequencyTracker) -> bool {
+pub fn print_samples(rt: &impl Print, t: FrequencyTracker) {
     replay::print(rt, b"samples ");
     replay::print_number(rt, t.signal.n);
     replay::print(rt, b" ");
@@ -68,7 +68,7 @@ pub fn print_samples(rt: &impl Print, t: FrequencyTracker) -> bool {
     print_index(rt, t.signal.frame_from, b"-1");
     replay::print(rt, b" ");
     print_index(rt, t.signal.last_signal, b"-");
-    replay::print_end(rt)
+    replay::print_end(rt);
 }
 
 fn print_reading(rt: &impl Print, at: u64, lo: u32, hz: f64) {
@@ -88,14 +88,15 @@ fn print_place(rt: &impl Print, i: usize, at: &[u64], lo: &[u32], hz: &[f64]) {
 }
 
 // The number of readings, and the last of them.
-pub fn print_readings(rt: &impl Print, n: usize, at: &[u64], lo: &[u32], hz: &[f64]) -> bool {
+pub fn print_readings(rt: &impl Print, n: usize, at: &[u64], lo: &[u32], hz: &[f64]) {
     replay::print(rt, b"cfo ");
     replay::print_number(rt, n as u64);
     if n == 0 {
-        return replay::print_end(rt);
+        replay::print_end(rt);
+        return;
     }
     print_place(rt, n - 1, at, lo, hz);
-    replay::print_end(rt)
+    replay::print_end(rt);
 }
 
 // How many numbers there are, and each of them.
@@ -119,7 +120,7 @@ pub fn print_lists(
     hz: &[f64],
     tuned: &[u64],
     freq: &[u32],
-) -> bool {
+) {
     replay::print(rt, b"lists ");
     print_frequency(rt, requested);
     print_list(rt, at, |x| replay::print_number(rt, x));
@@ -127,19 +128,19 @@ pub fn print_lists(
     print_list(rt, hz, |x| replay::print_f64(rt, x));
     print_list(rt, tuned, |x| replay::print_number(rt, x));
     print_list(rt, freq, |x| replay::print_number(rt, u64::from(x)));
-    replay::print_end(rt)
+    replay::print_end(rt);
 }
 
 // The line of `next_tuning`.
-pub fn print_next(rt: &impl Print, tune: Option<u32>, retuned: bool) -> bool {
+pub fn print_next(rt: &impl Print, tune: Option<u32>, retuned: bool) {
     replay::print(rt, b"next ");
     print_frequency(rt, tune);
     replay::print(rt, if retuned { b" 1" } else { b" 0" });
-    replay::print_end(rt)
+    replay::print_end(rt);
 }
 
 // The line of `frame_frequency`.
-pub fn print_frame_frequency(rt: &impl Print, found: Option<FrameFrequency>) -> bool {
+pub fn print_frame_frequency(rt: &impl Print, found: Option<FrameFrequency>) {
     replay::print(rt, b"ff ");
     match found {
         None => {
@@ -151,12 +152,12 @@ pub fn print_frame_frequency(rt: &impl Print, found: Option<FrameFrequency>) -> 
             replay::print_number(rt, u64::from(f.lo));
         }
     }
-    replay::print_end(rt)
+    replay::print_end(rt);
 }
 
 // The line of `frame1`.
-pub fn print_frame1(rt: &impl Print, f: Option<u32>) -> bool {
+pub fn print_frame1(rt: &impl Print, f: Option<u32>) {
     replay::print(rt, b"frame1 ");
     print_frequency(rt, f);
-    replay::print_end(rt)
+    replay::print_end(rt);
 }

@@ -11,7 +11,7 @@ use crate::lines::{
 };
 use frequency::FrequencyTracker;
 use limits::Refusal;
-use replay::Head;
+use replay::Unanswered;
 use replay_records::spans::read_spans;
 
 // The program's places for readings and for tunings.
@@ -22,31 +22,29 @@ const TUNINGS: usize = 64;
 // The call that hands in a tracker.
 const GIVEN: u8 = 7;
 
-// Between two calls: whether there may be another one, how much of each list is lent, and the tracker, or why there is none.
+// Between two calls: how much of each list is lent, and the tracker, or why there is none.
 #[derive(Clone, Copy)]
 struct State {
-    open: bool,
     lengths: Lengths,
     tracker: Result<FrequencyTracker, Refusal>,
 }
 
-// ---- each call reads what is handed in, asks the tracker, and prints; it answers whether there may be another one
+// ---- each call reads what is handed in, asks the tracker, and prints
 
 fn tuned(
     rt: &(impl Input + Print),
     s: &mut State,
     tuned: &mut [u64],
     freq: &mut [u32],
-) -> Result<bool, Refusal> {
+) -> Result<(), Unanswered> {
     let mut part = [0u8; 4];
-    if !replay::read_part(rt, &mut part) {
-        return Ok(replay::print_short(rt));
-    }
+    replay::read_part(rt, &mut part)?;
     let mut t = s.tracker?;
     t.tuned(endian::get::<u32>(&part, 0), tuned, freq)?;
     s.tracker = Ok(t);
     let hz = t.freq(tuned, freq).unwrap_or(0);
-    Ok(print_tuned(rt, hz, t.tunings))
+    print_tuned(rt, hz, t.tunings);
+    Ok(())
 }
 
 fn samples(
@@ -57,15 +55,14 @@ fn samples(
     hz: &mut [f64],
     tuned: &mut [u64],
     freq: &mut [u32],
-) -> Result<bool, Refusal> {
+) -> Result<(), Unanswered> {
     let mut dbm = [0.0f32; 48001];
-    let Some(n) = replay::read_list(rt, &mut dbm) else {
-        return Ok(replay::print_short(rt));
-    };
+    let dbm = replay::read_list(rt, &mut dbm)?;
     let mut t = s.tracker?;
-    t.samples(&dbm[..n], at, lo, hz, tuned, freq)?;
+    t.samples(dbm, at, lo, hz, tuned, freq)?;
     s.tracker = Ok(t);
-    Ok(print_samples(rt, t))
+    print_samples(rt, t);
+    Ok(())
 }
 
 fn cfo(
@@ -76,15 +73,14 @@ fn cfo(
     hz: &mut [f64],
     tuned: &[u64],
     freq: &[u32],
-) -> Result<bool, Refusal> {
+) -> Result<(), Unanswered> {
     let mut raw = [0u16; 4097];
-    let Some(n) = replay::read_list(rt, &mut raw) else {
-        return Ok(replay::print_short(rt));
-    };
+    let raw = replay::read_list(rt, &mut raw)?;
     let mut t = s.tracker?;
-    t.cfo(&raw[..n], at, lo, hz, tuned, freq)?;
+    t.cfo(raw, at, lo, hz, tuned, freq)?;
     s.tracker = Ok(t);
-    Ok(print_readings(rt, t.readings, at, lo, hz))
+    print_readings(rt, t.readings, at, lo, hz);
+    Ok(())
 }
 
 fn next_tuning(
@@ -96,11 +92,12 @@ fn next_tuning(
     tuned: &[u64],
     freq: &[u32],
     scratch: &mut [f64],
-) -> Result<bool, Refusal> {
+) -> Result<(), Unanswered> {
     let mut t = s.tracker?;
     let tune = t.next_tuning(at, lo, hz, tuned, freq, scratch)?;
     s.tracker = Ok(t);
-    Ok(print_next(rt, tune, t.signal.retuned))
+    print_next(rt, tune, t.signal.retuned);
+    Ok(())
 }
 
 fn frame_frequency(
@@ -110,13 +107,12 @@ fn frame_frequency(
     lo: &[u32],
     hz: &[f64],
     scratch: &mut [f64],
-) -> Result<bool, Refusal> {
-    let Some(span) = replay::read_span(rt, true) else {
-        return Ok(replay::print_short(rt));
-    };
+) -> Result<(), Unanswered> {
+    let span = replay::read_span(rt)?;
     let t = s.tracker?;
     let found = t.frame_frequency(span, at, lo, hz, scratch)?;
-    Ok(print_frame_frequency(rt, found))
+    print_frame_frequency(rt, found);
+    Ok(())
 }
 
 fn frame1(
@@ -126,22 +122,20 @@ fn frame1(
     lo: &[u32],
     hz: &[f64],
     scratch: &mut [f64],
-) -> Result<bool, Refusal> {
+) -> Result<(), Unanswered> {
     let mut part = [0u8; 2];
-    if !replay::read_part(rt, &mut part) {
-        return Ok(replay::print_short(rt));
-    }
-    let Some(spans) = read_spans(rt, part[1]) else {
-        return Ok(replay::print_short(rt));
-    };
+    replay::read_part(rt, &mut part)?;
+    let spans = read_spans(rt, part[1])?;
     let t = s.tracker?;
     let f = t.frame1(spans, part[0] != 0, at, lo, hz, scratch)?;
-    Ok(print_frame1(rt, f))
+    print_frame1(rt, f);
+    Ok(())
 }
 
-fn freq(rt: &impl Print, s: State, tuned: &[u64], freq: &[u32]) -> Result<bool, Refusal> {
+fn freq(rt: &impl Print, s: State, tuned: &[u64], freq: &[u32]) -> Result<(), Unanswered> {
     let t = s.tracker?;
-    Ok(print_freq(rt, t.freq(tuned, freq)?))
+    print_freq(rt, t.freq(tuned, freq)?);
+    Ok(())
 }
 
 // Every place of the lists as they are lent.
@@ -153,9 +147,10 @@ fn look(
     hz: &[f64],
     tuned: &[u64],
     freq: &[u32],
-) -> Result<bool, Refusal> {
+) -> Result<(), Unanswered> {
     let t = s.tracker?;
-    Ok(print_lists(rt, t.requested, at, lo, hz, tuned, freq))
+    print_lists(rt, t.requested, at, lo, hz, tuned, freq);
+    Ok(())
 }
 
 fn call(
@@ -168,7 +163,7 @@ fn call(
     tunings: &mut [u64],
     freqs: &mut [u32],
     scratch: &mut [f64],
-) -> Result<bool, Refusal> {
+) -> Result<(), Unanswered> {
     match number {
         0 => tuned(rt, s, tunings, freqs),
         1 => samples(rt, s, at, lo, hz, tunings, freqs),
@@ -178,7 +173,7 @@ fn call(
         5 => frame1(rt, *s, at, lo, hz, scratch),
         6 => freq(rt, *s, tunings, freqs),
         8 => look(rt, *s, at, lo, hz, tunings, freqs),
-        _ => Ok(replay::print_short(rt)),
+        _ => Err(Unanswered::Short),
     }
 }
 
@@ -192,7 +187,7 @@ fn lend(
     hz: &mut [f64],
     tunings: &mut [u64],
     freqs: &mut [u32],
-) {
+) -> Result<(), Unanswered> {
     let lengths = s.lengths;
     let a = lengths.at.min(at.len());
     let b = lengths.lo.min(lo.len());
@@ -201,7 +196,7 @@ fn lend(
     let e = lengths.freq.min(freqs.len());
     let mut scratch = [0.0f64; 8000];
     let room = lengths.scratch.min(READINGS);
-    let answer = call(
+    call(
         rt,
         s,
         number,
@@ -211,11 +206,7 @@ fn lend(
         &mut tunings[..d],
         &mut freqs[..e],
         &mut scratch[..room],
-    );
-    s.open = match answer {
-        Ok(open) => open,
-        Err(refusal) => replay::print_refusal(rt, refusal),
-    };
+    )
 }
 
 // A tracker that is handed in takes the place of the program's; the next call judges it.
@@ -227,52 +218,36 @@ fn take_over(
     hz: &mut [f64; 8000],
     tunings: &mut [u64; 64],
     freqs: &mut [u32; 64],
-) {
-    let Some(g) = read_tracker(rt, at, lo, hz, tunings, freqs) else {
-        s.open = replay::print_short(rt);
-        return;
-    };
-    *s = State {
-        open: true,
-        lengths: g.lengths,
-        tracker: Ok(g.tracker),
-    };
+) -> Result<(), Unanswered> {
+    let g = read_tracker(rt, at, lo, hz, tunings, freqs)?;
+    s.lengths = g.lengths;
+    s.tracker = Ok(g.tracker);
+    Ok(())
 }
 
 fn turn(
     rt: &(impl Input + Print),
     s: &mut State,
+    number: u8,
     at: &mut [u64; 8000],
     lo: &mut [u32; 8000],
     hz: &mut [f64; 8000],
     tunings: &mut [u64; 64],
     freqs: &mut [u32; 64],
-) {
-    let mut head = [0u8; 1];
-    match replay::read_head(rt, &mut head) {
-        Head::End => {
-            s.open = false;
-        }
-        Head::Cut => {
-            s.open = replay::print_short(rt);
-        }
-        Head::Whole => {
-            if head[0] == GIVEN {
-                take_over(rt, s, at, lo, hz, tunings, freqs);
-            } else {
-                lend(rt, s, head[0], at, lo, hz, tunings, freqs);
-            }
-        }
+) -> Result<(), Unanswered> {
+    if number == GIVEN {
+        take_over(rt, s, at, lo, hz, tunings, freqs)
+    } else {
+        lend(rt, s, number, at, lo, hz, tunings, freqs)
     }
 }
 
-fn start(rt: &impl Input) -> State {
+fn start(rt: &impl Input) -> Result<State, Unanswered> {
     let mut head = [0u8; 16];
-    let whole = replay::read_part(rt, &mut head);
+    replay::read_part(rt, &mut head)?;
     let rate = endian::get::<u32>(&head, 0);
     let base = endian::get::<u32>(&head, 4);
-    State {
-        open: whole,
+    Ok(State {
         lengths: Lengths {
             at: READINGS,
             lo: READINGS,
@@ -282,7 +257,7 @@ fn start(rt: &impl Input) -> State {
             scratch: READINGS,
         },
         tracker: FrequencyTracker::new(rate, base, endian::get::<f64>(&head, 8)),
-    }
+    })
 }
 
 fn main(rt: HostRuntime) {
@@ -291,19 +266,19 @@ fn main(rt: HostRuntime) {
     let mut hz = [0.0f64; 8000];
     let mut tunings = [0u64; 64];
     let mut freqs = [0u32; 64];
-    let mut s = start(&rt);
-    for _ in 0..replay::MOST_CASES {
-        if !s.open {
-            return;
-        }
+    let Ok(mut s) = start(&rt) else {
+        return;
+    };
+    replay::run(&rt, |number: [u8; 1]| {
         turn(
             &rt,
             &mut s,
+            number[0],
             &mut at,
             &mut lo,
             &mut hz,
             &mut tunings,
             &mut freqs,
-        );
-    }
+        )
+    });
 }

@@ -18,7 +18,7 @@ fn print_rank(rt: &impl Print, out: &[u8], rank: usize, count: usize)
     let from = writer::PLACES * rank;
     let end = from + count;
     if end <= out.len() {
-        replay::print_digits(rt, &out[from..end], count);
+        replay::print_digits(rt, &out[from..end]);
         replay::print_end(rt);
     }
 }
