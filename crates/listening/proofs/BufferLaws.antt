@@ -1,11 +1,11 @@
 -- The input's buffer: what a read brings behind the bytes of before. Assumes nothing.
-use Prim.Native.Nat.{ℕ, ◌+◌, ◌*◌, ◌-◌, ◌/◌, ◌%◌, ◌≤◌, ◌<◌}
+use Prim.Native.Nat.{ℕ, ◌+◌, ◌*◌, ◌-◌, ◌/◌, ◌%◌, ◌≤◌}
 use mathlib.Core.Path.{◌≡◌, refl, subst, sym, ap, ap₂, ◌∙◌}
 use mathlib.Core.Bool.{Bool, true, false}
 use Rattle.std.specs.Result.{IsErrAnd}
 use Rattle.std.specs.Prelude.{Result, Err}
 use Rattle.std.proofs.lemmas.Result.{err_from_is_err_and}
-use mathlib.Core.List.{List, [], ◌++◌, append_assoc, append-nil}
+use mathlib.Core.List.{List, [], ◌++◌, append_assoc}
 use native.Mathlib.Omega.{arith}
 use lib.Dec.{ltb}
 use lib.ListN.{length, take, drop, replicate, length-append, length-drop, take-append-drop, drop_of_length-le}
@@ -19,7 +19,7 @@ use Rattle.receiver.specs.State.{new_state}
 use Rattle.history.proofs.Calls.{fresh-stands}
 use Rattle.listening_lines.specs.Text.{Added}
 use Rattle.listening_tracker.specs.Turn.{reading_places}
-use Rattle.listening_receiver.specs.Hearing.{rate, most}
+use Rattle.listening_receiver.specs.Hearing.{rate}
 use Rattle.listening_receiver.specs.Standing.{StandsFor}
 use Rattle.listening_receiver.proofs.HearingLaws.{silence-length}
 use Rattle.listening.specs.declared.Listener.{Listener}

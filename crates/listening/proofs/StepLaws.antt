@@ -25,7 +25,7 @@ use Rattle.receiver.specs.declared.SigfoxReceiver.{SigfoxReceiver}
 use Rattle.receiver.specs.Calls.{Memory}
 use Rattle.listening_lines.specs.Text.{Added}
 use Rattle.listening_lines.specs.Lines.{tune_line, refusal_line, end_line}
-use Rattle.listening_lines.proofs.TextLaws.{behind, nothing, as_text}
+use Rattle.listening_lines.proofs.TextLaws.{behind, as_text}
 use Rattle.listening_tracker.specs.Turn.{reading_places, Turn, stop, on, unless, next_turn, cfo_turn, samples_turn, tuned_turn, turn, Turned}
 use Rattle.listening_records.specs.declared.Told.{Told}
 use Rattle.listening_records.specs.Emission.{Tells}
@@ -48,9 +48,6 @@ refusal-line (suc n) h = refl
 
 pub refusal-text : (e : Refusal) → refusal_line (number_of e) ≡ refusal_text (number_of e)
 refusal-text e = sym (refusal-line (number_of e) (number-positive e))
-
-pub no_refusal : (n at : ℕ) (old : List ℕ) → n ≡ 0 → Added old at (refusal_text n) at old
-no_refusal n at old e = rw (refusal-zero n e) (nothing old at)
 
 -- ---- the end: the last line, or that of a refusal
 

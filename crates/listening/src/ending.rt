@@ -1,9 +1,9 @@
 // The end of `listen`'s input.
-ghost use Rattle.std.specs.Prelude.{◌≡◌, List, [], ◌++◌, ℕ, ◌+◌, ◌*◌, ◌≤◌, length};
+ghost use Rattle.std.specs.Prelude.{◌≡◌, List, ◌++◌, ℕ, ◌≤◌, length};
 ghost use Rattle.limits.specs.Answer.{cause_of};
 ghost use Rattle.ledger.specs.Ledger.{by_frames, Ledger};
 ghost use Rattle.frequency.specs.Lent.{lists};
-ghost use Rattle.listening_lines.specs.Text.{widest, Added};
+ghost use Rattle.listening_lines.specs.Text.{Added};
 ghost use Rattle.listening_lines.specs.Lines.{end_line};
 ghost use Rattle.listening_receiver.specs.Hearing.{most};
 ghost use Rattle.listening_receiver.specs.Standing.{StandsFor, Standing};
@@ -12,26 +12,23 @@ ghost use Rattle.listening.specs.Hand.{out_places, state_of, Room};
 
 use crate::Listener;
 use limits::Refusal;
+use listening_lines::Line;
 use listening_records::Told;
 use receiver::SigfoxReceiver;
 
-// The last line, or that of a refusal, behind the text.
-fn add_last(
-    out: &mut [u8],
-    at: usize,
+// The last line, or that of a refusal.
+fn last_line(
     went: Result<(), Refusal>,
     samples: u64,
     frames: u64,
     messages: u64,
     leftover: usize,
-) -> usize
-    requires { at + widest ≤ length out.old }
-    ensures added { Added out.old at (refusal_text (cause_of went) ++ unless_refused (cause_of went) (end_line samples frames messages leftover)) result out.new }
-    ensures upper_bound { result ≤ at + widest }
+) -> Line
+    ensures { result ≡ refusal_text (cause_of went) ++ unless_refused (cause_of went) (end_line samples frames messages leftover) }
 {
     match went {
-        Ok(()) => listening_lines::add_end(out, at, samples, frames, messages, leftover),
-        Err(refusal) => listening_lines::add_refusal(out, at, refusal),
+        Ok(()) => listening_lines::end_line(samples, frames, messages, leftover),
+        Err(refusal) => listening_lines::refusal_line(refusal),
     }
 }
 
@@ -65,13 +62,6 @@ pub fn finish(
         &mut told, &mut last, l.started, l.passed, l.tracker, at, lo, hz, samples, events,
         scratch32, scratch64, out,
     );
-    add_last(
-        out,
-        told.end,
-        went,
-        l.samples,
-        told.frames,
-        told.messages,
-        leftover,
-    )
+    let line = last_line(went, l.samples, told.frames, told.messages, leftover);
+    line.add_to(out, told.end)
 }

@@ -15,6 +15,7 @@ ghost use Rattle.listening.specs.Hand.{out_places, begun_as, passed_as, state_of
 use crate::{Brought, Listener};
 use frequency::FrequencyTracker;
 use limits::Refusal;
+use listening_lines::Line;
 use listening_records::Told;
 use receiver::SigfoxReceiver;
 
@@ -47,15 +48,13 @@ fn pass(l: &mut Listener)
     l.samples += SAMPLES;
 }
 
-// `R number` behind the text, where there was a refusal.
-fn add_refused(out: &mut [u8], at: usize, went: Result<(), Refusal>) -> usize
-    requires { at + widest ≤ length out.old }
-    ensures added { Added out.old at (refusal_text (cause_of went)) result out.new }
-    ensures upper_bound { result ≤ at + widest }
+// `R number`, where there was a refusal.
+fn refused_line(went: Result<(), Refusal>) -> Line
+    ensures { result ≡ refusal_text (cause_of went) }
 {
     match went {
-        Ok(()) => at,
-        Err(refusal) => listening_lines::add_refusal(out, at, refusal),
+        Ok(()) => Line::new(),
+        Err(refusal) => listening_lines::refusal_line(refusal),
     }
 }
 
@@ -92,7 +91,8 @@ fn receive(
     );
     l.frames = told.frames;
     l.messages = told.messages;
-    let last = add_refused(out, told.end, went);
+    let line = refused_line(went);
+    let last = line.add_to(out, told.end);
     Brought { end: last, went }
 }
 
@@ -131,7 +131,7 @@ fn track(
         scratch,
     ) {
         Err(refusal) => {
-            let end = listening_lines::add_refusal(out, 0, refusal);
+            let end = listening_lines::refusal_line(refusal).add_to(out, 0);
             Brought {
                 end,
                 went: Err(refusal),
@@ -139,7 +139,7 @@ fn track(
         }
         Ok(tune) => {
             l.samples += SAMPLES;
-            let end = listening_lines::add_tune(out, 0, tune);
+            let end = listening_lines::tune_line(tune).add_to(out, 0);
             Brought { end, went: Ok(()) }
         }
     }

@@ -1,16 +1,15 @@
 -- One record more. Assumes nothing.
-use Rattle.std.proofs.Common.{Option, None, Some}
-use Prim.Native.Nat.{ℕ, zero, suc, ◌+◌, ◌-◌, ◌*◌, ◌≤◌, ◌<◌}
+use Rattle.std.proofs.Common.{Option, None}
+use Prim.Native.Nat.{ℕ, zero, suc, ◌+◌, ◌-◌, ◌*◌, ◌<◌}
 use mathlib.Core.Path.{◌≡◌, refl, sym, ap, ◌∙◌}
-use mathlib.Core.Bool.{Bool, true, false, cond}
+use mathlib.Core.Bool.{Bool, true, false}
 use mathlib.Core.List.{List, [], ◌∷◌, ◌++◌}
 use native.Mathlib.Omega.{arith}
 use borrow.Author.Tests.{eq-eqb, ne_eqb}
-use lib.Dec.{eqb}
 use lib.Ieee.{Float, binary64, of_bits, of_int, round}
 use Rattle.floats.specs.Number.{num}
 use Rattle.frequency.specs.declared.FrequencyTracker.{FrequencyTracker}
-use lib.ListN.{length, take, drop}
+use lib.ListN.{take, drop}
 use lib.Seq.{drop-drop}
 use Rattle.limits.specs.Limits.{record_size}
 use Rattle.ledger.specs.Records.{records_in}

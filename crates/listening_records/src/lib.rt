@@ -89,7 +89,8 @@ fn tell_line(t: &mut Told, event: EventRecord, answer: Option<u32>, out: &mut [u
         → Tells (with_line event.entry.bytes.now answer p) old start 0 t.new out.new }
     ensures within { Within t.old t.new out.old out.new }
 {
-    t.end = listening_lines::add_message(out, t.end, event, answer);
+    let line = listening_lines::message_line(event, answer);
+    t.end = line.add_to(out, t.end);
     t.messages += 1;
 }
 

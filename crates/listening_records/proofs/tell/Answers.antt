@@ -1,4 +1,4 @@
-use mathlib.Core.Path.{refl, sym, ◌∙◌, ap}
+use mathlib.Core.Path.{refl, sym, ◌∙◌}
 use native.Mathlib.Omega.{arith}
 use lib.ListN.{length}
 use mathlib.Core.List.{List}
@@ -7,7 +7,7 @@ use Rattle.std.proofs.lemmas.Result.{err_from_is_err_and}
 use Rattle.limits.specs.Answer.{said_by, cause_of, refused, accepted}
 use Rattle.limits.specs.Refusals.{number_of}
 use Rattle.listening_records.specs.Emission.{Emission, Tells}
-use Rattle.listening_records.proofs.EmissionLaws.{emitted-frame, emitted-message, message-line, refusal_told, frame_told, as_told, as_refused}
+use Rattle.listening_records.proofs.EmissionLaws.{emitted-frame, emitted-message, message-line, refusal_told, frame_told, as_told}
 use Rattle.listening_records.proofs.tell.Goals as goal
 
 pub returns-then-kind-eq-FRAME : goal.returns-then-kind-eq-FRAME

@@ -19,9 +19,9 @@ pub returns : goal.returns
 returns c =
     let s = c.args in
     let h = c.close-went in
-    let a = c.add_last in record {
+    let a = c.add_to.ensures in record {
       added = λ (g : Ledger by_frames) (tuned freq : List ℕ) (st : StandsFor s.receiver s.samples.now g).
           ending-added (state_of s.l (lists s.at.now s.lo.now s.hz.now tuned freq) g) _ _ _ _ _ _ _
-          (h.ensures.told g st _ 0 _ (record { refused = refl; frames = refl; messages = refl; text = nothing _ 0 })) a.ensures.added;
-      upper_bound = omega (arith, h.ensures.end, a.ensures.upper_bound);
+          (h.ensures.told g st _ 0 _ (record { refused = refl; frames = refl; messages = refl; text = nothing _ 0 })) (rw c.last_line-line.ensures at a.added);
+      upper_bound = omega (arith, h.ensures.end, a.upper_bound);
     }

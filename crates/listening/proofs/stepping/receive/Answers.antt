@@ -18,9 +18,9 @@ hear-went-requires c =
 pub returns : goal.returns
 returns c =
     let h = c.hear-went in
-    let b = c.add_refused-last.ensures in record {
+    let b = c.add_to-last.ensures in record {
       goes = λ (g : Ledger by_frames) (tuned freq old text : List ℕ) (st : StandsFor c.args.receiver.now c.args.samples.now g) (a : Added old 0 text c.args.end c.args.out.now).
-          goes-received (state_of c.args.l.now (lists c.args.at.now c.args.lo.now c.args.hz.now tuned freq) g) _ text old _ _ _ _ _ _ _ _ _ _ st a h.ensures b.added;
+          goes-received (state_of c.args.l.now (lists c.args.at.now c.args.lo.now c.args.hz.now tuned freq) g) _ text old _ _ _ _ _ _ _ _ _ _ st a h.ensures (rw c.refused_line-line.ensures at b.added);
       receives = record {
         tracker = refl;
         passed = refl;
