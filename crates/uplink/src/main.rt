@@ -11,28 +11,18 @@ use line::Parsed;
 // The longest line.
 const MOST_LINE: usize = 512;
 
-// The repetition of a rank.
-fn print_rank(rt: &impl Print, out: &[u8], rank: usize, count: usize)
-    requires { (rank ≤ 2) × (count ≤ 212) }
-{
-    let from = writer::PLACES * rank;
-    let end = from + count;
-    if end <= out.len() {
-        replay::print_digits(rt, &out[from..end]);
-        replay::print_end(rt);
-    }
-}
-
+// Each repetition in its line.
 fn print_written(rt: &impl Print, written: Result<usize, Refusal>, out: &[u8]) {
     match written {
         Err(refusal) => {
             replay::print_refusal(rt, refusal);
         }
         Ok(count) => {
-            if count <= writer::PLACES {
-                print_rank(rt, out, 0, count);
-                print_rank(rt, out, 1, count);
-                print_rank(rt, out, 2, count);
+            for repetition in out.chunks_exact(writer::PLACES) {
+                if let Some(bits) = repetition.get(..count) {
+                    replay::print_digits(rt, bits);
+                    replay::print_end(rt);
+                }
             }
         }
     }

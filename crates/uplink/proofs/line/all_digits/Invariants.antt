@@ -1,8 +1,8 @@
--- The invariant: the digits from here on decide.
+-- The invariant: the characters left have the answer.
 use mathlib.Core.Path.{◌≡◌}
 use lib.ListN.{drop}
-use Rattle.uplink.specs.Line.{word, are_digits}
+use Rattle.uplink.specs.Line.{are_digits}
 use Rattle.uplink.proofs.line.all_digits.Given as goal
 
-abbrev pub invariant-loop-i : goal.invariant-loop-i
-invariant-loop-i l = are_digits l.base (word (drop l.i l.line)) ≡ are_digits l.base (word (drop l.from l.line))
+abbrev pub invariant-loop-c : goal.invariant-loop-c
+invariant-loop-c l = are_digits l.base (drop l.c-index l.w) ≡ are_digits l.base l.w
