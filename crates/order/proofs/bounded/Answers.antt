@@ -4,12 +4,6 @@ use Rattle.order.proofs.Shifts.{within_64}
 use Rattle.order.proofs.bounded.Goals.{then-is_below, else-is_below, then-is_below-2, else-is_below-2, then-is_below-3, else-is_below-3}
 use Rattle.order.proofs.bounded.Goals as goal
 
-pub of-lo-requires : goal.of-lo-requires
-of-lo-requires g c = omega (arith, c.requires.fits)
-
-pub of-span-requires : goal.of-span-requires
-of-span-requires g c = omega (arith, c.requires.fits)
-
 pub loop-x-init : goal.loop-x-init
 loop-x-init g c = rw (c.of-span.ensures, c.of-none.ensures) (none_passed g.T.Ranked.key c.args.xs.now.items.now c.args.r.lo c.args.r.span)
 

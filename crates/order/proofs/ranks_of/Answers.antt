@@ -1,6 +1,6 @@
 use Rattle.std.proofs.Common.{◌+◌, ltb, leb, ap, ◌∙◌, arith}
 use Rattle.whole.proofs.Tests.{one_is, one-lt}
-use Rattle.order.proofs.Ranked.{none_under, few_under, all_under, under_next, upto_next}
+use Rattle.order.proofs.Ranked.{none_under, few_under, under_next, upto_next}
 use Rattle.order.proofs.ranks_of.Goals as goal
 
 pub loop-x-init : goal.loop-x-init
@@ -39,12 +39,4 @@ loop-x-preserved g c =
     let p = c.value-p.ensures.0 ∙ c.place.ensures ∙ ap g.T.Ranked.key c.x-item.is in (
       rw (c.from-under.ensures, one_is, p) (under_next g.T.Ranked.key a.xs.now.items.now l.x-index c.x-item.result c.loop-x-test.true a.v l.under l.invariant.0),
       rw (c.from-upto.ensures, one_is, p) (upto_next g.T.Ranked.key a.xs.now.items.now l.x-index c.x-item.result c.loop-x-test.true a.v l.upto l.invariant.1),
-    )
-
-pub returns : goal.returns
-returns g c =
-    let a = c.args in
-    let l = c.loop-x in (
-      all_under g.T.Ranked.key a.xs.now.items.now a.v l.x-index l.under c.loop-x-test.false l.invariant.0,
-      all_under g.T.Ranked.key a.xs.now.items.now (a.v + 1) l.x-index l.upto c.loop-x-test.false l.invariant.1,
     )
