@@ -1,6 +1,6 @@
 use Rattle.floats.proofs.Trigs.{zero_is, two_is, half_is}
 use Rattle.dips.specs.Dips.{centre}
-use Rattle.dips.proofs.dip_centre.Goals as goal
+use Rattle.dips.proofs.Inner.centre.Goals as goal
 
 pub returns : goal.returns
 unfolding centre
