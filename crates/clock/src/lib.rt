@@ -1,7 +1,7 @@
 // The bit clock, recovered from the dips of a burst, and the bits between them (demod.rs `burst_bits`).
 #![tactic(auto)]
 
-ghost use Rattle.std.specs.Prelude.{◌≡◌, ◌-◌, ◌*◌, ◌/◌, ◌<◌, ◌≤◌, true, false, ◌∷◌, ◌++◌, length, take, drop, slice_index_or, IfOk};
+ghost use Rattle.std.specs.Prelude.{◌≡◌, ◌-◌, ◌*◌, ◌/◌, ◌<◌, ◌≤◌, true, false, ◌∷◌, ◌++◌, length, take, drop, slice_index_or, IfOk, MatchOption};
 ghost use Rattle.std.specs.Float.{nan, binary64};
 ghost use Rattle.std.specs.Float.Ieee.{lt, to_unsigned};
 ghost use Rattle.order.specs.Order.{kth, Numbers};
@@ -107,105 +107,133 @@ fn size_of(k: f64) -> usize
     floats::to_usize_saturating(floats::abs64(k))
 }
 
-// Whether a bit index is not a number or beyond 2^31 either way.
-fn is_lost(k: f64) -> bool
-    ensures { result ≡ lost k }
-{
-    let none = k != k;
-    let beyond = size_of(k) > FARTHEST_BIT;
-    none | beyond
+// A bit index: a number, and not beyond 2^31 either way.
+#[derive(Clone, Copy)]
+struct BitIndex {
+    k: f64,
+    ghost kept: { lost k ≡ false },
 }
 
-// k + 2^31
-fn place_of(k: f64) -> usize
-    requires { lost k ≡ false }
-    ensures { (result ≡ place k) × (result ≤ 2 * farthest_bit) }
-{
-    let size = size_of(k);
-    if k < 0.0 {
-        FARTHEST_BIT - size
-    } else {
-        FARTHEST_BIT + size
+impl BitIndex {
+    fn new(k: f64) -> Option<Self>
+        ensures { MatchOption result (lost k ≡ true) (λ i. i.k ≡ k) }
+    {
+        let none = k != k;
+        let beyond = size_of(k) > FARTHEST_BIT;
+        if none | beyond {
+            return None;
+        }
+        Some(Self { k })
+    }
+
+    // k + 2^31
+    fn place(self) -> usize
+        ensures { (result ≡ place self.k) × (result ≤ 2 * farthest_bit) }
+    {
+        let size = size_of(self.k);
+        if self.k < 0.0 {
+            FARTHEST_BIT - size
+        } else {
+            FARTHEST_BIT + size
+        }
     }
 }
 
-pub fn index_at(c: Clock, d: f64) -> f64
-    ensures { result ≡ index_at c d }
-{
-    floats::round_half_up((d - c.phase) / c.period)
-}
-
-// Whether a dip is too far from its place, or not after the last point.
-fn is_skipped(c: Clock, d: f64, k: f64) -> bool
-    requires { lost k ≡ false }
-    ensures { result ≡ skips c d k }
-{
-    let predicted = c.phase + k * c.period;
-    let off = floats::abs64(d - predicted) > OFF_GRID * c.period;
-    let some = 0 < c.count;
-    let behind = place_of(k) <= c.last;
-    off | (some & behind)
-}
-
-fn det_of(c: Clock) -> f64
-    requires { c.count ≤ scratch64 }
-    ensures { result ≡ det c }
-{
-    floats::count_as_f64(c.count) * c.skk - c.sk * c.sk
-}
-
-// Period and phase by least squares.
-fn refit_clock(c: Clock) -> Clock
-    requires { c.count ≤ scratch64 }
-    ensures { result ≡ refit c }
-{
-    if c.count < REFITS {
-        return c;
+impl Clock {
+    // Before the first dip.
+    pub fn new(nominal: f64, phase: f64) -> Self
+        ensures { (result ≡ start_clock nominal phase) × (result.count ≡ 0) }
+    {
+        Self {
+            period: nominal,
+            phase,
+            sk: 0.0,
+            sd: 0.0,
+            skk: 0.0,
+            skd: 0.0,
+            count: 0,
+            first: 0,
+            last: 0,
+        }
     }
-    let d = det_of(c);
-    if d > 0.0 {
-        let n = floats::count_as_f64(c.count);
-        let period = (n * c.skd - c.sk * c.sd) / d;
-        return Clock {
-            period,
-            phase: (c.sd - period * c.sk) / n,
-            ..c
+
+    pub fn index_at(self, d: f64) -> f64
+        ensures { result ≡ index_at self d }
+    {
+        floats::round_half_up((d - self.phase) / self.period)
+    }
+
+    // Whether a dip is too far from its place, or not after the last point.
+    fn skips(self, d: f64, index: BitIndex) -> bool
+        ensures { result ≡ skips self d index.k }
+    {
+        let predicted = self.phase + index.k * self.period;
+        let off = floats::abs64(d - predicted) > OFF_GRID * self.period;
+        let some = 0 < self.count;
+        let behind = index.place() <= self.last;
+        off | (some & behind)
+    }
+
+    fn det(self) -> f64
+        requires { self.count ≤ scratch64 }
+        ensures { result ≡ det self }
+    {
+        floats::count_as_f64(self.count) * self.skk - self.sk * self.sk
+    }
+
+    // Period and phase by least squares.
+    fn refit(self) -> Self
+        requires { self.count ≤ scratch64 }
+        ensures { result ≡ refit self }
+    {
+        if self.count < REFITS {
+            return self;
+        }
+        let d = self.det();
+        if d > 0.0 {
+            let n = floats::count_as_f64(self.count);
+            let period = (n * self.skd - self.sk * self.sd) / d;
+            return Self {
+                period,
+                phase: (self.sd - period * self.sk) / n,
+                ..self
+            };
+        }
+        self
+    }
+
+    // A point more.
+    fn summed(self, d: f64, index: BitIndex) -> Self
+        requires { self.count < scratch64 }
+        ensures { result ≡ summed self d index.k }
+    {
+        let k = index.k;
+        let p = index.place();
+        Self {
+            sk: self.sk + k,
+            sd: self.sd + d,
+            skk: self.skk + k * k,
+            skd: self.skd + k * d,
+            count: self.count + 1,
+            first: whole::pick(self.count == 0, p, self.first),
+            last: p,
+            ..self
+        }
+    }
+
+    // Tracking dip by dip keeps a 1 % clock error from slipping a whole bit over a frame.
+    pub fn track(self, d: f64) -> Step
+        requires { self.count < scratch64 }
+        ensures { result ≡ step self d }
+    {
+        let Some(index) = BitIndex::new(self.index_at(d)) else {
+            return Step::Lost;
         };
+        if self.skips(d, index) {
+            return Step::Skipped;
+        }
+        Step::Joined(self.summed(d, index).refit())
     }
-    c
-}
-
-// A point more.
-fn sum_point(c: Clock, d: f64, k: f64) -> Clock
-    requires { (c.count < scratch64) × (lost k ≡ false) }
-    ensures { result ≡ summed c d k }
-{
-    let p = place_of(k);
-    Clock {
-        sk: c.sk + k,
-        sd: c.sd + d,
-        skk: c.skk + k * k,
-        skd: c.skd + k * d,
-        count: c.count + 1,
-        first: whole::pick(c.count == 0, p, c.first),
-        last: p,
-        ..c
-    }
-}
-
-// Tracking dip by dip keeps a 1 % clock error from slipping a whole bit over a frame.
-pub fn track(c: Clock, d: f64) -> Step
-    requires { c.count < scratch64 }
-    ensures { result ≡ step c d }
-{
-    let k = index_at(c, d);
-    if is_lost(k) {
-        return Step::Lost;
-    }
-    if is_skipped(c, d, k) {
-        return Step::Skipped;
-    }
-    Step::Joined(refit_clock(sum_point(c, d, k)))
 }
 
 // What is answered beside the bits.
@@ -236,7 +264,7 @@ fn fit_clock(dips: &mut [f64], n: usize, start: Clock) -> Option<Clock>
 {
     let mut clock = start;
     for i in 0..n {
-        match track(clock, dips[i]) {
+        match clock.track(dips[i]) {
             Step::Lost => {
                 return None;
             }
@@ -285,8 +313,7 @@ fn write_bits(points: &[f64], n: usize, first: usize, len: usize, bits: &mut [u8
 
 // The last sample that is not under the limit, 0 where there is none.
 fn last_high(seg: &[f32], limit: f64) -> usize
-    requires { 0 < length seg.now }
-    ensures { (result ≡ last_high limit seg.now (length seg.now - 1)) × (result < length seg.now) }
+    ensures { (result ≡ last_high limit seg.now (length seg.now - 1)) × (result ≤ length seg.now) }
 {
     for i in (1..seg.len()).rev() {
         if !under(seg[i], limit) {
@@ -303,11 +330,10 @@ fn under(x: f32, limit: f64) -> bool
 }
 
 // The bit index of the signal's end.
-fn end_index(seg: &[f32], level: f32, c: Clock) -> f64
-    requires { (0 < length seg.now) × (length seg.now ≤ most_samples) }
-    ensures { result ≡ end_index level seg.now c.period c.phase }
+fn end_index(samples: Samples, level: f32, c: Clock) -> f64
+    ensures { result ≡ end_index level samples.entry.dbm.now c.period c.phase }
 {
-    let high = last_high(seg, std::num::f32_to_f64_with_nan(level) - END_DB);
+    let high = last_high(samples.dbm, std::num::f32_to_f64_with_nan(level) - END_DB);
     floats::floor64((floats::count_as_f64(high) - c.phase) / c.period)
 }
 
@@ -336,54 +362,34 @@ fn median_depth(points: &[f64], n: usize) -> f64
 
 // The bits up to where the signal ends: those after the last dip are 1s (no reversal).
 fn clocked_bits(
-    seg: &[f32],
-    rate: u32,
+    samples: Samples,
     level: f32,
     c: Clock,
     points: &[f64],
     bits: &mut [u8],
 ) -> Option<BurstBits>
-    requires { (0 < length seg.now) × (length seg.now ≤ most_samples) × (c.count ≤ depths_at) × (most_bits ≤ length bits.old) × Ready c (places points.now c.count) × (scratch64 ≤ length points.now) × Numbers (take c.count (drop depths_at points.now)) }
-    ensures { (result ≡ values_of (clocked seg.now rate level (places points.now c.count) (take c.count (drop depths_at points.now)) (Some c)))
-        × (bits.new ≡ handed (clocked seg.now rate level (places points.now c.count) (take c.count (drop depths_at points.now)) (Some c)) bits.old) }
+    requires { (c.count ≤ depths_at) × (most_bits ≤ length bits.old) × Ready c (places points.now c.count) × (scratch64 ≤ length points.now) × Numbers (take c.count (drop depths_at points.now)) }
+    ensures { (result ≡ values_of (clocked samples.entry.dbm.now samples.entry.rate level (places points.now c.count) (take c.count (drop depths_at points.now)) (Some c)))
+        × (bits.new ≡ handed (clocked samples.entry.dbm.now samples.entry.rate level (places points.now c.count) (take c.count (drop depths_at points.now)) (Some c)) bits.old) }
 {
     let n = c.count;
     if n < ENOUGH_POINTS {
         return None;
     }
-    let k = end_index(seg, level, c);
-    if is_lost(k) {
-        return None;
-    }
+    let index = BitIndex::new(end_index(samples, level, c))?;
     let first = c.first;
-    let end = c.last.max(place_of(k));
+    let end = c.last.max(index.place());
     let count = end - first + 2;
     let len = count.min(limits::MOST_BITS);
     write_bits(points, n, first, len, bits);
     Some(BurstBits {
         count,
         period: c.period,
-        clock_error_ppm: ppm_of(c.period, nominal_of(rate)),
+        clock_error_ppm: ppm_of(c.period, nominal_of(samples.rate)),
         level,
         points: n,
         depth: median_depth(points, n),
     })
-}
-
-pub fn start_clock(nominal: f64, phase: f64) -> Clock
-    ensures { (result ≡ start_clock nominal phase) × (result.count ≡ 0) }
-{
-    Clock {
-        period: nominal,
-        phase,
-        sk: 0.0,
-        sd: 0.0,
-        skk: 0.0,
-        skd: 0.0,
-        count: 0,
-        first: 0,
-        last: 0,
-    }
 }
 
 // The bits of a burst.
@@ -402,9 +408,9 @@ pub fn bits_of(samples: Samples, bits: &mut [u8], scratch: &mut [f64]) -> Option
         return None;
     }
     let nominal = nominal_of(samples.rate);
-    let start = start_clock(nominal, anchor_of(scratch, n, nominal));
+    let start = Clock::new(nominal, anchor_of(scratch, n, nominal));
     let c = fit_clock(scratch, n, start)?;
-    clocked_bits(seg, samples.rate, level, c, scratch, bits)
+    clocked_bits(samples, level, c, scratch, bits)
 }
 
 // The samples, or the first cause that applies to `burst_bits`, with room for so many bits, f32 and f64.

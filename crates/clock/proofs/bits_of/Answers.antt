@@ -24,16 +24,14 @@ clocked_bits-requires c =
     let ds = take n dips in
     let hs = take n (drop depths_at dips) in
     let level = c.level_of-level.result in
-    let start = c.start_clock-start.result in
+    let start = c.new-start.result in
     let now = c.fit_clock.new.dips in
     let k = c.in_ok-c.c in
     let t = c.in_ok-c.ensures in
-    let z = c.start_clock-start.ensures.1 in
+    let z = c.new-start.ensures.1 in
     let few = kept-few a.samples.dbm.now a.samples.rate level ds hs start k now z t in
     let deep = samples-deep a.samples.dbm.now a.samples.rate level c.f32_to_f64_with_nan.result a.scratch.now dips n (omega (arith, c.if-seg-eq0.false)) c.level_of-level.ensures
     c.f32_to_f64_with_nan.ensures c.dips_into-n.ensures.0 a.samples.valid in (
-      omega (arith, c.if-seg-eq0.false),
-      omega (arith, a.samples.high, a.samples.short),
       omega (arith, few, length-take n dips, c.dips_into-n.ensures.1),
       c.requires.0,
       kept-ready a.samples.dbm.now a.samples.rate level ds hs start k now z t,
@@ -46,7 +44,7 @@ returns-in_err-c c =
     let a = c.args in
     let n = c.dips_into-n.result in
     let dips = c.dips_into-n.new.dips in
-    let start = c.start_clock-start.result in
+    let start = c.new-start.result in
     let now = c.fit_clock.new.dips in
     let level = c.level_of-level.result in
     let t = c.in_err-c.ensures in
@@ -54,19 +52,19 @@ returns-in_err-c c =
     (tells_none _ a.bits.now
     (samples-clock a.samples.dbm.now a.samples.rate level c.f32_to_f64_with_nan.result a.scratch.now dips n (omega (arith, c.if-seg-eq0.false)) c.level_of-level.ensures
     c.f32_to_f64_with_nan.ensures c.dips_into-n.ensures.0 c.nominal_of-nominal.result c.anchor_of.result start c.if-n-lt-ENOUGH_DIPS.false c.nominal_of-nominal.ensures
-    c.anchor_of.ensures c.start_clock-start.ensures.0 ∙ lost-clock a.samples.dbm.now a.samples.rate level (take n dips) (take n (drop depths_at dips)) start now t))
+    c.anchor_of.ensures c.new-start.ensures.0 ∙ lost-clock a.samples.dbm.now a.samples.rate level (take n dips) (take n (drop depths_at dips)) start now t))
 
 pub returns : goal.returns
 returns c =
     let a = c.args in
     let n = c.dips_into-n.result in
     let dips = c.dips_into-n.new.dips in
-    let start = c.start_clock-start.result in
+    let start = c.new-start.result in
     let now = c.fit_clock.new.dips in
     let level = c.level_of-level.result in
     let k = c.in_ok-c.c in
     let t = c.in_ok-c.ensures in
     let e = samples-clock a.samples.dbm.now a.samples.rate level c.f32_to_f64_with_nan.result a.scratch.now dips n (omega (arith, c.if-seg-eq0.false)) c.level_of-level.ensures
     c.f32_to_f64_with_nan.ensures c.dips_into-n.ensures.0 c.nominal_of-nominal.result c.anchor_of.result start c.if-n-lt-ENOUGH_DIPS.false c.nominal_of-nominal.ensures
-    c.anchor_of.ensures c.start_clock-start.ensures.0 ∙ kept-clock a.samples.dbm.now a.samples.rate level (take n dips) (take n (drop depths_at dips)) start k now c.start_clock-start.ensures.1 t in
+    c.anchor_of.ensures c.new-start.ensures.0 ∙ kept-clock a.samples.dbm.now a.samples.rate level (take n dips) (take n (drop depths_at dips)) start k now c.new-start.ensures.1 t in
     (c.clocked_bits.ensures.0 ∙ sym (ap values_of e), c.clocked_bits.ensures.1 ∙ sym (ap (λ (o : Outcome). handed o a.bits.now) e))

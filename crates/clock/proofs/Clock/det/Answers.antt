@@ -1,5 +1,5 @@
 use Rattle.clock.specs.Running.{det}
-use Rattle.clock.proofs.det_of.Goals as goal
+use Rattle.clock.proofs.Clock.det.Goals as goal
 
 pub returns : goal.returns
 unfolding det

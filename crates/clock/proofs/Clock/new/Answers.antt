@@ -1,7 +1,7 @@
 use Rattle.std.proofs.Common.{refl}
 use Rattle.floats.proofs.Trigs.{zero_is}
 use Rattle.clock.specs.Running.{start_clock}
-use Rattle.clock.proofs.start_clock.Goals as goal
+use Rattle.clock.proofs.Clock.new.Goals as goal
 
 pub returns : goal.returns
 unfolding start_clock

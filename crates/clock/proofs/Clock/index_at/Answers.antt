@@ -1,5 +1,5 @@
 use Rattle.clock.specs.Running.{index_at}
-use Rattle.clock.proofs.index_at.Goals as goal
+use Rattle.clock.proofs.Clock.index_at.Goals as goal
 
 pub returns : goal.returns
 unfolding index_at
