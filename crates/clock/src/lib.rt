@@ -85,12 +85,12 @@ fn angle_of(nominal: f64, d0: f64, d: f64) -> f64
 }
 
 // The grid, anchored on the mean phase of the first dips (circular mean modulo one bit).
-pub fn anchor_of(dips: &[f64], n: usize, nominal: f64) -> f64
-    requires { (0 < n) × (n ≤ length dips.now) }
-    ensures { result ≡ anchor nominal (slice_index_or dips.now 0 nan) (take n dips.now) }
+pub fn anchor_of(dips: &[f64], nominal: f64) -> f64
+    requires { 0 < length dips.now }
+    ensures { result ≡ anchor nominal (slice_index_or dips.now 0 nan) dips.now }
 {
     let d0 = dips[0];
-    let end = n.min(ANCHORS);
+    let end = dips.len().min(ANCHORS);
     let mut s = 0.0;
     let mut c = 0.0;
     for i in 0..end {
@@ -257,13 +257,13 @@ fn place_back(x: f64) -> usize
     floats::to_usize_saturating(x)
 }
 
-// The clock after all of the first n dips, none where a bit index is lost; the places of the points overwrite the dips from the front, and their depths those of all dips.
-fn fit_clock(dips: &mut [f64], n: usize, start: Clock) -> Option<Clock>
-    requires { (scratch64 ≤ length dips.old) × (n ≤ depths_at) × (start.count ≡ 0) }
-    ensures { Tracked start (take n dips.old) (take n (drop depths_at dips.old)) result dips.new }
+// The clock after all dips, none where a bit index is lost; the places of the points overwrite the dips from the front, and their depths those of all dips.
+fn fit_clock(dips: &mut [f64], depths: &mut [f64], start: Clock) -> Option<Clock>
+    requires { (length depths.old ≡ length dips.old) × (length dips.old ≤ depths_at) × (start.count ≡ 0) }
+    ensures { Tracked start dips.old depths.old result dips.new depths.new }
 {
     let mut clock = start;
-    for i in 0..n {
+    for i in 0..dips.len() {
         match clock.track(dips[i]) {
             Step::Lost => {
                 return None;
@@ -273,9 +273,8 @@ fn fit_clock(dips: &mut [f64], n: usize, start: Clock) -> Option<Clock>
             }
             Step::Joined(next) => {
                 let at = clock.count;
-                let depth = dips[dips::DEPTHS + i];
                 dips[at] = floats::count_as_f64(next.last);
-                dips[dips::DEPTHS + at] = depth;
+                depths[at] = depths[i];
                 clock = next;
             }
         }
@@ -284,25 +283,24 @@ fn fit_clock(dips: &mut [f64], n: usize, start: Clock) -> Option<Clock>
 }
 
 // Whether place k has a point, the one at p.
-fn on_point(points: &[f64], n: usize, p: usize, k: usize) -> bool
-    requires { n ≤ length points.now }
-    ensures { result ≡ heads k (drop p (places points.now n)) }
+fn on_point(points: &[f64], p: usize, k: usize) -> bool
+    ensures { result ≡ heads k (drop p (places points.now)) }
 {
-    if p < n {
+    if p < points.len() {
         return k == place_back(points[p]);
     }
     false
 }
 
-// A 1, and the bits from the first of n points on, `len` in all.
-fn write_bits(points: &[f64], n: usize, first: usize, len: usize, bits: &mut [u8])
-    requires { (n ≤ length points.now) × (1 ≤ len) × (len ≤ most_bits) × (len ≤ length bits.old) × (first ≤ 2 * farthest_bit) }
-    ensures { bits.new ≡ (1 ∷ walked (places points.now n) first (len - 1)) ++ drop len bits.old }
+// A 1, and the bits from the first point on.
+fn write_bits(points: &[f64], first: usize, bits: &mut [u8])
+    requires { (0 < length bits.old) × (length bits.old ≤ most_bits) × (first ≤ 2 * farthest_bit) }
+    ensures { bits.new ≡ 1 ∷ walked (places points.now) first (length bits.old - 1) }
 {
     bits[0] = 1;
     let mut p: usize = 0;
-    for j in 1..len {
-        if on_point(points, n, p, first + (j - 1)) {
+    for j in 1..bits.len() {
+        if on_point(points, p, first + (j - 1)) {
             bits[j] = 0;
             p += 1;
         } else {
@@ -351,29 +349,21 @@ pub fn level_of(seg: &[f32]) -> f32
     order::select(seg, LEVEL_TENTHS * seg.len() / 10)
 }
 
-// The median of the depths of n points' dips: index n / 2 of their order (02, request 05).
-fn median_depth(points: &[f64], n: usize) -> f64
-    requires { (0 < n) × (n ≤ depths_at) × (scratch64 ≤ length points.now) × Numbers (take n (drop depths_at points.now)) }
-    ensures { result ≡ kth binary64 (take n (drop depths_at points.now)) (n / 2) }
-{
-    let depths = &points[dips::DEPTHS..dips::DEPTHS + n];
-    order::select(depths, n / 2)
-}
-
-// The bits up to where the signal ends: those after the last dip are 1s (no reversal).
+// The bits up to where the signal ends: those after the last dip are 1s (no reversal). With them the median of the points' depths, index n / 2
+// of their order (02, request 05).
 fn clocked_bits(
     samples: Samples,
     level: f32,
     c: Clock,
     points: &[f64],
+    depths: &[f64],
     bits: &mut [u8],
 ) -> Option<BurstBits>
-    requires { (c.count ≤ depths_at) × (most_bits ≤ length bits.old) × Ready c (places points.now c.count) × (scratch64 ≤ length points.now) × Numbers (take c.count (drop depths_at points.now)) }
-    ensures { (result ≡ values_of (clocked samples.entry.dbm.now samples.entry.rate level (places points.now c.count) (take c.count (drop depths_at points.now)) (Some c)))
-        × (bits.new ≡ handed (clocked samples.entry.dbm.now samples.entry.rate level (places points.now c.count) (take c.count (drop depths_at points.now)) (Some c)) bits.old) }
+    requires { (c.count ≡ length depths.now) × (most_bits ≤ length bits.old) × Ready c (places points.now) × Numbers depths.now }
+    ensures { (result ≡ values_of (clocked samples.entry.dbm.now samples.entry.rate level (places points.now) depths.now (Some c)))
+        × (bits.new ≡ handed (clocked samples.entry.dbm.now samples.entry.rate level (places points.now) depths.now (Some c)) bits.old) }
 {
-    let n = c.count;
-    if n < ENOUGH_POINTS {
+    if c.count < ENOUGH_POINTS {
         return None;
     }
     let index = BitIndex::new(end_index(samples, level, c))?;
@@ -381,14 +371,14 @@ fn clocked_bits(
     let end = c.last.max(index.place());
     let count = end - first + 2;
     let len = count.min(limits::MOST_BITS);
-    write_bits(points, n, first, len, bits);
+    write_bits(points, first, &mut bits[..len]);
     Some(BurstBits {
         count,
         period: c.period,
         clock_error_ppm: ppm_of(c.period, nominal_of(samples.rate)),
         level,
-        points: n,
-        depth: median_depth(points, n),
+        points: c.count,
+        depth: order::select(depths, c.count / 2),
     })
 }
 
@@ -408,9 +398,19 @@ pub fn bits_of(samples: Samples, bits: &mut [u8], scratch: &mut [f64]) -> Option
         return None;
     }
     let nominal = nominal_of(samples.rate);
-    let start = Clock::new(nominal, anchor_of(scratch, n, nominal));
-    let c = fit_clock(scratch, n, start)?;
-    clocked_bits(samples, level, c, scratch, bits)
+    let (front, back) = scratch.split_at_mut(dips::DEPTHS);
+    let (points, _) = front.split_at_mut(n);
+    let (depths, _) = back.split_at_mut(n);
+    let start = Clock::new(nominal, anchor_of(points, nominal));
+    let c = fit_clock(points, depths, start)?;
+    clocked_bits(
+        samples,
+        level,
+        c,
+        &points[..c.count],
+        &depths[..c.count],
+        bits,
+    )
 }
 
 // The samples, or the first cause that applies to `burst_bits`, with room for so many bits, f32 and f64.

@@ -30,6 +30,6 @@ returns c =
     let q = slice 0 e a.dips.now in
     let t : c.loop-i.i ≡ e = omega (arith, c.min-end.ensures) in
     rw (c.atan2_64.ensures, tau_is)
-    (anchor_is a.nominal d a.dips.now a.n e c.loop-i.s c.loop-i.c c.min-end.ensures
+    (anchor_is a.nominal d a.dips.now e c.loop-i.s c.loop-i.c c.min-end.ensures
     (sum_end (sine_of a.nominal d) a.dips.now c.loop-i.i e _ c.loop-i.s t c.loop-i.invariant.0 ∙ ap (λ (x : Float). sum_from (sine_of a.nominal d) x q) zero_is)
     (sum_end (cosine_of a.nominal d) a.dips.now c.loop-i.i e _ c.loop-i.c t c.loop-i.invariant.1 ∙ ap (λ (x : Float). sum_from (cosine_of a.nominal d) x q) zero_is))
