@@ -141,10 +141,10 @@ pub fn judge(c: Clock, d: f64) -> Verdict
     requires { c.count < scratch64 }
     ensures { result ≡ judged c d }
 {
-    let k = clock::index_at(c, d);
+    let k = c.index_at(d);
     let off = off_by(c, d, k);
     let far = is_far(c, d, k);
-    match clock::track(c, d) {
+    match c.track(d) {
         Step::Lost => Verdict::Lost,
         Step::Skipped => skipped_by(far, off),
         Step::Joined(next) => Verdict::Accepted(next, off),
