@@ -65,6 +65,21 @@ impl BurstOptions {
             gap_ms: Self::GAP_MS,
         }
     }
+
+    // The quiet samples that a cluster bridges.
+    fn gap_samples(self, rate: u32) -> usize
+        ensures { result ≡ gap_samples self rate }
+    {
+        floats::to_usize_saturating(floats::round_half_up(self.gap_ms / MS_PER_S * (rate as f64)))
+    }
+
+    // Whether a cluster is as long as a burst must be.
+    fn is_long(self, rate: u32, first: usize, last: usize) -> bool
+        requires { (first ≤ last) × (last ≤ most_samples) }
+        ensures { result ≡ long_enough self rate (cluster first last) }
+    {
+        floats::count_as_f64(last - first) / (rate as f64) >= self.min_ms / MS_PER_S
+    }
 }
 
 // The noise floor of valid samples.
@@ -167,21 +182,6 @@ fn options_ok(options: BurstOptions, floor: f32) -> bool
     above & (min & (gap & level))
 }
 
-// The quiet samples that a cluster bridges.
-fn gap_samples(options: BurstOptions, rate: u32) -> usize
-    ensures { result ≡ gap_samples options rate }
-{
-    floats::to_usize_saturating(floats::round_half_up(options.gap_ms / MS_PER_S * (rate as f64)))
-}
-
-// Whether a cluster is as long as a burst must be.
-fn is_long(options: BurstOptions, rate: u32, first: usize, last: usize) -> bool
-    requires { (first ≤ last) × (last ≤ most_samples) }
-    ensures { result ≡ long_enough options rate (cluster first last) }
-{
-    floats::count_as_f64(last - first) / (rate as f64) >= options.min_ms / MS_PER_S
-}
-
 fn burst_of(dbm: &[f32], first: usize, last: usize, floor: f32) -> Burst
     requires { (first ≤ last) × (last < length dbm.now) }
     ensures { result ≡ burst_of dbm.now floor (cluster first last) }
@@ -209,7 +209,7 @@ pub fn search_bursts(
     ensures { result ≡ first_from from (bursts_from dbm.now rate options floor at) }
 {
     let threshold = std::num::f32_to_f64_with_nan(floor) + options.above_db;
-    let gap = gap_samples(options, rate);
+    let gap = options.gap_samples(rate);
     let mut i = at;
     while i < dbm.len() {
         let first = first_loud(dbm, threshold, i);
@@ -218,7 +218,7 @@ pub fn search_bursts(
         }
         let last = last_loud(dbm, threshold, gap, first);
         if from <= first {
-            if is_long(options, rate, first, last) {
+            if options.is_long(rate, first, last) {
                 return Some(burst_of(dbm, first, last, floor));
             }
         }

@@ -142,7 +142,7 @@ fn print_found(
     }
     replay::print_end(rt);
     let nominal = clock::nominal_of(rate);
-    let start = Clock::new(nominal, clock::anchor_of(&scratch[..n], nominal));
+    let start = Clock::new(nominal, clock::anchor_of(dips.places, nominal));
     dips.go_through(rt, start)
 }
 
