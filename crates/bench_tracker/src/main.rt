@@ -9,6 +9,7 @@ ghost use Rattle.frequency.specs.Calls.{SamplesEnd, CfoEnd, NextEnd, tune_of};
 ghost use Rattle.frequency_grown.specs.Rising.{Single};
 
 use frequency::FrequencyTracker;
+use frequency_lists::{Reading, Tuning};
 use limits::Refusal;
 
 const RATE: u32 = 1000;
@@ -68,19 +69,16 @@ fn sampled(
     t: &mut FrequencyTracker,
     known: bool,
     dbm: &[f32],
-    at: &mut [u64],
-    lo: &mut [u32],
-    hz: &mut [f64],
-    tunings: &mut [u64],
-    freqs: &mut [u32],
+    readings: &mut [Reading],
+    tunings: &mut [Tuning],
 ) -> Result<(), Refusal>
-    requires { Single t.old (lists at.old lo.old hz.old tunings.old freqs.old) }
-    ensures { SamplesEnd t.old dbm.now (lists at.old lo.old hz.old tunings.old freqs.old) (cause_of result) t.new (lists at.new lo.new hz.new tunings.new freqs.new) }
+    requires { Single t.old (lists readings.old tunings.old) }
+    ensures { SamplesEnd t.old dbm.now (lists readings.old tunings.old) (cause_of result) t.new (lists readings.new tunings.new) }
 {
     if known {
-        return frequency_grown::samples_rising(t, dbm, at, lo, hz, tunings, freqs);
+        return frequency_grown::samples_rising(t, dbm, readings, tunings);
     }
-    t.samples(dbm, at, lo, hz, tunings, freqs)
+    t.samples(dbm, readings, tunings)
 }
 
 // A register value, by one of the two ways.
@@ -88,39 +86,33 @@ fn read(
     t: &mut FrequencyTracker,
     known: bool,
     raw: &[u16],
-    at: &mut [u64],
-    lo: &mut [u32],
-    hz: &mut [f64],
-    tunings: &[u64],
-    freqs: &[u32],
+    readings: &mut [Reading],
+    tunings: &[Tuning],
 ) -> Result<(), Refusal>
-    requires { Single t.old (lists at.old lo.old hz.old tunings.now freqs.now) }
-    ensures { CfoEnd t.old raw.now (lists at.old lo.old hz.old tunings.now freqs.now) (cause_of result) t.new (lists at.new lo.new hz.new tunings.now freqs.now) }
+    requires { Single t.old (lists readings.old tunings.now) }
+    ensures { CfoEnd t.old raw.now (lists readings.old tunings.now) (cause_of result) t.new (lists readings.new tunings.now) }
 {
     if known {
-        return frequency_grown::cfo(t, raw, at, lo, hz, tunings, freqs);
+        return frequency_grown::cfo(t, raw, readings, tunings);
     }
-    t.cfo(raw, at, lo, hz, tunings, freqs)
+    t.cfo(raw, readings, tunings)
 }
 
 // Where to tune, by one of the two ways.
 fn chosen(
     t: &mut FrequencyTracker,
     known: bool,
-    at: &[u64],
-    lo: &[u32],
-    hz: &[f64],
-    tunings: &[u64],
-    freqs: &[u32],
+    readings: &[Reading],
+    tunings: &[Tuning],
     scratch: &mut [f64],
 ) -> Result<Option<u32>, Refusal>
-    requires { Single t.old (lists at.now lo.now hz.now tunings.now freqs.now) }
-    ensures { NextEnd t.old (lists at.now lo.now hz.now tunings.now freqs.now) scratch.old (cause_of result) t.new (tune_of result) scratch.new }
+    requires { Single t.old (lists readings.now tunings.now) }
+    ensures { NextEnd t.old (lists readings.now tunings.now) scratch.old (cause_of result) t.new (tune_of result) scratch.new }
 {
     if known {
-        return frequency_grown::next_tuning(t, at, lo, hz, tunings, freqs, scratch);
+        return frequency_grown::next_tuning(t, readings, tunings, scratch);
     }
-    t.next_tuning(at, lo, hz, tunings, freqs, scratch)
+    t.next_tuning(readings, tunings, scratch)
 }
 
 // The record's samples and its register value.
@@ -128,19 +120,16 @@ fn heard(
     t: &mut FrequencyTracker,
     known: bool,
     record: &[u8; 16],
-    at: &mut [u64; 8000],
-    lo: &mut [u32; 8000],
-    hz: &mut [f64; 8000],
-    tunings: &mut [u64; 64],
-    freqs: &mut [u32; 64],
+    readings: &mut [Reading; 8000],
+    tunings: &mut [Tuning; 64],
 ) -> Result<(), Refusal>
-    requires { Single t.old (lists at.old lo.old hz.old tunings.old freqs.old) }
-    ensures { Single t.new (lists at.new lo.new hz.new tunings.new freqs.new) }
+    requires { Single t.old (lists readings.old tunings.old) }
+    ensures { Single t.new (lists readings.new tunings.new) }
 {
     let value = [endian::get::<u16>(record, 8)];
     let dbm = levels(record);
-    sampled(t, known, &dbm, at, lo, hz, tunings, freqs)?;
-    read(t, known, &value, at, lo, hz, tunings, freqs)
+    sampled(t, known, &dbm, readings, tunings)?;
+    read(t, known, &value, readings, tunings)
 }
 
 // The calls of one record.
@@ -148,24 +137,21 @@ fn record_calls(
     rt: &impl Print,
     s: &mut State,
     record: &[u8; 16],
-    at: &mut [u64; 8000],
-    lo: &mut [u32; 8000],
-    hz: &mut [f64; 8000],
-    tunings: &mut [u64; 64],
-    freqs: &mut [u32; 64],
+    readings: &mut [Reading; 8000],
+    tunings: &mut [Tuning; 64],
     scratch: &mut [f64; 8000],
 ) -> Result<(), Refusal>
-    requires { Single s.old.tracker (lists at.old lo.old hz.old tunings.old freqs.old) }
-    ensures { Single s.new.tracker (lists at.new lo.new hz.new tunings.new freqs.new) }
+    requires { Single s.old.tracker (lists readings.old tunings.old) }
+    ensures { Single s.new.tracker (lists readings.new tunings.new) }
 {
     let freq = endian::get::<u32>(record, 10);
     begin(s, freq);
     if s.all {
-        s.tracker.tuned(freq, tunings, freqs)?;
+        s.tracker.tuned(freq, tunings)?;
     }
-    heard(&mut s.tracker, s.known, record, at, lo, hz, tunings, freqs)?;
+    heard(&mut s.tracker, s.known, record, readings, tunings)?;
     if s.all {
-        let tune = chosen(&mut s.tracker, s.known, at, lo, hz, tunings, freqs, scratch)?;
+        let tune = chosen(&mut s.tracker, s.known, readings, tunings, scratch)?;
         print_tune(rt, tune);
     }
     Ok(())
@@ -202,22 +188,19 @@ fn records(
     s: &mut State,
     block: &[u8; 4096],
     count: usize,
-    at: &mut [u64; 8000],
-    lo: &mut [u32; 8000],
-    hz: &mut [f64; 8000],
-    tunings: &mut [u64; 64],
-    freqs: &mut [u32; 64],
+    readings: &mut [Reading; 8000],
+    tunings: &mut [Tuning; 64],
     scratch: &mut [f64; 8000],
 )
-    requires { (count ≤ 256) × Single s.old.tracker (lists at.old lo.old hz.old tunings.old freqs.old) }
-    ensures { Single s.new.tracker (lists at.new lo.new hz.new tunings.new freqs.new) }
+    requires { (count ≤ 256) × Single s.old.tracker (lists readings.old tunings.old) }
+    ensures { Single s.new.tracker (lists readings.new tunings.new) }
 {
     for i in 0..count {
         if !s.open {
             return;
         }
         let record = record_of(block, i);
-        if let Err(refusal) = record_calls(rt, s, &record, at, lo, hz, tunings, freqs, scratch) {
+        if let Err(refusal) = record_calls(rt, s, &record, readings, tunings, scratch) {
             s.open = false;
             replay::print_refusal(rt, refusal);
         }
@@ -228,22 +211,19 @@ fn records(
 fn turn(
     rt: &(impl Input + Print),
     s: &mut State,
-    at: &mut [u64; 8000],
-    lo: &mut [u32; 8000],
-    hz: &mut [f64; 8000],
-    tunings: &mut [u64; 64],
-    freqs: &mut [u32; 64],
+    readings: &mut [Reading; 8000],
+    tunings: &mut [Tuning; 64],
     scratch: &mut [f64; 8000],
 )
-    requires { Single s.old.tracker (lists at.old lo.old hz.old tunings.old freqs.old) }
-    ensures { Single s.new.tracker (lists at.new lo.new hz.new tunings.new freqs.new) }
+    requires { Single s.old.tracker (lists readings.old tunings.old) }
+    ensures { Single s.new.tracker (lists readings.new tunings.new) }
 {
     let mut block = [0u8; 4096];
     let n = reading::read_full(rt, &mut block);
     if n == 4096 {
-        records(rt, s, &block, 256, at, lo, hz, tunings, freqs, scratch);
+        records(rt, s, &block, 256, readings, tunings, scratch);
     } else {
-        records(rt, s, &block, n / 16, at, lo, hz, tunings, freqs, scratch);
+        records(rt, s, &block, n / 16, readings, tunings, scratch);
         end(rt, s);
     }
 }
@@ -263,11 +243,14 @@ fn start(rt: &impl Input, tracker: FrequencyTracker) -> State
 }
 
 fn main(rt: HostRuntime) {
-    let mut at = [0u64; 8000];
-    let mut lo = [0u32; 8000];
-    let mut hz = [0.0f64; 8000];
-    let mut tunings = [0u64; 64];
-    let mut freqs = [0u32; 64];
+    let no_reading = Reading {
+        at: 0,
+        lo: 0,
+        hz: 0.0,
+    };
+    let no_tuning = Tuning { at: 0, freq: 0 };
+    let mut readings = [no_reading; 8000];
+    let mut tunings = [no_tuning; 64];
     let mut scratch = [0.0f64; 8000];
     let Ok(tracker) = FrequencyTracker::new(RATE, 0, STEP_HZ) else {
         return;
@@ -277,15 +260,6 @@ fn main(rt: HostRuntime) {
         if !s.open {
             return;
         }
-        turn(
-            &rt,
-            &mut s,
-            &mut at,
-            &mut lo,
-            &mut hz,
-            &mut tunings,
-            &mut freqs,
-            &mut scratch,
-        );
+        turn(&rt, &mut s, &mut readings, &mut tunings, &mut scratch);
     }
 }

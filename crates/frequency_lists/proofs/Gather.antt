@@ -1,8 +1,8 @@
 -- Laws of specs/Marks.antt, of lists of any element type: one turn of a loop that gathers. Assumes nothing.
 use Rattle.std.proofs.Common.{◌≡◌, ℕ, zero, suc, ◌+◌, ◌-◌, ◌<◌, ◌≤◌, Bool, true, false, cond, List, [], ◌∷◌, ◌++◌, map, length, get_or, take, drop, set, sym, refl, ap, ◌∙◌, le_of_suc-le-suc, add-one, arith, length-append, length-drop, length-take, length-take-le, get_or-drop, drop-cons, take-suc, take_at, get_or-append-add}
+use Rattle.std.specs.List.{list_all}
 use lib.Seq.{set_at, append_snoc}
 use Rattle.limits.proofs.Samples.{and_left, and_right}
-use Rattle.frequency_lists.specs.Lists.{every}
 use Rattle.frequency_lists.specs.Marks.{marked, retained, gathered, put}
 
 pub marked-le : (bs : List Bool) → marked bs ≤ length bs
@@ -121,21 +121,27 @@ map-retained {B = B} f (true ∷ bs) (x ∷ l) = ap (λ (z : List B). f x ∷ z)
 map-retained f (false ∷ bs) (x ∷ l) = map-retained f bs l
 
 -- a test that each element passes is passed by those retained
-pub every-retained : {A : Type 0} (p : A → Bool) (bs : List Bool) (l : List A) → every p l ≡ true → every p (retained bs l) ≡ true
-unfolding every retained
+pub every-retained : {A : Type 0} (p : A → Bool) (bs : List Bool) (l : List A) → list_all p l ≡ true → list_all p (retained bs l) ≡ true
+unfolding retained
 every-retained p [] l e = refl
 every-retained p (b ∷ bs) [] e = refl
-every-retained p (true ∷ bs) (x ∷ l) e = rw (and_left (p x) (every p l) e) (every-retained p bs l (and_right (p x) (every p l) e))
-every-retained p (false ∷ bs) (x ∷ l) e = every-retained p bs l (and_right (p x) (every p l) e)
+every-retained p (true ∷ bs) (x ∷ l) e = rw (and_left (p x) (list_all p l) e) (every-retained p bs l (and_right (p x) (list_all p l) e))
+every-retained p (false ∷ bs) (x ∷ l) e = every-retained p bs l (and_right (p x) (list_all p l) e)
 
--- a mark of each element
-pub mark_at_lem : {A : Type 0} (p : A → Bool) (l : List A) (i : ℕ) (d : A) → i < length l → get_or (map p l) i false ≡ p (get_or l i d)
-mark_at_lem p [] i d h = absurd (go i h)
-  where
-    go : (i : ℕ) → i < 0 → ⊥
-    go i h = omega arith
-mark_at_lem p (x ∷ l) zero d h = refl
-mark_at_lem p (x ∷ l) (suc i) d h = mark_at_lem p l i d (le_of_suc-le-suc h)
+-- a column of a list, at a place
+pub map_at : {A B : Type 0} (f : A → B) (l : List A) (i : ℕ) (d : A) (e : B) → i < length l → get_or (map f l) i e ≡ f (get_or l i d)
+map_at f [] i d e h = absurd (omega arith)
+map_at f (x ∷ l) zero d e h = refl
+map_at f (x ∷ l) (suc i) d e h = map_at f l i d e (le_of_suc-le-suc h)
+
+pub map-map : {A B C : Type 0} (f : A → B) (g : B → C) (l : List A) → map (λ (x : A). g (f x)) l ≡ map g (map f l)
+map-map f g [] = refl
+map-map {C = C} f g (x ∷ l) = ap (λ (z : List C). g (f x) ∷ z) (map-map f g l)
+
+pub map_get : {A B : Type 0} (f : A → B) (l : List A) (i : ℕ) (d : A) → get_or (map f l) i (f d) ≡ f (get_or l i d)
+map_get f [] i d = refl
+map_get f (x ∷ l) zero d = refl
+map_get f (x ∷ l) (suc i) d = map_get f l i d
 
 -- ---- gathering into scratch, a turn of the loop
 module _ {A : Type 0} (bs : List Bool) (l s : List A) (d : A) (short : length bs ≤ length l) (room : length bs ≤ length s) where

@@ -23,7 +23,7 @@ use Rattle.listening_receiver.specs.Hearing.{rate}
 use Rattle.listening_receiver.specs.Standing.{StandsFor}
 use Rattle.listening_receiver.proofs.HearingLaws.{silence-length}
 use Rattle.listening.specs.declared.Listener.{Listener}
-use Rattle.listening.specs.Program.{record_bytes, tuning_places, zero64, ending, nothing_heard, after, Accepted}
+use Rattle.listening.specs.Program.{record_bytes, tuning_places, no_reading, no_tuning, ending, nothing_heard, after, Accepted}
 use Rattle.listening.specs.declared.Stop.{Stop}
 use Rattle.listening.specs.declared.Stop.TheVariants.{Refused, Broken}
 use Rattle.listening.specs.Hand.{new_listener, state_of, Room, Near, Reached, GoesOn, Part}
@@ -217,7 +217,7 @@ first_stands places e =
 
 pub started : (l : Listener) (v : SigfoxReceiver) (input : List ℕ) (places : List Float) → l ≡ new_listener → v ≡ new_state rate → length places ≡ 12000
     → Stage [] input 0 l v
-    (lists (replicate reading_places 0) (replicate reading_places 0) (replicate reading_places zero64) (replicate tuning_places 0) (replicate tuning_places 0)) places
+    (lists (replicate reading_places no_reading) (replicate tuning_places no_tuning)) places
 unfolding Accepted after nothing_heard
 started l v input places e f w =
     rw (e, f)

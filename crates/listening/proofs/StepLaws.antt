@@ -97,7 +97,7 @@ tuned-fit : (room hz : ℕ) (dbm : List Float) (reg : ℕ) (s : FrequencyTracker
 unfolding tuned_turn
 tuned-fit room hz dbm reg s l =
     let u = tuned (tracker s l) hz in
-    unless-fit (cause_tuned s l.tuned l.freq hz) s l (samples_turn room dbm reg (packed u) (stored u l)) (samples-fit room dbm reg (packed u) (stored u l))
+    unless-fit (cause_tuned s l.tunings hz) s l (samples_turn room dbm reg (packed u) (stored u l)) (samples-fit room dbm reg (packed u) (stored u l))
 
 either-fit : (b : Bool) (t u : Turn) → Fit t → Fit u → Fit (cond b t u)
 either-fit true t u h k = h

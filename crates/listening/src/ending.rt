@@ -2,6 +2,7 @@
 ghost use Rattle.std.specs.Prelude.{◌≡◌, List, ◌++◌, ℕ, ◌≤◌, length};
 ghost use Rattle.limits.specs.Answer.{cause_of};
 ghost use Rattle.ledger.specs.Ledger.{by_frames, Ledger};
+ghost use Rattle.frequency_lists.specs.declared.Tuning.{Tuning};
 ghost use Rattle.frequency.specs.Lent.{lists};
 ghost use Rattle.listening_lines.specs.Text.{Added};
 ghost use Rattle.listening_lines.specs.Lines.{end_line};
@@ -11,6 +12,7 @@ ghost use Rattle.listening.specs.Program.{ending, refusal_text, unless_refused};
 ghost use Rattle.listening.specs.Hand.{out_places, state_of, Room};
 
 use crate::Listener;
+use frequency_lists::Reading;
 use limits::Refusal;
 use listening_lines::Line;
 use listening_records::Told;
@@ -37,9 +39,7 @@ pub fn finish(
     l: Listener,
     receiver: SigfoxReceiver,
     leftover: usize,
-    at: &[u64; 8000],
-    lo: &[u32; 8000],
-    hz: &[f64; 8000],
+    readings: &[Reading; 8000],
     samples: &mut [f32; 12000],
     events: &mut [u8; 30720],
     scratch32: &mut [f32; 12000],
@@ -48,8 +48,8 @@ pub fn finish(
 ) -> usize
     requires standing { Standing receiver samples.old }
     requires room { (Room most l) × (out_places ≤ length out.old) }
-    ensures added { (g : Ledger by_frames) (tuned freq : List ℕ) → StandsFor receiver samples.old g
-        → Added out.old 0 (ending (state_of l (lists at.now lo.now hz.now tuned freq) g) leftover) result out.new }
+    ensures added { (g : Ledger by_frames) (tunings : List Tuning) → StandsFor receiver samples.old g
+        → Added out.old 0 (ending (state_of l (lists readings.now tunings) g) leftover) result out.new }
     ensures upper_bound { result ≤ out_places }
 {
     let mut told = Told {
@@ -59,8 +59,8 @@ pub fn finish(
     };
     let mut last = receiver;
     let went = listening_receiver::close(
-        &mut told, &mut last, l.started, l.passed, l.tracker, at, lo, hz, samples, events,
-        scratch32, scratch64, out,
+        &mut told, &mut last, l.started, l.passed, l.tracker, readings, samples, events, scratch32,
+        scratch64, out,
     );
     let line = last_line(went, l.samples, told.frames, told.messages, leftover);
     line.add_to(out, told.end)

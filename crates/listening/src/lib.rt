@@ -16,6 +16,7 @@ use crate::handing::hand_over;
 use crate::records::RECORD;
 use crate::stepping::{RATE, STEP_HZ};
 use frequency::FrequencyTracker;
+use frequency_lists::{Reading, Tuning};
 use limits::Refusal;
 use receiver::SigfoxReceiver;
 use std::io;
@@ -102,21 +103,18 @@ fn turn(
     l: &mut Listener,
     receiver: &mut SigfoxReceiver,
     input: &mut [u8],
-    at: &mut [u64; 8000],
-    lo: &mut [u32; 8000],
-    hz: &mut [f64; 8000],
-    tuned: &mut [u64; 64],
-    freq: &mut [u32; 64],
+    readings: &mut [Reading; 8000],
+    tunings: &mut [Tuning; 64],
     samples: &mut [f32; 12000],
     events: &mut [u8; 30720],
     scratch32: &mut [f32; 12000],
     scratch64: &mut [f64; 8000],
     out: &mut [u8],
 ) -> Result<usize, Stop>
-    requires staged { Staged input.old filled l.old receiver.old (lists at.old lo.old hz.old tuned.old freq.old) samples.old }
+    requires staged { Staged input.old filled l.old receiver.old (lists readings.old tunings.old) samples.old }
     requires room { (length input.old ≡ 4096) × (Room 65536 l.old) × (out_places ≤ length out.old) }
-    ensures by_index { (read : List ℕ) → Stage read input.old filled l.old receiver.old (lists at.old lo.old hz.old tuned.old freq.old) samples.old
-        → Further read input.new filled result l.new receiver.new (lists at.new lo.new hz.new tuned.new freq.new) samples.new }
+    ensures by_index { (read : List ℕ) → Stage read input.old filled l.old receiver.old (lists readings.old tunings.old) samples.old
+        → Further read input.new filled result l.new receiver.new (lists readings.new tunings.new) samples.new }
     ensures near { Near 65536 l.old l.new }
 {
     let n = fetch(rt, input, filled)?;
@@ -127,11 +125,8 @@ fn turn(
         l,
         receiver,
         &input[first..last],
-        at,
-        lo,
-        hz,
-        tuned,
-        freq,
+        readings,
+        tunings,
         samples,
         events,
         scratch32,
@@ -147,11 +142,8 @@ fn conclude(
     filled: usize,
     l: Listener,
     receiver: SigfoxReceiver,
-    at: &[u64; 8000],
-    lo: &[u32; 8000],
-    hz: &[f64; 8000],
-    tuned: &[u64; 64],
-    freq: &[u32; 64],
+    readings: &[Reading; 8000],
+    tunings: &[Tuning; 64],
     input: &[u8],
     samples: &mut [f32; 12000],
     events: &mut [u8; 30720],
@@ -159,13 +151,13 @@ fn conclude(
     scratch64: &mut [f64; 8000],
     out: &mut [u8],
 )
-    requires staged { Staged input.now filled l receiver (lists at.now lo.now hz.now tuned.now freq.now) samples.old }
+    requires staged { Staged input.now filled l receiver (lists readings.now tunings.now) samples.old }
     requires room { (Room 65536 l) × (out_places ≤ length out.old) }
     ensures { HeardAll }
 {
     let leftover = filled % RECORD;
     let end = ending::finish(
-        l, receiver, leftover, at, lo, hz, samples, events, scratch32, scratch64, out,
+        l, receiver, leftover, readings, samples, events, scratch32, scratch64, out,
     );
     let _ = hand_over(rt, &out[..end]);
 }
@@ -175,11 +167,14 @@ pub fn run(rt: &(impl Input + Print + Eprint)) -> Result<(), Stop>
     ensures { Ran result }
 {
     let mut input = [0u8; 4096];
-    let mut at = [0u64; 8000];
-    let mut lo = [0u32; 8000];
-    let mut hz = [0.0f64; 8000];
-    let mut tuned = [0u64; 64];
-    let mut freq = [0u32; 64];
+    let no_reading = Reading {
+        at: 0,
+        lo: 0,
+        hz: 0.0,
+    };
+    let no_tuning = Tuning { at: 0, freq: 0 };
+    let mut readings = [no_reading; 8000];
+    let mut tunings = [no_tuning; 64];
     let mut samples = [0.0f32; 12000];
     let mut events = [0u8; 30720];
     let mut scratch32 = [0.0f32; 12000];
@@ -195,11 +190,8 @@ pub fn run(rt: &(impl Input + Print + Eprint)) -> Result<(), Stop>
             &mut listener,
             &mut receiver,
             &mut input,
-            &mut at,
-            &mut lo,
-            &mut hz,
-            &mut tuned,
-            &mut freq,
+            &mut readings,
+            &mut tunings,
             &mut samples,
             &mut events,
             &mut scratch32,
@@ -216,11 +208,8 @@ pub fn run(rt: &(impl Input + Print + Eprint)) -> Result<(), Stop>
         filled,
         listener,
         receiver,
-        &at,
-        &lo,
-        &hz,
-        &tuned,
-        &freq,
+        &readings,
+        &tunings,
         &input,
         &mut samples,
         &mut events,

@@ -7,6 +7,7 @@ ghost use Rattle.listening.specs.Hand.{out_places, Room, Near, Reached, Come, Go
 use crate::handing::hand_over;
 use crate::stepping::record_step;
 use crate::{Listener, Stop};
+use frequency_lists::{Reading, Tuning};
 use receiver::SigfoxReceiver;
 
 // Bytes of a record.
@@ -18,28 +19,25 @@ pub fn hear(
     l: &mut Listener,
     receiver: &mut SigfoxReceiver,
     records: &[u8],
-    at: &mut [u64; 8000],
-    lo: &mut [u32; 8000],
-    hz: &mut [f64; 8000],
-    tuned: &mut [u64; 64],
-    freq: &mut [u32; 64],
+    readings: &mut [Reading; 8000],
+    tunings: &mut [Tuning; 64],
     samples: &mut [f32; 12000],
     events: &mut [u8; 30720],
     scratch32: &mut [f32; 12000],
     scratch64: &mut [f64; 8000],
     out: &mut [u8],
 ) -> Result<(), Stop>
-    requires come { Come l.old receiver.old (lists at.old lo.old hz.old tuned.old freq.old) samples.old }
+    requires come { Come l.old receiver.old (lists readings.old tunings.old) samples.old }
     requires room { (length «records».now ≤ 4096) × (Room 65536 l.old) × (out_places ≤ length out.old) }
     ensures by_index { (read : List ℕ) (n : ℕ) → length read ≡ record_bytes * n
-        → Reached read n l.old receiver.old (lists at.old lo.old hz.old tuned.old freq.old) samples.old
+        → Reached read n l.old receiver.old (lists readings.old tunings.old) samples.old
         → GoesOn (read ++ take (16 * (length «records».now / 16)) «records».now) (n + length «records».now / 16) result l.new receiver.new
-        (lists at.new lo.new hz.new tuned.new freq.new) samples.new }
+        (lists readings.new tunings.new) samples.new }
     ensures near { Near 65536 l.old l.new }
 {
     for bytes in records.chunks_exact(RECORD) {
         let r = record_step(
-            l, receiver, bytes, at, lo, hz, tuned, freq, samples, events, scratch32, scratch64, out,
+            l, receiver, bytes, readings, tunings, samples, events, scratch32, scratch64, out,
         );
         let written = hand_over(rt, &out[..r.end]);
         r.went?;

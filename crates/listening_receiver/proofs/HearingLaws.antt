@@ -17,6 +17,7 @@ use Rattle.ledger.specs.Records.{with_records}
 use Rattle.ledger.specs.Records as records
 use Rattle.ledger.proofs.Basics.{Every}
 use Rattle.ledger.proofs.Seeing.{RecordSized}
+use Rattle.frequency_lists.specs.declared.Reading.{Reading}
 use Rattle.frequency.specs.declared.FrequencyTracker.{FrequencyTracker}
 use Rattle.receiver.specs.declared.SigfoxReceiver.{SigfoxReceiver}
 use Rattle.std.proofs.Common.{Result, Ok, Err}
@@ -123,11 +124,11 @@ module _ (s : SigfoxReceiver) (q : Request) (typed : Typed q) (before after : Me
       omega (arith, n, k, e)
 
   -- and they are told
-  pub call_told : (a : Result ℕ Refusal) (s' : SigfoxReceiver) (on : Bool) (passed : ℕ) (t : FrequencyTracker) (at lo : List ℕ) (hz : List Float) (room k : ℕ) (p : Emission) (old out' : List ℕ) (start : ℕ) (u : Told) → r ≡ received a s' → room ≡ 8000
-      → Tells (heard_by (cause_of a) (record { started = on; passed = passed; tracker = t; at = at; lo = lo; hz = hz; room = room }) p (records.records_in (count_of a) after.events)) old start k u out'
-      → Tells (heard (record { started = on; passed = passed; tracker = t; at = at; lo = lo; hz = hz; room = 8000 }) p l (call_of q)) old start k u out'
+  pub call_told : (a : Result ℕ Refusal) (s' : SigfoxReceiver) (on : Bool) (passed : ℕ) (t : FrequencyTracker) (rs : List Reading) (room k : ℕ) (p : Emission) (old out' : List ℕ) (start : ℕ) (u : Told) → r ≡ received a s' → room ≡ 8000
+      → Tells (heard_by (cause_of a) (record { started = on; passed = passed; tracker = t; readings = rs; room = room }) p (records.records_in (count_of a) after.events)) old start k u out'
+      → Tells (heard (record { started = on; passed = passed; tracker = t; readings = rs; room = 8000 }) p l (call_of q)) old start k u out'
   unfolding heard
-  call_told a s' on passed t at lo hz room k p old out' start u same z h =
+  call_told a s' on passed t rs room k p old out' start u same z h =
       let c : cause_of a ≡ call_refusal l (call_of q) = sym (received-refused a s') ∙ ap (λ (x : Received). x.refused) (sym same) ∙ refused_is in
       let n : records.records_in (count_of a) after.events ≡ call_records l (call_of q) =
       ap (λ (i : ℕ). records.records_in i after.events) (sym (received-count a s') ∙ ap (λ (x : Received). x.count) (sym same)) ∙ records_are in

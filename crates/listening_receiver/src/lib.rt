@@ -12,6 +12,7 @@ ghost use Rattle.listening_receiver.specs.Hearing.{most, heard_by};
 ghost use Rattle.listening_receiver.specs.Standing.{Standing, Hears, count_of};
 
 use frequency::FrequencyTracker;
+use frequency_lists::Reading;
 use limits::Refusal;
 use listening_records::Told;
 use receiver::SigfoxReceiver;
@@ -25,20 +26,18 @@ fn tell_answer(
     passed: u64,
     tracker: FrequencyTracker,
     events: &[u8],
-    at: &[u64; 8000],
-    lo: &[u32; 8000],
-    hz: &[f64; 8000],
+    readings: &[Reading; 8000],
     scratch: &mut [f64],
     out: &mut [u8],
 ) -> Result<(), Refusal>
     requires { (count_of answer ≤ most) × (record_size * count_of answer ≤ length events.now) × (t.old.end + widest * most ≤ length out.old) × (t.old.frames + most < 2 ^ 64) × (t.old.messages + most < 2 ^ 64) × (passed ≤ 2 ^ 53) }
     ensures by_index { (old : List ℕ) (start : ℕ) (p : Emission) → Tells p old start 0 t.old out.old
-        → Tells (heard_by (cause_of answer) (record { started = started; passed = passed; tracker = tracker; at = at.now; lo = lo.now; hz = hz.now; room = length scratch.old }) p (records.records_in (count_of answer) events.now)) old start (cause_of result) t.new out.new }
+        → Tells (heard_by (cause_of answer) (record { started = started; passed = passed; tracker = tracker; readings = readings.now; room = length scratch.old }) p (records.records_in (count_of answer) events.now)) old start (cause_of result) t.new out.new }
     ensures grown { Grown most t.old t.new out.old out.new }
 {
     match answer {
         Ok(count) => listening_records::tell_all(
-            t, started, passed, tracker, count, events, at, lo, hz, scratch, out,
+            t, started, passed, tracker, count, events, readings, scratch, out,
         ),
         Err(refusal) => Err(refusal),
     }
@@ -52,9 +51,7 @@ pub fn hear(
     passed: u64,
     tracker: FrequencyTracker,
     raw: &[u8],
-    at: &[u64; 8000],
-    lo: &[u32; 8000],
-    hz: &[f64; 8000],
+    readings: &[Reading; 8000],
     samples: &mut [f32; 12000],
     events: &mut [u8; 30720],
     scratch32: &mut [f32; 12000],
@@ -63,7 +60,7 @@ pub fn hear(
 ) -> Result<(), Refusal>
     requires standing { Standing receiver.old samples.old }
     requires most_in_bounds { (t.old.end + widest * most ≤ length out.old) × (t.old.frames + most < 2 ^ 64) × (t.old.messages + most < 2 ^ 64) × (passed ≤ 2 ^ 53) }
-    ensures { Hears (record { started = started; passed = passed; tracker = tracker; at = at.now; lo = lo.now; hz = hz.now; room = 8000 })
+    ensures { Hears (record { started = started; passed = passed; tracker = tracker; readings = readings.now; room = 8000 })
         receiver.old (push_raw raw.now)
         (record { samples = samples.entry.now; events = events.old; scratch32 = scratch32.old; scratch64 = scratch64.old })
         t.old out.old (record { refused = cause_of result; told = t.new; receiver = receiver.new }) samples.exit.now events.new out.new }
@@ -72,7 +69,7 @@ pub fn hear(
     let closed = [0u32; 0];
     let answer = receiver.push_raw(raw, shifts, &closed, samples, events, scratch32, scratch64);
     tell_answer(
-        t, answer, started, passed, tracker, events, at, lo, hz, scratch64, out,
+        t, answer, started, passed, tracker, events, readings, scratch64, out,
     )
 }
 
@@ -83,9 +80,7 @@ pub fn close(
     started: bool,
     passed: u64,
     tracker: FrequencyTracker,
-    at: &[u64; 8000],
-    lo: &[u32; 8000],
-    hz: &[f64; 8000],
+    readings: &[Reading; 8000],
     samples: &mut [f32; 12000],
     events: &mut [u8; 30720],
     scratch32: &mut [f32; 12000],
@@ -94,7 +89,7 @@ pub fn close(
 ) -> Result<(), Refusal>
     requires standing { Standing receiver.old samples.old }
     requires most_in_bounds { (t.old.end + widest * most ≤ length out.old) × (t.old.frames + most < 2 ^ 64) × (t.old.messages + most < 2 ^ 64) × (passed ≤ 2 ^ 53) }
-    ensures { Hears (record { started = started; passed = passed; tracker = tracker; at = at.now; lo = lo.now; hz = hz.now; room = 8000 })
+    ensures { Hears (record { started = started; passed = passed; tracker = tracker; readings = readings.now; room = 8000 })
         receiver.old flush
         (record { samples = samples.entry.now; events = events.old; scratch32 = scratch32.old; scratch64 = scratch64.old })
         t.old out.old (record { refused = cause_of result; told = t.new; receiver = receiver.new }) samples.exit.now events.new out.new }
@@ -103,6 +98,6 @@ pub fn close(
     let closed = [0u32; 0];
     let answer = receiver.flush(shifts, &closed, samples, events, scratch32, scratch64);
     tell_answer(
-        t, answer, started, passed, tracker, events, at, lo, hz, scratch64, out,
+        t, answer, started, passed, tracker, events, readings, scratch64, out,
     )
 }

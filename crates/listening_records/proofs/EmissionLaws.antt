@@ -8,6 +8,7 @@ use native.Mathlib.Omega.{arith}
 use borrow.Author.Tests.{eq-eqb, ne_eqb}
 use lib.Ieee.{Float, binary64, of_bits, of_int, round}
 use Rattle.floats.specs.Number.{num}
+use Rattle.frequency_lists.specs.declared.Reading.{Reading}
 use Rattle.frequency.specs.declared.FrequencyTracker.{FrequencyTracker}
 use lib.ListN.{take, drop}
 use lib.Seq.{drop-drop}
@@ -47,7 +48,7 @@ unfolding answer_for
 not_started q e h = rw h refl
 
 pub answered : (q : Asked) (e : List ℕ) → q.started ≡ true
-    → frame1_answer q.tracker q.at q.lo q.hz q.room (spans_in (earlier q.passed) e) (downlink_in e) ≡ answer_for q e
+    → frame1_answer q.tracker q.readings q.room (spans_in (earlier q.passed) e) (downlink_in e) ≡ answer_for q e
 unfolding answer_for
 answered q e h = rw h refl
 
@@ -129,13 +130,13 @@ unfolding emitted_all records_in
 none_told q p events = refl
 
 -- a turn of the loop over a call's records
-pub turn_told : (started : Bool) (passed : ℕ) (t : FrequencyTracker) (at lo : List ℕ) (hz : List Float) (room room' : ℕ) (p : Emission) (old out out' : List ℕ) (start i k : ℕ) (events e : List ℕ) (m r : Told)
+pub turn_told : (started : Bool) (passed : ℕ) (t : FrequencyTracker) (rs : List Reading) (room room' : ℕ) (p : Emission) (old out out' : List ℕ) (start i k : ℕ) (events e : List ℕ) (m r : Told)
     → room' ≡ room → e ≡ take record_size (drop (record_size * i) events)
-    → Tells (emitted_all (record { started = started; passed = passed; tracker = t; at = at; lo = lo; hz = hz; room = room }) p (records_in i events)) old start 0 m out
-    → ((u : Emission) → Tells u old start 0 m out → Tells (emitted (record { started = started; passed = passed; tracker = t; at = at; lo = lo; hz = hz; room = room' }) u e) old start k r out')
-    → Tells (emitted_all (record { started = started; passed = passed; tracker = t; at = at; lo = lo; hz = hz; room = room }) p (records_in (i + 1) events)) old start k r out'
-turn_told started passed t at lo hz room room' p old out out' start i k events e m r x y h f =
-    let q : Asked = record { started = started; passed = passed; tracker = t; at = at; lo = lo; hz = hz; room = room } in
+    → Tells (emitted_all (record { started = started; passed = passed; tracker = t; readings = rs; room = room }) p (records_in i events)) old start 0 m out
+    → ((u : Emission) → Tells u old start 0 m out → Tells (emitted (record { started = started; passed = passed; tracker = t; readings = rs; room = room' }) u e) old start k r out')
+    → Tells (emitted_all (record { started = started; passed = passed; tracker = t; readings = rs; room = room }) p (records_in (i + 1) events)) old start k r out'
+turn_told started passed t rs room room' p old out out' start i k events e m r x y h f =
+    let q : Asked = record { started = started; passed = passed; tracker = t; readings = rs; room = room } in
     as_told (emitted_last q p (records_in i events) (take record_size (drop (record_size * i) events)) ∙ ap (emitted_all q p) (records_more i events)) (rw (x, y) at (f _ h))
 
 -- a record of the event buffer, as the code takes it

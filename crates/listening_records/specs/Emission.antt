@@ -6,6 +6,7 @@ use Rattle.floats.specs.Number.{num}
 use Rattle.record.specs.declared.FrameSpan.{FrameSpan}
 use Rattle.record.specs.Record.{frame_kind}
 use Rattle.record.specs.Readers.{kind_of, flags_of, span_at}
+use Rattle.frequency_lists.specs.declared.Reading.{Reading}
 use Rattle.frequency.specs.declared.FrequencyTracker.{FrequencyTracker}
 use Rattle.limits.specs.Answer.{Answer, refused, accepted}
 use Rattle.frequency.specs.Calls.{frame1_answer}
@@ -56,15 +57,13 @@ pub record Asked : Type 0 where
   pub started : Bool
   pub passed : ℕ
   pub tracker : FrequencyTracker
-  pub at : List ℕ
-  pub lo : List ℕ
-  pub hz : List Float
+  pub readings : List Reading
   pub room : ℕ
 
 -- the answer of `frame1` for a message; 02, request 04: "A message written while no frequency has come prints `-` for hz"
 unfoldable pub answer_for : Asked → List ℕ → Answer (Option ℕ)
 answer_for q e =
-    cond q.started (frame1_answer q.tracker q.at q.lo q.hz q.room (spans_in (earlier q.passed) e) (downlink_in e)) (accepted None)
+    cond q.started (frame1_answer q.tracker q.readings q.room (spans_in (earlier q.passed) e) (downlink_in e)) (accepted None)
 
 -- one record; nothing after a refusal
 unfoldable pub emitted : Asked → Emission → List ℕ → Emission

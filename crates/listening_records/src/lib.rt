@@ -9,6 +9,7 @@ ghost use Rattle.listening_records.specs.Emission.{Emission, shifted, spans_in, 
 ghost use Rattle.ledger.specs.Records.{records_in};
 
 use frequency::FrequencyTracker;
+use frequency_lists::Reading;
 use limits::Refusal;
 use record::FrameSpan;
 use record::read::EventRecord;
@@ -67,19 +68,17 @@ fn answer_for(
     passed: u64,
     tracker: FrequencyTracker,
     event: EventRecord,
-    at: &[u64; 8000],
-    lo: &[u32; 8000],
-    hz: &[f64; 8000],
+    readings: &[Reading; 8000],
     scratch: &mut [f64],
 ) -> Result<Option<u32>, Refusal>
     requires { passed ≤ 2 ^ 53 }
-    ensures { said result ≡ answer_for (record { started = started; passed = passed; tracker = tracker; at = at.now; lo = lo.now; hz = hz.now; room = length scratch.old }) event.entry.bytes.now }
+    ensures { said result ≡ answer_for (record { started = started; passed = passed; tracker = tracker; readings = readings.now; room = length scratch.old }) event.entry.bytes.now }
 {
     if !started {
         return Ok(None);
     }
     let spans = spans_of(event, earlier(passed));
-    tracker.frame1(spans, downlink_of(event), at, lo, hz, scratch)
+    tracker.frame1(spans, downlink_of(event), readings, scratch)
 }
 
 // A message's line behind the text.
@@ -101,22 +100,20 @@ fn tell(
     passed: u64,
     tracker: FrequencyTracker,
     event: EventRecord,
-    at: &[u64; 8000],
-    lo: &[u32; 8000],
-    hz: &[f64; 8000],
+    readings: &[Reading; 8000],
     scratch: &mut [f64],
     out: &mut [u8],
 ) -> Result<(), Refusal>
     requires { (t.old.end + widest ≤ length out.old) × (t.old.frames + 1 < 2 ^ 64) × (t.old.messages + 1 < 2 ^ 64) × (passed ≤ 2 ^ 53) }
     ensures by_index { (old : List ℕ) (start : ℕ) (p : Emission) → Tells p old start 0 t.old out.old
-        → Tells (emitted (record { started = started; passed = passed; tracker = tracker; at = at.now; lo = lo.now; hz = hz.now; room = length scratch.old }) p event.entry.bytes.now) old start (cause_of result) t.new out.new }
+        → Tells (emitted (record { started = started; passed = passed; tracker = tracker; readings = readings.now; room = length scratch.old }) p event.entry.bytes.now) old start (cause_of result) t.new out.new }
     ensures within { Within t.old t.new out.old out.new }
 {
     if event.kind() == record::FRAME {
         t.frames += 1;
         return Ok(());
     }
-    let answer = answer_for(started, passed, tracker, event, at, lo, hz, scratch)?;
+    let answer = answer_for(started, passed, tracker, event, readings, scratch)?;
     tell_line(t, event, answer, out);
     Ok(())
 }
@@ -129,15 +126,13 @@ pub fn tell_all(
     tracker: FrequencyTracker,
     count: usize,
     events: &[u8],
-    at: &[u64; 8000],
-    lo: &[u32; 8000],
-    hz: &[f64; 8000],
+    readings: &[Reading; 8000],
     scratch: &mut [f64],
     out: &mut [u8],
 ) -> Result<(), Refusal>
     requires { (record_size * count ≤ length events.now) × (t.old.end + widest * count ≤ length out.old) × (t.old.frames + count < 2 ^ 64) × (t.old.messages + count < 2 ^ 64) × (passed ≤ 2 ^ 53) }
     ensures by_index { (old : List ℕ) (start : ℕ) (p : Emission) → Tells p old start 0 t.old out.old
-        → Tells (emitted_all (record { started = started; passed = passed; tracker = tracker; at = at.now; lo = lo.now; hz = hz.now; room = length scratch.old }) p (records_in count events.now)) old start (cause_of result) t.new out.new }
+        → Tells (emitted_all (record { started = started; passed = passed; tracker = tracker; readings = readings.now; room = length scratch.old }) p (records_in count events.now)) old start (cause_of result) t.new out.new }
     ensures grown { Grown count t.old t.new out.old out.new }
 {
     for i in 0..count {
@@ -149,9 +144,7 @@ pub fn tell_all(
             passed,
             tracker,
             EventRecord::new(&events[from..to]),
-            at,
-            lo,
-            hz,
+            readings,
             scratch,
             out,
         )?;

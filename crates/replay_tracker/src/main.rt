@@ -10,6 +10,7 @@ use crate::lines::{
     print_samples, print_tuned,
 };
 use frequency::FrequencyTracker;
+use frequency_lists::{Reading, Tuning};
 use limits::Refusal;
 use replay::Unanswered;
 use replay_records::spans::read_spans;
@@ -21,6 +22,9 @@ const TUNINGS: usize = 64;
 
 // The call that hands in a tracker.
 const GIVEN: u8 = 7;
+
+// The call that prints every place of the lists.
+const LOOK: u8 = 8;
 
 // Between two calls: how much of each list is lent, and the tracker, or why there is none.
 #[derive(Clone, Copy)]
@@ -34,15 +38,14 @@ struct State {
 fn tuned(
     rt: &(impl Input + Print),
     s: &mut State,
-    tuned: &mut [u64],
-    freq: &mut [u32],
+    tunings: &mut [Tuning],
 ) -> Result<(), Unanswered> {
     let mut part = [0u8; 4];
     replay::read_part(rt, &mut part)?;
     let mut t = s.tracker?;
-    t.tuned(endian::get::<u32>(&part, 0), tuned, freq)?;
+    t.tuned(endian::get::<u32>(&part, 0), tunings)?;
     s.tracker = Ok(t);
-    let hz = t.freq(tuned, freq).unwrap_or(0);
+    let hz = t.freq(tunings).unwrap_or(0);
     print_tuned(rt, hz, t.tunings);
     Ok(())
 }
@@ -50,16 +53,13 @@ fn tuned(
 fn samples(
     rt: &(impl Input + Print),
     s: &mut State,
-    at: &mut [u64],
-    lo: &mut [u32],
-    hz: &mut [f64],
-    tuned: &mut [u64],
-    freq: &mut [u32],
+    readings: &mut [Reading],
+    tunings: &mut [Tuning],
 ) -> Result<(), Unanswered> {
     let mut dbm = [0.0f32; 48001];
     let dbm = replay::read_list(rt, &mut dbm)?;
     let mut t = s.tracker?;
-    t.samples(dbm, at, lo, hz, tuned, freq)?;
+    t.samples(dbm, readings, tunings)?;
     s.tracker = Ok(t);
     print_samples(rt, t);
     Ok(())
@@ -68,33 +68,27 @@ fn samples(
 fn cfo(
     rt: &(impl Input + Print),
     s: &mut State,
-    at: &mut [u64],
-    lo: &mut [u32],
-    hz: &mut [f64],
-    tuned: &[u64],
-    freq: &[u32],
+    readings: &mut [Reading],
+    tunings: &[Tuning],
 ) -> Result<(), Unanswered> {
     let mut raw = [0u16; 4097];
     let raw = replay::read_list(rt, &mut raw)?;
     let mut t = s.tracker?;
-    t.cfo(raw, at, lo, hz, tuned, freq)?;
+    t.cfo(raw, readings, tunings)?;
     s.tracker = Ok(t);
-    print_readings(rt, t.readings, at, lo, hz);
+    print_readings(rt, t.readings, readings);
     Ok(())
 }
 
 fn next_tuning(
     rt: &impl Print,
     s: &mut State,
-    at: &[u64],
-    lo: &[u32],
-    hz: &[f64],
-    tuned: &[u64],
-    freq: &[u32],
+    readings: &[Reading],
+    tunings: &[Tuning],
     scratch: &mut [f64],
 ) -> Result<(), Unanswered> {
     let mut t = s.tracker?;
-    let tune = t.next_tuning(at, lo, hz, tuned, freq, scratch)?;
+    let tune = t.next_tuning(readings, tunings, scratch)?;
     s.tracker = Ok(t);
     print_next(rt, tune, t.signal.retuned);
     Ok(())
@@ -103,14 +97,12 @@ fn next_tuning(
 fn frame_frequency(
     rt: &(impl Input + Print),
     s: State,
-    at: &[u64],
-    lo: &[u32],
-    hz: &[f64],
+    readings: &[Reading],
     scratch: &mut [f64],
 ) -> Result<(), Unanswered> {
     let span = replay::read_span(rt)?;
     let t = s.tracker?;
-    let found = t.frame_frequency(span, at, lo, hz, scratch)?;
+    let found = t.frame_frequency(span, readings, scratch)?;
     print_frame_frequency(rt, found);
     Ok(())
 }
@@ -118,38 +110,33 @@ fn frame_frequency(
 fn frame1(
     rt: &(impl Input + Print),
     s: State,
-    at: &[u64],
-    lo: &[u32],
-    hz: &[f64],
+    readings: &[Reading],
     scratch: &mut [f64],
 ) -> Result<(), Unanswered> {
     let mut part = [0u8; 2];
     replay::read_part(rt, &mut part)?;
     let spans = read_spans(rt, part[1])?;
     let t = s.tracker?;
-    let f = t.frame1(spans, part[0] != 0, at, lo, hz, scratch)?;
+    let f = t.frame1(spans, part[0] != 0, readings, scratch)?;
     print_frame1(rt, f);
     Ok(())
 }
 
-fn freq(rt: &impl Print, s: State, tuned: &[u64], freq: &[u32]) -> Result<(), Unanswered> {
+fn freq(rt: &impl Print, s: State, tunings: &[Tuning]) -> Result<(), Unanswered> {
     let t = s.tracker?;
-    print_freq(rt, t.freq(tuned, freq)?);
+    print_freq(rt, t.freq(tunings)?);
     Ok(())
 }
 
-// Every place of the lists as they are lent.
+// Every place of the lists as they were handed in.
 fn look(
     rt: &impl Print,
     s: State,
-    at: &[u64],
-    lo: &[u32],
-    hz: &[f64],
-    tuned: &[u64],
-    freq: &[u32],
+    readings: &[Reading; 8000],
+    tunings: &[Tuning; 64],
 ) -> Result<(), Unanswered> {
     let t = s.tracker?;
-    print_lists(rt, t.requested, at, lo, hz, tuned, freq);
+    print_lists(rt, t.requested, s.lengths, readings, tunings);
     Ok(())
 }
 
@@ -157,22 +144,18 @@ fn call(
     rt: &(impl Input + Print),
     s: &mut State,
     number: u8,
-    at: &mut [u64],
-    lo: &mut [u32],
-    hz: &mut [f64],
-    tunings: &mut [u64],
-    freqs: &mut [u32],
+    readings: &mut [Reading],
+    tunings: &mut [Tuning],
     scratch: &mut [f64],
 ) -> Result<(), Unanswered> {
     match number {
-        0 => tuned(rt, s, tunings, freqs),
-        1 => samples(rt, s, at, lo, hz, tunings, freqs),
-        2 => cfo(rt, s, at, lo, hz, tunings, freqs),
-        3 => next_tuning(rt, s, at, lo, hz, tunings, freqs, scratch),
-        4 => frame_frequency(rt, *s, at, lo, hz, scratch),
-        5 => frame1(rt, *s, at, lo, hz, scratch),
-        6 => freq(rt, *s, tunings, freqs),
-        8 => look(rt, *s, at, lo, hz, tunings, freqs),
+        0 => tuned(rt, s, tunings),
+        1 => samples(rt, s, readings, tunings),
+        2 => cfo(rt, s, readings, tunings),
+        3 => next_tuning(rt, s, readings, tunings, scratch),
+        4 => frame_frequency(rt, *s, readings, scratch),
+        5 => frame1(rt, *s, readings, scratch),
+        6 => freq(rt, *s, tunings),
         _ => Err(Unanswered::Short),
     }
 }
@@ -182,29 +165,22 @@ fn lend(
     rt: &(impl Input + Print),
     s: &mut State,
     number: u8,
-    at: &mut [u64],
-    lo: &mut [u32],
-    hz: &mut [f64],
-    tunings: &mut [u64],
-    freqs: &mut [u32],
+    readings: &mut [Reading; 8000],
+    tunings: &mut [Tuning; 64],
 ) -> Result<(), Unanswered> {
-    let lengths = s.lengths;
-    let a = lengths.at.min(at.len());
-    let b = lengths.lo.min(lo.len());
-    let c = lengths.hz.min(hz.len());
-    let d = lengths.tuned.min(tunings.len());
-    let e = lengths.freq.min(freqs.len());
+    if number == LOOK {
+        return look(rt, *s, readings, tunings);
+    }
+    let lent = s.lengths.readings().min(READINGS);
+    let tuned = s.lengths.tunings().min(TUNINGS);
     let mut scratch = [0.0f64; 8000];
-    let room = lengths.scratch.min(READINGS);
+    let room = s.lengths.scratch.min(READINGS);
     call(
         rt,
         s,
         number,
-        &mut at[..a],
-        &mut lo[..b],
-        &mut hz[..c],
-        &mut tunings[..d],
-        &mut freqs[..e],
+        &mut readings[..lent],
+        &mut tunings[..tuned],
         &mut scratch[..room],
     )
 }
@@ -213,13 +189,10 @@ fn lend(
 fn take_over(
     rt: &(impl Input + Print),
     s: &mut State,
-    at: &mut [u64; 8000],
-    lo: &mut [u32; 8000],
-    hz: &mut [f64; 8000],
-    tunings: &mut [u64; 64],
-    freqs: &mut [u32; 64],
+    readings: &mut [Reading; 8000],
+    tunings: &mut [Tuning; 64],
 ) -> Result<(), Unanswered> {
-    let g = read_tracker(rt, at, lo, hz, tunings, freqs)?;
+    let g = read_tracker(rt, readings, tunings)?;
     s.lengths = g.lengths;
     s.tracker = Ok(g.tracker);
     Ok(())
@@ -229,16 +202,13 @@ fn turn(
     rt: &(impl Input + Print),
     s: &mut State,
     number: u8,
-    at: &mut [u64; 8000],
-    lo: &mut [u32; 8000],
-    hz: &mut [f64; 8000],
-    tunings: &mut [u64; 64],
-    freqs: &mut [u32; 64],
+    readings: &mut [Reading; 8000],
+    tunings: &mut [Tuning; 64],
 ) -> Result<(), Unanswered> {
     if number == GIVEN {
-        take_over(rt, s, at, lo, hz, tunings, freqs)
+        take_over(rt, s, readings, tunings)
     } else {
-        lend(rt, s, number, at, lo, hz, tunings, freqs)
+        lend(rt, s, number, readings, tunings)
     }
 }
 
@@ -261,24 +231,18 @@ fn start(rt: &impl Input) -> Result<State, Unanswered> {
 }
 
 fn main(rt: HostRuntime) {
-    let mut at = [0u64; 8000];
-    let mut lo = [0u32; 8000];
-    let mut hz = [0.0f64; 8000];
-    let mut tunings = [0u64; 64];
-    let mut freqs = [0u32; 64];
+    let no_reading = Reading {
+        at: 0,
+        lo: 0,
+        hz: 0.0,
+    };
+    let no_tuning = Tuning { at: 0, freq: 0 };
+    let mut readings = [no_reading; 8000];
+    let mut tunings = [no_tuning; 64];
     let Ok(mut s) = start(&rt) else {
         return;
     };
     replay::run(&rt, |number: [u8; 1]| {
-        turn(
-            &rt,
-            &mut s,
-            number[0],
-            &mut at,
-            &mut lo,
-            &mut hz,
-            &mut tunings,
-            &mut freqs,
-        )
+        turn(&rt, &mut s, number[0], &mut readings, &mut tunings)
     });
 }

@@ -3,4 +3,4 @@ use Rattle.frequency_grown.specs.Rising.{Single}
 use Rattle.bench_tracker.proofs.main.Given as goal
 
 abbrev pub invariant-loop : goal.invariant-loop
-invariant-loop l = Single l.s.tracker (lists l.at l.lo l.hz l.tunings l.freqs)
+invariant-loop l = Single l.s.tracker (lists l.readings l.tunings)

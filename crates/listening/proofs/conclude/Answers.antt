@@ -6,7 +6,7 @@ use Rattle.listening.proofs.conclude.Goals as goal
 pub hand_over-requires : goal.hand_over-requires
 hand_over-requires g c =
     let st = c.requires.staged in
-    let x = st.stage.all in record { part = end_part st.read _ _ _ _ _ _ _ _ _ _ st.stage refl (c.finish-end.ensures.added x.ledger _ _ x.stands) }
+    let x = st.stage.all in record { part = end_part st.read _ _ _ _ _ _ _ _ _ _ st.stage refl (c.finish-end.ensures.added x.ledger _ x.stands) }
 
 pub returns : goal.returns
 returns g c =

@@ -37,7 +37,7 @@ returns c =
     record {
       told =
           λ (l : Ledger by_frames) (st : StandsFor c.args.receiver.now c.args.samples.now l) (old : List ℕ) (start : ℕ) (p : Emission) (h : Tells p old start 0 c.args.t.now c.args.out.now).
-          call_told _ (ask_raw c.args.raw.now) tt _ _ _ y e f g l st x.result x.new.self _ _ _ _ _ _ _ _ p old _ start _ refl (omega arith) (a.by_index old start p h);
+          call_told _ (ask_raw c.args.raw.now) tt _ _ _ y e f g l st x.result x.new.self _ _ _ _ _ _ p old _ start _ refl (omega arith) (a.by_index old start p h);
       stands = λ (l : Ledger by_frames) (st : StandsFor c.args.receiver.now c.args.samples.now l). stands_now _ (ask_raw c.args.raw.now) tt _ _ _ y e f g l st x.new.self v;
       receiver = sym v ∙ y.state;
       samples = y.samples;

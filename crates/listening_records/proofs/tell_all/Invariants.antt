@@ -12,4 +12,4 @@ invariant-loop-i l =
     (length l.scratch ≡ length l.initial.scratch)
     × Grown l.i l.initial.t l.t l.initial.out l.out
     × ((old : List ℕ) (start : ℕ) (p : Emission) → Tells p old start 0 l.initial.t l.initial.out
-    → Tells (emitted_all (record { started = l.started; passed = l.passed; tracker = l.tracker; at = l.at; lo = l.lo; hz = l.hz; room = length l.initial.scratch }) p (records_in l.i l.events)) old start 0 l.t l.out)
+    → Tells (emitted_all (record { started = l.started; passed = l.passed; tracker = l.tracker; readings = l.readings; room = length l.initial.scratch }) p (records_in l.i l.events)) old start 0 l.t l.out)

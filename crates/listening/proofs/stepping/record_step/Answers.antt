@@ -28,4 +28,4 @@ returns-in-Ok c =
     let h = f.ensures.follows in
     let r = c.receive.ensures in
     let z : cause_of f.result.went ≡ 0 = rw c.in-Ok.is refl in
-    record { goes = λ (g : Ledger by_frames) (st : StandsFor c.args.receiver.now c.args.samples.now g). goes_as (h.on z g) (r.goes g _ _ _ h.text st (h.added z)); steps = both_steps _ _ _ _ _ _ _ f.ensures.leads r.receives }
+    record { goes = λ (g : Ledger by_frames) (st : StandsFor c.args.receiver.now c.args.samples.now g). goes_as (h.on z g) (r.goes g _ _ h.text st (h.added z)); steps = both_steps _ _ _ _ _ _ _ f.ensures.leads r.receives }
