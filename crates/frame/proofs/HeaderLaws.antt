@@ -11,21 +11,9 @@ use Rattle.limits.specs.Answer.{refused, accepted, answer, leaves}
 use Rattle.coding.specs.Bits.{bit_of}
 use Rattle.endian.specs.Bytes.{bytes_of}
 use Rattle.frame.specs.Sizes.{header_size, most_payload, auth_size}
-use Rattle.frame.specs.Header.{size_class, size_li, class_of, li_of, header_bytes, most_header, header_cause, header_answer, header_out}
+use Rattle.frame.specs.Header.{class_of, li_of, header_bytes, most_header, header_cause, header_answer, header_out}
 use Rattle.frame.specs.declared.header.UplinkFields.{UplinkFields}
 use Rattle.frame.proofs.CopyLaws.{sets_then}
-
--- ---- two bytes and more
-
-pub class_more : (n : ℕ) → (n ≡ 0 → ⊥) → (n ≡ 1 → ⊥) → (n - 1) / 4 + 2 ≡ size_class n
-class_more zero h k = absurd (h refl)
-class_more (suc zero) h k = absurd (k refl)
-class_more (suc (suc n)) h k = ap (λ (x : ℕ). x / 4 + 2) (let e : suc (suc n) - 1 ≡ suc n = omega arith in e)
-
-pub li_more : (n : ℕ) → (n ≡ 0 → ⊥) → (n ≡ 1 → ⊥) → 3 - (n - 1) % 4 ≡ size_li n
-li_more zero h k = absurd (h refl)
-li_more (suc zero) h k = absurd (k refl)
-li_more (suc (suc n)) h k = ap (λ (x : ℕ). 3 - x % 4) (let e : suc (suc n) - 1 ≡ suc n = omega arith in e)
 
 -- ---- the bytes
 

@@ -38,12 +38,6 @@ loop-i-preserved c = let a = c.args in
       sym (ends_step true a.rank a.bits.now c.loop-i.p c.loop-i.q c.loop-i.i x x (omega arith) c.coded_bit-a.ensures refl) ∙ c.loop-i.invariant.4,
     )
 
-pub overflow_mul-result : goal.overflow_mul-result
-overflow_mul-result c = omega (arith, c.loop-i.invariant.1)
-
-pub overflow_add-result : goal.overflow_add-result
-overflow_add-result c = omega (arith, c.loop-i.invariant.1, c.loop-i.invariant.2)
-
 pub returns : goal.returns
 returns c = let a = c.args in (
   sym (whole_end true a.rank a.bits.now c.loop-i.out c.loop-i.p c.loop-i.q c.loop-i.i (omega arith) (omega arith)) ∙ c.loop-i.invariant.3,

@@ -20,9 +20,6 @@ pub returns-then-bits-after : goal.returns-then-bits-after
 returns-then-bits-after c = let z = c.args.bits.now in
     search_short (23 - c.loop-start.start) c.loop-start.start (map odd z) (omega (arith, c.if-bits-after.true, length-map-odd z)) ∙ c.loop-start.invariant
 
-pub word-requires : goal.word-requires
-word-requires c = (c.requires.0, omega arith)
-
 pub new-requires : goal.new-requires
 new-requires c = let z = c.args.bits.now in
     let n = c.loop-start.start + sync_size in (

@@ -1,14 +1,13 @@
 use mathlib.Core.Path.{◌≡◌, refl, sym, ap, ◌∙◌}
 use mathlib.Core.List.{map}
-use Prim.Native.Nat.{ℕ, ◌+◌, ◌<◌}
+use Prim.Native.Nat.{◌+◌, ◌<◌}
 use native.Mathlib.Omega.{arith}
 use mathlib.Core.Bool.{false}
-use lib.ListN.{length, take, drop, get_or, length-drop}
+use lib.ListN.{length, drop, get_or, length-drop}
 use lib.Seq.{get_or-drop}
 use Rattle.coding.specs.Bits.{odd, bit_of, value}
 use Rattle.coding.proofs.BitLaws.{bit_at, length-map-odd}
 use Rattle.coding.proofs.Values.{bit_of_lem, value-below, value-next}
-use Rattle.frame.specs.Kinds.{sync_size}
 use Rattle.frame.proofs.kinds.word.Goals as goal
 
 pub loop-j-init : goal.loop-j-init
@@ -26,8 +25,3 @@ loop-j-preserved c = let a = c.args in
     let b : get_or a.bits.now (a.at + j) 0 ≡ bit_of (get_or z j false) =
     bit_of_lem a.bits.now (a.at + j) c.requires.0 ∙ ap bit_of (sym (get_or-drop a.at (map odd a.bits.now) j false)) in
     omega (arith, c.from.ensures, b, c.loop-j.invariant, value-below z j 15 (omega arith) (omega arith), value-next z j n)
-
-pub returns : goal.returns
-returns c = let a = c.args in
-    let e : c.loop-j.j ≡ sync_size = omega arith in
-    c.loop-j.invariant ∙ ap (λ (k : ℕ). value (take k (drop a.at (map odd a.bits.now)))) e

@@ -5,9 +5,8 @@ use Prim.Native.Nat.{◌+◌, ◌<◌}
 use native.Mathlib.Omega.{arith}
 use lib.ListN.{length, drop, get_or, length-drop}
 use lib.Seq.{get_or-drop}
-use Rattle.coding.specs.Bits.{odd, bit_of, plus}
-use Rattle.coding.specs.Convolution.{tap, state_of}
-use Rattle.coding.proofs.BitLaws.{bit-lt, bit_at, length-map-odd}
+use Rattle.coding.specs.Bits.{odd, bit_of}
+use Rattle.coding.proofs.BitLaws.{bit_at, length-map-odd}
 use Rattle.coding.proofs.Values.{bit_of_lem}
 use Rattle.frame.proofs.PlainLaws.{part_none, part_more, part-whole}
 use Rattle.frame.proofs.bodies.Body.byte.Goals as goal
@@ -17,10 +16,6 @@ loop-j-init c = let a = c.args in part_none a.self.kind.rank a.last (drop a.from
 
 pub coded_bit-x-requires : goal.coded_bit-x-requires
 coded_bit-x-requires c = (bit_at c.args.self.bits.now (c.args.from + c.loop-j.j) c.args.self.valid, c.loop-j.invariant.low_a, c.loop-j.invariant.low-b)
-
-pub overflow_add-v : goal.overflow_add-v
-overflow_add-v c = let a = c.args in
-    omega (arith, c.coded_bit-x.ensures, bit-lt (plus (odd (get_or a.self.bits.now (a.from + c.loop-j.j) 0)) (tap a.self.kind.rank (state_of c.loop-j.a c.loop-j.b))))
 
 pub loop-j-preserved : goal.loop-j-preserved
 loop-j-preserved c = let a = c.args in

@@ -1,14 +1,11 @@
 use mathlib.Core.Path.{◌≡◌, ap, ◌∙◌}
-use Prim.Native.Nat.{ℕ, ◌+◌, ◌-◌}
+use Prim.Native.Nat.{ℕ, ◌-◌}
 use native.Mathlib.Omega.{arith}
 use lib.Seq.{sets}
 use Rattle.frame.specs.Sizes.{header_size, most_payload, payload_size}
 use Rattle.frame.specs.Fields.{payload_of}
 use Rattle.frame.proofs.CopyLaws.{fill-front, length_part, part_bytes, zeros}
 use Rattle.frame.proofs.plain.Plaintext.payload.Goals as goal
-
-pub copy_into-requires : goal.copy_into-requires
-copy_into-requires c = omega (arith, length_part c.args.self.bytes 6 (6 + c.from-n.result - 6), c.from-n.ensures, c.payload_size.ensures.1)
 
 pub returns : goal.returns
 returns c = let b = c.args.self.bytes in

@@ -12,7 +12,7 @@ use Rattle.frame.specs.Bodies.{bits_of}
 use Rattle.frame.specs.declared.plain.Prefix.{Prefix}
 use Rattle.frame.proofs.PlainLaws.{held, held_next}
 use Rattle.frame.proofs.FieldLaws.{crc-front}
-use Rattle.frame.proofs.PassedLaws.{passed_none, passed-small, passed_more, byte_is, passed-crc, all_held}
+use Rattle.frame.proofs.PassedLaws.{passed_none, passed_more, byte_is, passed-crc, all_held}
 use Rattle.frame.proofs.splices.Spliced.plain_bytes.Goals as goal
 
 pub loop-i-init : goal.loop-i-init
@@ -31,10 +31,6 @@ loop-i-preserved c = let v = c.args.self in
       ap (λ t. set t i next.result) c.loop-i.invariant.1
           ∙ held_next most_bytes i next.result (deconvolved rank fresh z) (omega (arith, v.body.most)) (byte_is rank z f c.loop-i.invariant.0 h next.result next.ensures),
     )
-
-pub overflow_sub-result : goal.overflow_sub-result
-overflow_sub-result c = let v = c.args.self in
-    omega (arith, passed-small v.body.kind.rank (bits_of v) (record { bytes = c.loop-i.i; crc = c.loop-i.crc; last = c.loop-i.last }) c.loop-i.invariant.0)
 
 pub returns : goal.returns
 returns c = let v = c.args.self in

@@ -1,26 +1,16 @@
 use mathlib.Core.Path.{◌≡◌, sym, ap, ◌∙◌}
 use mathlib.Core.Bool.{false}
-use Prim.Native.Nat.{◌+◌, ◌<◌}
+use Prim.Native.Nat.{◌<◌}
 use native.Mathlib.Omega.{arith}
 use lib.ListN.{length, drop, get_or, length-drop}
 use lib.Seq.{get_or-drop}
-use Rattle.coding.specs.Bits.{odd, bit_of, plus}
-use Rattle.coding.specs.Convolution.{tap, state_of}
-use Rattle.coding.proofs.BitLaws.{bit-lt}
+use Rattle.coding.specs.Bits.{bit_of}
 use Rattle.frame.specs.Bodies.{bits_of}
 use Rattle.frame.proofs.PlainLaws.{part_none, part_more, part-whole}
 use Rattle.frame.proofs.splices.Spliced.spliced_byte.Goals as goal
 
 pub loop-j-init : goal.loop-j-init
 loop-j-init c = let a = c.args in part_none a.self.body.kind.rank a.last (drop a.from (bits_of a.self))
-
-pub coded_bit-x-requires : goal.coded_bit-x-requires
-coded_bit-x-requires c = let a = c.args in
-    (omega (arith, c.bit.ensures, bit-lt (get_or (bits_of a.self) (a.from + c.loop-j.j) false)), c.loop-j.invariant.low_a, c.loop-j.invariant.low-b)
-
-pub overflow_add-v : goal.overflow_add-v
-overflow_add-v c = let a = c.args in
-    omega (arith, c.coded_bit-x.ensures, bit-lt (plus (odd c.bit.result) (tap a.self.body.kind.rank (state_of c.loop-j.a c.loop-j.b))))
 
 pub loop-j-preserved : goal.loop-j-preserved
 loop-j-preserved c = let a = c.args in
