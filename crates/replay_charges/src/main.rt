@@ -4,25 +4,25 @@
 ghost use Rattle.std.specs.Prelude.{◌≤◌};
 
 use replay::Unanswered;
-use subscription::Plan;
+use subscription::{Plan, Step};
 
 // Bytes of a step: its upper count and its price.
-const STEP: usize = 8;
+const STEP_BYTES: usize = 8;
 
 // The plan of a case: of over eight steps the first eight, as the call refuses their number.
-fn plan_of(head: &[u8; 9], count: usize, steps: &[u8; 2040]) -> Plan {
-    let mut uppers = [0u32; 8];
-    let mut prices = [0u32; 8];
+fn plan_of(head: &[u8; 9], count: usize, bytes: &[u8; 2040]) -> Plan {
+    let mut steps = [Step { upper: 0, price: 0 }; 8];
     for j in 0..subscription::MOST_STEPS {
-        uppers[j] = endian::get::<u32>(steps, STEP * j);
-        prices[j] = endian::get::<u32>(steps, STEP * j + 4);
+        steps[j] = Step {
+            upper: endian::get::<u32>(bytes, STEP_BYTES * j),
+            price: endian::get::<u32>(bytes, STEP_BYTES * j + 4),
+        };
     }
     Plan {
         fee: endian::get::<u32>(head, 0),
         allowance: endian::get::<u32>(head, 4),
-        steps: count,
-        uppers,
-        prices,
+        count,
+        steps,
     }
 }
 
@@ -43,7 +43,7 @@ fn charge_case(rt: &(impl Input + Print), plan: Plan) -> Result<(), Unanswered> 
 fn case(rt: &(impl Input + Print), head: &[u8; 9]) -> Result<(), Unanswered> {
     let mut steps = [0u8; 2040];
     let count = usize::from(head[8]);
-    replay::read_n_bytes(rt, STEP * count, &mut steps)?;
+    replay::read_n_bytes(rt, STEP_BYTES * count, &mut steps)?;
     charge_case(rt, plan_of(head, count, &steps))
 }
 

@@ -47,4 +47,4 @@ pub record Few (c : List ℕ) (n : ℕ) : Type 0 where
 -- how many of x extra messages of a day the first j steps take; the last step takes all
 abbrev pub reached : Plan → ℕ → ℕ → ℕ
 reached plan x zero = 0
-reached plan x (suc j) = cond (eqb (suc j) plan.steps) x (min x (upper_of plan j))
+reached plan x (suc j) = cond (eqb (suc j) plan.count) x (min x (upper_of plan j))

@@ -11,6 +11,7 @@ ghost use Rattle.event_list.specs.Events.{wholes, most_records, events_of, messa
 ghost use Rattle.subscription.specs.Charges.{latest_start, plan_ok, start_ok, cents_of, on_day, month_cause, charge_cause};
 ghost use Rattle.subscription.specs.Counting.{second_of, read_on, tallied, Few};
 
+use crate::prices::Accepted;
 use limits::Refusal;
 use record::read::EventRecord;
 
@@ -23,14 +24,20 @@ pub const DAYS: usize = 31;
 // The latest start of a month, in seconds.
 const LATEST_START: i64 = 10_000_000_000;
 
-// A fee in cents, an allowance of messages a day, and steps of extra messages, each an upper count and a price in thousandths of a cent. The last step's upper count is not read.
+// A step of extra messages: those up to an upper count, at a price in thousandths of a cent.
+#[derive(Clone, Copy)]
+pub struct Step {
+    pub upper: u32,
+    pub price: u32,
+}
+
+// A fee in cents, an allowance of messages a day, and how many steps there are, with the first eight. The last step's upper count is not read.
 #[derive(Clone, Copy)]
 pub struct Plan {
     pub fee: u32,
     pub allowance: u32,
-    pub steps: usize,
-    pub uppers: [u32; 8],
-    pub prices: [u32; 8],
+    pub count: usize,
+    pub steps: [Step; 8],
 }
 
 // What was read: how many records, and whether every message lies in the month.
@@ -105,7 +112,7 @@ pub fn total(t: Tally, counts: &[u32], plan: Plan, month_start: i64) -> Result<u
     if !t.within {
         return Err(Refusal::OutsideMonth);
     }
-    Ok(prices::cents(plan, counts))
+    Ok(Accepted { plan }.cents(counts))
 }
 
 // The cents that a plan takes for the messages of a list in the month that starts at a second of the stream, or a refusal.
