@@ -16,21 +16,16 @@ fn print_device(rt: &impl Print, z: i64) {
 }
 
 // A row: the device in 8 hexadecimal digits, then its eight numbers.
-fn print_row(rt: &impl Print, rows: &[i64; 2304], p: usize)
-    requires { p ≤ 255 }
-{
-    print_device(rt, rows[NUMBERS * p]);
-    for j in 1..NUMBERS {
+fn print_row(rt: &impl Print, row: &[i64]) {
+    let Some((device, numbers)) = row.split_first() else {
+        return;
+    };
+    print_device(rt, *device);
+    for x in numbers {
         replay::print(rt, b" ");
-        replay::print_number(rt, rows[NUMBERS * p + j]);
+        replay::print_number(rt, *x);
     }
     replay::print_end(rt);
-}
-
-fn print_rows(rt: &impl Print, rows: &[i64; 2304], n: usize) {
-    for p in 0..n.min(fleet_sheet::MOST_DEVICES) {
-        print_row(rt, rows, p);
-    }
 }
 
 // The report of what was read.
@@ -50,7 +45,11 @@ fn finish(rt: &impl Print, tally: Result<Tally, Refusal>, table: &[DeviceRow; 25
 {
     let mut rows = [0i64; 2304];
     match report(tally, table, &mut rows) {
-        Ok(n) => print_rows(rt, &rows, n),
+        Ok(n) => {
+            for row in rows.chunks_exact(NUMBERS).take(n) {
+                print_row(rt, row);
+            }
+        }
         Err(refusal) => {
             replay::print_refusal(rt, refusal);
         }

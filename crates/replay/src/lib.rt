@@ -305,6 +305,14 @@ pub fn print_slice(rt: &impl Print, bytes: &[u8]) {
     print_bytes(rt, bytes);
 }
 
+// The line that says how many places behind an answer hold the fill that stood there before the call.
+pub fn print_kept<T: PartialEq + Copy>(rt: &impl Print, places: &[T], fill: T) {
+    let kept = places.iter().filter(|x| **x == fill).count();
+    print(rt, b"K ");
+    print_number(rt, kept);
+    print_end(rt);
+}
+
 // The end of a line.
 pub fn print_end(rt: &impl Print) {
     print(rt, b"\n");

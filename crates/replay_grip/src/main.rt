@@ -1,8 +1,6 @@
 // Nearest messages of grips, and messages on air in a lent list: a line for the answer, and one for what was kept of the list (docs/REPLAY.md, `grip`).
 #![tactic(auto)]
 
-ghost use Rattle.std.specs.Prelude.{◌≤◌, length};
-
 use replay::Unanswered;
 
 // The longest list that is lent.
@@ -26,55 +24,31 @@ fn nearest(rt: &(impl Input + Print)) -> Result<(), Unanswered> {
     Ok(())
 }
 
-// How many places from one on up to another hold the fill.
-fn print_kept(rt: &impl Print, numbers: &[u32], from: usize, places: usize, fill: u32)
-    requires { places ≤ length numbers.now }
-{
-    let mut count: u64 = 0;
-    for i in from..places {
-        if numbers[i] == fill {
-            count = std::num::wrapping_add_u64(count, 1);
-        }
+// Numbers in a line, `none` where there are none.
+fn print_numbers(rt: &impl Print, numbers: &[u32]) {
+    if numbers.is_empty() {
+        replay::print_none(rt);
+        return;
     }
-    replay::print(rt, b"K ");
-    replay::print_number(rt, count);
-    replay::print_end(rt);
-}
-
-// The first n numbers, of those that the list can hold, in a line.
-fn print_numbers(rt: &impl Print, numbers: &[u32], n: usize) {
     replay::print(rt, b"A");
-    for number in numbers.iter().take(n) {
+    for number in numbers {
         replay::print(rt, b" ");
         replay::print_number(rt, *number);
     }
     replay::print_end(rt);
 }
 
-// The call, on the first places of a list.
-fn hear_into(
-    rt: &impl Print,
-    records: &[u8],
-    instant: f64,
-    numbers: &mut [u32],
-    places: usize,
-    fill: u32,
-)
-    requires { places ≤ length numbers.old }
-{
-    let air = grip::on_air(records, instant, &mut numbers[..places]);
-    match air {
+// The call on a list.
+fn hear_into(rt: &impl Print, records: &[u8], instant: f64, numbers: &mut [u32], fill: u32) {
+    match grip::on_air(records, instant, numbers) {
         Err(refusal) => {
             replay::print_refusal(rt, refusal);
-            print_kept(rt, numbers, 0, places, fill);
+            replay::print_kept(rt, numbers, fill);
         }
         Ok(n) => {
-            if n == 0 {
-                replay::print_none(rt);
-            } else {
-                print_numbers(rt, numbers, n);
-            }
-            print_kept(rt, numbers, n, places, fill);
+            let (heard, rest) = numbers.split_at(n.min(numbers.len()));
+            print_numbers(rt, heard);
+            replay::print_kept(rt, rest, fill);
         }
     }
 }
@@ -88,7 +62,7 @@ fn on_air(rt: &(impl Input + Print)) -> Result<(), Unanswered> {
     let fill = endian::get::<u32>(&head, 10);
     let mut numbers = [fill; 1000];
     let places = usize::from(endian::get::<u16>(&head, 8)).min(MOST_PLACES);
-    hear_into(rt, records, instant, &mut numbers, places, fill);
+    hear_into(rt, records, instant, &mut numbers[..places], fill);
     Ok(())
 }
 
