@@ -148,8 +148,8 @@ module _ (seg : List Float) (rate : ℕ) (v : BurstBits) (q : Some v ≡ values_
 
 -- ---- the segment
 
-pub decode_is : (dbm : List Float) (rate : ℕ) (b : Burst) (t0 : Float) (pad back from end to : ℕ) (t e : Float) (r : Option DecodedFrame) → pad ≡ pad_of rate → back ≡ b.start - pad → from ≡ min back (length dbm)
-    → end ≡ min (b.end + pad) (length dbm) → to ≡ max from end → t ≡ time_at t0 rate b.start → e ≡ time_at t0 rate b.end
+pub decode_is : (dbm : List Float) (rate : ℕ) (b : Burst) (t0 : Float) (from to : ℕ) (t e : Float) (r : Option DecodedFrame) → from ≡ from_of dbm rate b → to ≡ to_of dbm rate b
+    → t ≡ time_at t0 rate b.start → e ≡ time_at t0 rate b.end
     → r ≡ heard_in t e b.peak_dbm (outcome (take (to - from) (drop from dbm)) rate) → r ≡ decode_burst dbm rate b t0
-unfolding decode_burst segment_of to_of from_of
-decode_is dbm rate b t0 pad back from end to t e r pe be fe ee te tm et q = q ∙ rw (te, ee, fe, be, pe, tm, et)
+unfolding decode_burst segment_of
+decode_is dbm rate b t0 from to t e r fe te tm et q = q ∙ rw (fe, te, tm, et)

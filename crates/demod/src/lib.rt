@@ -10,7 +10,7 @@ ghost use Rattle.rates.specs.Rates.{pad_of};
 ghost use Rattle.record.specs.Record.{frame_record};
 ghost use Rattle.bursts.specs.Levels.{noise_floor};
 ghost use Rattle.clock.specs.Bits.{outcome};
-ghost use Rattle.demod.specs.Decode.{widest_pad, time_at, depth_byte, with_burst, heard_in, decode_burst, burst_ok, decode_cause, decode_answer};
+ghost use Rattle.demod.specs.Decode.{widest_pad, from_of, to_of, time_at, depth_byte, with_burst, heard_in, decode_burst, burst_ok, decode_cause, decode_answer};
 ghost use Rattle.demod.specs.Capture.{floor_of, floor_ok, reception_of, record_of, captured, joined, capture_cause, capture_answer, in_front};
 
 use bursts::Burst;
@@ -105,7 +105,25 @@ fn time_at(t0: f64, rate: u32, i: usize) -> f64
     t0 + floats::count_as_f64(i) / (rate as f64)
 }
 
-// The frame in a burst, with its margins, clamped to the samples.
+// The samples of a burst that are looked at: from one place on to another.
+#[derive(Clone, Copy)]
+pub struct Segment {
+    pub from: usize,
+    pub to: usize,
+}
+
+// Those of a burst with its margins, clamped to the samples.
+pub fn looked_at(dbm: &[f32], rate: u32, burst: Burst) -> Segment
+    requires { (lowest_rate ≤ rate) × (rate ≤ highest_rate) × (burst.end ≤ longest_stream) }
+    ensures { (result.from ≡ from_of dbm.now rate burst) × (result.to ≡ to_of dbm.now rate burst) × (result.from ≤ result.to) × (result.to ≤ length dbm.now) }
+{
+    let pad = margin(rate);
+    let from = dips::back(burst.start, pad).min(dbm.len());
+    let to = from.max((burst.end + pad).min(dbm.len()));
+    Segment { from, to }
+}
+
+// The frame in a burst.
 pub fn decode_within(
     samples: Samples,
     burst: Burst,
@@ -117,13 +135,11 @@ pub fn decode_within(
 {
     let dbm = samples.dbm;
     let rate = samples.rate;
-    let pad = margin(rate);
-    let from = dips::back(burst.start, pad).min(dbm.len());
-    let to = from.max((burst.end + pad).min(dbm.len()));
+    let seen = looked_at(dbm, rate, burst);
     let time = time_at(t0, rate, burst.start);
     let end = time_at(t0, rate, burst.end);
     let seg = Samples {
-        dbm: &dbm[from..to],
+        dbm: &dbm[seen.from..seen.to],
         rate,
     };
     decode_segment(seg, scratch, time, end, burst.peak_dbm)

@@ -233,7 +233,7 @@ impl<'a> Look<'a> {
             &mut scratch.f32s,
             &mut scratch.f64s,
         );
-        let seen = explaining::looked_at(held, rate, b);
+        let seen = demod::looked_at(held, rate, b);
         self.explain_segment(rt, b, seen.from, seen.to, decoded.unwrap_or(None), scratch);
     }
 }

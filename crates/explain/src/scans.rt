@@ -96,7 +96,7 @@ impl<'a> Look<'a> {
 
     // Whether a burst is one of those that a scan looks at.
     fn is_long(&self, b: Burst) -> bool {
-        let options = explaining::scan_options();
+        let options = receiver_scan::scan_options();
         match bursts::find_bursts(self.held, self.rate(), options, b.floor_dbm, b.start) {
             Err(_) | Ok(None) => false,
             Ok(Some(c)) => c.start == b.start,

@@ -4,21 +4,18 @@
 ghost use Rattle.std.specs.Prelude.{◌≡◌, ◌^◌, ◌<◌, ◌≤◌, true, map, length};
 ghost use Rattle.coding.specs.Bits.{odd, are_bits};
 ghost use Rattle.limits.specs.Limits.{lowest_rate, highest_rate, longest_stream, most_samples, most_bits, scratch64};
-ghost use Rattle.ledger.specs.Scanning.{scan_options};
 ghost use Rattle.explaining.specs.Margins.{faint_options, any_options, margin_of, depth_margin, grid_margin, quiet_margin, lesser, scaled};
 ghost use Rattle.explaining.specs.Verdicts.{off_by, is_far, skipped_by, judged};
 ghost use Rattle.explaining.specs.Types.{type_in};
-ghost use Rattle.explaining.specs.Taken.{segment_of, took_at};
+ghost use Rattle.explaining.specs.Taken.{took_at};
 ghost use Rattle.receiver_starts.specs.Starts.{distances};
 ghost use Rattle.ledger.specs.Causes.{most_starts};
 
 use bursts::{Burst, BurstOptions};
 use clock::{Clock, Step};
 use frame::kinds::FrameKind;
+use receiver_scan::MIN_MS;
 use receiver_starts::Starts;
-
-// The receiver's own shortest burst.
-pub const MIN_MS: f64 = 300.0;
 
 // What is under the threshold, but not under this many decibels over the floor, is shown as well.
 const FAINT_DB: f64 = 12.0;
@@ -32,18 +29,7 @@ pub const QUIET_S: f64 = 10.0;
 
 // ---- bursts
 
-// How a scan looks for bursts.
-pub fn scan_options() -> BurstOptions
-    ensures { result ≡ scan_options }
-{
-    BurstOptions {
-        above_db: BurstOptions::ABOVE_DB,
-        min_ms: MIN_MS,
-        gap_ms: BurstOptions::GAP_MS,
-    }
-}
-
-// The same without a shortest burst: also those that are too short.
+// A scan's options without a shortest burst: also those that are too short.
 pub fn any_options() -> BurstOptions
     ensures { result ≡ any_options }
 {
@@ -71,23 +57,6 @@ pub fn margin(burst: Burst) -> f64
 {
     std::num::f32_to_f64_with_nan(burst.peak_dbm)
         - (std::num::f32_to_f64_with_nan(burst.floor_dbm) + BurstOptions::ABOVE_DB)
-}
-
-// The samples of a burst that are looked at: from one place on to another.
-#[derive(Clone, Copy)]
-pub struct Segment {
-    pub from: usize,
-    pub to: usize,
-}
-
-pub fn looked_at(dbm: &[f32], rate: u32, burst: Burst) -> Segment
-    requires { (lowest_rate ≤ rate) × (rate ≤ highest_rate) × (burst.end ≤ longest_stream) }
-    ensures { (result ≡ segment_of dbm.now rate burst) × (result.from ≤ result.to) × (result.to ≤ length dbm.now) }
-{
-    let pad = demod::margin(rate);
-    let from = dips::back(burst.start, pad).min(dbm.len());
-    let to = from.max((burst.end + pad).min(dbm.len()));
-    Segment { from, to }
 }
 
 // Whether a call took the burst that starts at place i of the samples held before it, and at place j of those held after it: its start is remembered now, and none

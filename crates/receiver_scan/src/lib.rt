@@ -27,7 +27,7 @@ use record::Reception;
 const EVENT_PLACES: usize = 256;
 
 // A scan's own shortest burst: the bounds on starts, messages and records rest on it.
-const MIN_MS: f64 = 300.0;
+pub const MIN_MS: f64 = 300.0;
 
 // What a scan leaves, besides the event buffer; `count` is the records of the call so far.
 #[derive(Clone, Copy)]
@@ -37,7 +37,8 @@ pub struct Scanned {
     pub count: usize,
 }
 
-fn options() -> BurstOptions
+// How a scan looks for bursts.
+pub fn scan_options() -> BurstOptions
     ensures { result ≡ scan_options }
 {
     BurstOptions {
@@ -163,7 +164,7 @@ fn take_each(
     requires { Lent rate base wait held.now events.old scratch.old × Within s.old }
     ensures { Does (λ l. take_each_if rate (demod_of rate) wait l (held_bursts rate held.now)) held.now base s.old events.old s.new events.new }
 {
-    let options = options();
+    let options = scan_options();
     let floor = bursts::measured_floor(held);
     let mut at: usize = 0;
     while at < held.len() {

@@ -26,7 +26,7 @@ returns-in_default c =
     let a = c.args in
     let s = c.search_bursts in
     each-end a.rate a.wait a.base a.held.now a.s.now a.events.now c.loop-at.s c.loop-at.events c.loop-at.at c.loop-at.invariant.1
-    (found_none a.held.now a.rate scan_options (noise_floor a.held.now) c.loop-at.at (sym c.in_default.is ∙ searched a.rate a.wait a.base a.held.now c.options-options.result c.measured_floor-floor.result s.result c.loop-at.at c.options-options.ensures c.measured_floor-floor.ensures s.ensures))
+    (found_none a.held.now a.rate scan_options (noise_floor a.held.now) c.loop-at.at (sym c.in_default.is ∙ searched a.rate a.wait a.base a.held.now c.scan_options-options.result c.measured_floor-floor.result s.result c.loop-at.at c.scan_options-options.ensures c.measured_floor-floor.ensures s.ensures))
 
 -- the burst that is found is the next
 next : (c : In-Some) → Next c.args.held.now c.args.rate scan_options (noise_floor c.args.held.now) c.loop-at.at c.in-Some.b
@@ -34,7 +34,7 @@ next c =
     let a = c.args in
     let s = c.search_bursts in
     found_next a.held.now a.rate scan_options (noise_floor a.held.now) c.loop-at.at c.in-Some.b c.loop-at.invariant.1.inside
-    (sym c.in-Some.is ∙ searched a.rate a.wait a.base a.held.now c.options-options.result c.measured_floor-floor.result s.result c.loop-at.at c.options-options.ensures c.measured_floor-floor.ensures s.ensures)
+    (sym c.in-Some.is ∙ searched a.rate a.wait a.base a.held.now c.scan_options-options.result c.measured_floor-floor.result s.result c.loop-at.at c.scan_options-options.ensures c.measured_floor-floor.ensures s.ensures)
 
 pub take_one-requires : goal.take_one-requires
 take_one-requires c =

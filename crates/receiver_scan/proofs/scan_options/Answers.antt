@@ -1,6 +1,6 @@
-use Rattle.std.proofs.Common.{refl}
+use mathlib.Core.Path.{refl}
 use lib.Ieee.{of_bits, of_int, round}
-use Rattle.explaining.proofs.scan_options.Goals as goal
+use Rattle.receiver_scan.proofs.scan_options.Goals as goal
 
 pub returns : goal.returns
 unfolding of_bits of_int round
