@@ -10,8 +10,7 @@ use crate::words::{print_db, print_dbm, print_parts};
 use bursts::Burst;
 use clock::BurstBits;
 use demod::DecodedFrame;
-use explaining::TypeFound;
-use frame::UplinkFrame;
+use frame::{TypeFound, UplinkFrame};
 use limits::Refusal;
 
 fn print_over(rt: &impl Print, margin: f64) {
@@ -74,7 +73,7 @@ fn type_of(bits: &[u8]) -> Option<TypeFound> {
     if limits::MOST_BITS < bits.len() || !coding::are_bits(bits) {
         return None;
     }
-    explaining::find_type(bits)
+    frame::find_type(bits)
 }
 
 fn ending_of(

@@ -1,7 +1,6 @@
 // What a burst's bits say: the frame type, the fields and the CRC.
-use explaining::TypeFound;
 use frame::kinds::FrameKind;
-use frame::{Repair, UplinkFrame};
+use frame::{Repair, TypeFound, UplinkFrame};
 
 fn print_class(rt: &impl Print, class: u8) {
     match class {

@@ -1,19 +1,16 @@
 // Why a burst was read or not, and how near each number was: what `explain` prints is worked out here, on the definitions that the receiver is proved against.
 #![tactic(auto)]
 
-ghost use Rattle.std.specs.Prelude.{◌≡◌, ◌^◌, ◌<◌, ◌≤◌, true, map, length};
-ghost use Rattle.coding.specs.Bits.{odd, are_bits};
-ghost use Rattle.limits.specs.Limits.{lowest_rate, highest_rate, longest_stream, most_samples, most_bits, scratch64};
+ghost use Rattle.std.specs.Prelude.{◌≡◌, ◌^◌, ◌<◌, ◌≤◌};
+ghost use Rattle.limits.specs.Limits.{scratch64};
 ghost use Rattle.explaining.specs.Margins.{faint_options, any_options, margin_of, depth_margin, grid_margin, quiet_margin, lesser, scaled};
 ghost use Rattle.explaining.specs.Verdicts.{off_by, is_far, skipped_by, judged};
-ghost use Rattle.explaining.specs.Types.{type_in};
 ghost use Rattle.explaining.specs.Taken.{took_at};
 ghost use Rattle.receiver_starts.specs.Starts.{distances};
 ghost use Rattle.ledger.specs.Causes.{most_starts};
 
 use bursts::{Burst, BurstOptions};
 use clock::{Clock, Step};
-use frame::kinds::FrameKind;
 use receiver_scan::MIN_MS;
 use receiver_starts::Starts;
 
@@ -134,34 +131,7 @@ pub fn grid_margin(off: f64) -> f64
     OFF_GRID - floats::abs64(off)
 }
 
-// ---- frames and messages
-
-// A frame type, and the bit where it starts.
-#[derive(Clone, Copy)]
-pub struct TypeFound {
-    pub start: usize,
-    pub kind: FrameKind,
-}
-
-const FIRST_START: usize = 8;
-
-const LAST_START: usize = 22;
-
-// The frame type of bits, none where there is none: the first that stands at a start from 8 to 22. What is decoded is decoded from there (law `decoded-there`).
-pub fn find_type(bits: &[u8]) -> Option<TypeFound>
-    requires { (are_bits bits.now ≡ true) × (length bits.now ≤ most_bits) }
-    ensures { result ≡ type_in (map odd bits.now) }
-{
-    for start in FIRST_START..LAST_START + 1 {
-        if bits.len() < start + frame::kinds::SYNC {
-            return None;
-        }
-        if let Some(kind) = frame::kinds::find_kind(frame::kinds::word(bits, start)) {
-            return Some(TypeFound { start, kind });
-        }
-    }
-    None
-}
+// ---- messages
 
 // What a message that waits at a time has left of 10 s.
 pub fn quiet_margin(now: f64, last: f64) -> f64

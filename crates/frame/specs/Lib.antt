@@ -9,3 +9,4 @@ pub mod Plain
 pub mod Header
 pub mod Control
 pub mod Bodies
+pub mod Types

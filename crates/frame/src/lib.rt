@@ -1,14 +1,16 @@
 // Sigfox uplink frames (frame.rs): the frame type is searched, the body parsed as it is and after single-bit repairs. Bits are bytes 0 or 1.
 #![tactic(auto)]
 
-ghost use Rattle.std.specs.Prelude.{◌≡◌, true, map, ◌≤◌, length};
+ghost use Rattle.std.specs.Prelude.{◌≡◌, true, map, ◌+◌, ◌≤◌, length, IfSome};
 ghost use Rattle.coding.specs.Bits.{odd, are_bits};
 ghost use Rattle.limits.specs.Limits.{most_bits};
 ghost use Rattle.limits.specs.Answer.{said};
+ghost use Rattle.frame.specs.Kinds.{sync_size};
 ghost use Rattle.frame.specs.Decode.{decode_uplink, uplink_answer};
+ghost use Rattle.frame.specs.Types.{type_in};
 
 use bodies::Body;
-use kinds::{SYNC, find_kind, word};
+use kinds::{FrameKind, SYNC, find_kind, word};
 use limits::Refusal;
 
 pub mod control; // decode_control
@@ -55,21 +57,36 @@ const FIRST_START: usize = 8;
 
 const LAST_START: usize = 22;
 
+// A frame type, and the bit where it starts.
+#[derive(Clone, Copy)]
+pub struct TypeFound {
+    pub start: usize,
+    pub kind: FrameKind,
+}
+
+// The frame type of bits, none where there is none: the first that stands at a start from 8 to 22. What is decoded is decoded from there (law `decoded_there`).
+pub fn find_type(bits: &[u8]) -> Option<TypeFound>
+    requires { (are_bits bits.now ≡ true) × (length bits.now ≤ most_bits) }
+    ensures { (result ≡ type_in (map odd bits.now)) × IfSome result (λ t. (t.start + sync_size ≤ length bits.now) × (t.kind.class ≤ 4)) }
+{
+    for start in FIRST_START..LAST_START + 1 {
+        if bits.len() < start + SYNC {
+            return None;
+        }
+        if let Some(kind) = find_kind(word(bits, start)) {
+            return Some(TypeFound { start, kind });
+        }
+    }
+    None
+}
+
 // Decodes bits that are known to be bits.
 pub fn decode_bits(bits: &[u8]) -> Option<UplinkFrame>
     requires { (are_bits bits.now ≡ true) × (length bits.now ≤ most_bits) }
     ensures { result ≡ decode_uplink (map odd bits.now) }
 {
-    for start in FIRST_START..LAST_START + 1 {
-        let after = start + SYNC;
-        if bits.len() < after {
-            return None;
-        }
-        if let Some(kind) = find_kind(word(bits, start)) {
-            return Body::new(&bits[after..], kind).decode();
-        }
-    }
-    None
+    let found = find_type(bits)?;
+    Body::new(&bits[found.start + SYNC..], found.kind).decode()
 }
 
 // Decodes data bits that start somewhere in the preamble (frame.rs decode_uplink_bits).

@@ -5,7 +5,7 @@ use Rattle.frame.specs.Kinds.{sync_size, kinds, kind_of}
 use Rattle.frame.specs.Decode.{decode_body, first_start, starts, decode_uplink}
 use Rattle.frame.specs.declared.UplinkFrame.{UplinkFrame}
 use Rattle.frame.specs.declared.kinds.FrameKind.{FrameKind}
-use Rattle.explaining.specs.declared.TypeFound.{TypeFound}
+use Rattle.frame.specs.declared.TypeFound.{TypeFound}
 
 abbrev pub type_at : ℕ → Option FrameKind → Option TypeFound → Option TypeFound
 type_at start None later = later

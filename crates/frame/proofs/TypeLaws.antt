@@ -3,11 +3,11 @@ use Rattle.std.proofs.Common.{Option, None, Some, ◌≡◌, ℕ, zero, suc, ◌
 use borrow.Author.Tests.{lt-leb}
 use Rattle.coding.specs.Bits.{value}
 use Rattle.frame.specs.Kinds.{sync_size, kinds, kind_of}
-use Rattle.frame.specs.Decode.{decode_body, decide_at, search_from, decode_uplink, starts, first_start}
+use Rattle.frame.specs.Decode.{decide_at, search_from, decode_uplink, starts, first_start}
 use Rattle.frame.specs.declared.UplinkFrame.{UplinkFrame}
 use Rattle.frame.specs.declared.kinds.FrameKind.{FrameKind}
-use Rattle.explaining.specs.Types.{type_at, type_from, type_in, decoded_from, DecodedThere}
-use Rattle.explaining.specs.declared.TypeFound.{TypeFound}
+use Rattle.frame.specs.Types.{type_at, type_from, type_in, decoded_from, DecodedThere}
+use Rattle.frame.specs.declared.TypeFound.{TypeFound}
 
 -- ---- the search
 
