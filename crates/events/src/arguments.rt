@@ -1,16 +1,9 @@
 // What the arguments say of shifts: a start second, then windows A-B and closed dates in any sequence (README.md).
-use shifts::{Shifts, Window};
+use shifts::{Given, Shifts, Window};
 use std::rt::Env;
 
 // The most arguments, the program's name among them.
 const MOST: usize = 1000;
-
-// Start second and windows; the closed dates.
-#[derive(Clone, Copy)]
-pub struct Given<'a> {
-    pub shifts: Shifts,
-    pub closed: &'a [u32],
-}
 
 // An argument: two numbers with a '-' between them, or one number.
 #[derive(Clone, Copy)]

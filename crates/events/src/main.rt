@@ -5,8 +5,8 @@
 mod arguments; // shifts
 
 use limits::Refusal;
-use receiver::SigfoxReceiver;
-use shifts::Shifts;
+use receiver::{Lent, SigfoxReceiver};
+use shifts::Given;
 
 // Samples per second.
 const RATE: u32 = 1000;
@@ -73,17 +73,13 @@ fn hear(
     rt: &impl Print,
     receiver: &mut SigfoxReceiver,
     records: &[u8],
-    shifts: Shifts,
-    closed: &[u32],
-    samples: &mut [f32; 12000],
-    events: &mut [u8; 30720],
-    scratch32: &mut [f32; 12000],
-    scratch64: &mut [f64; limits::SCRATCH64],
+    given: &Given,
+    lent: &mut Lent,
 ) -> Result<(), Stop> {
     for record in records.chunks_exact(RECORD) {
         let (raw, _) = record.split_at(RAW);
-        let count = receiver.push_raw(raw, shifts, closed, samples, events, scratch32, scratch64)?;
-        write_events(rt, count, events)?;
+        let count = receiver.push_raw(raw, given, lent)?;
+        write_events(rt, count, lent.events)?;
     }
     Ok(())
 }
@@ -92,12 +88,8 @@ fn hear(
 fn hear_all(
     rt: &(impl Input + Print),
     receiver: &mut SigfoxReceiver,
-    shifts: Shifts,
-    closed: &[u32],
-    samples: &mut [f32; 12000],
-    events: &mut [u8; 30720],
-    scratch32: &mut [f32; 12000],
-    scratch64: &mut [f64; limits::SCRATCH64],
+    given: &Given,
+    lent: &mut Lent,
 ) -> Result<usize, Stop> {
     let mut input = [0u8; BUFFER];
     let mut filled: usize = 0;
@@ -110,17 +102,7 @@ fn hear_all(
         }
         let end = filled + n;
         let from = filled - filled % RECORD;
-        hear(
-            rt,
-            receiver,
-            &input[from..end],
-            shifts,
-            closed,
-            samples,
-            events,
-            scratch32,
-            scratch64,
-        )?;
+        hear(rt, receiver, &input[from..end], given, lent)?;
         filled = end % BUFFER;
     }
     Ok(filled % RECORD)
@@ -135,33 +117,22 @@ fn print_leftover(rt: &impl Eprint, n: usize) {
 }
 
 // The whole stream, and after its end the last call.
-fn run(rt: &(impl Input + Print + Eprint), shifts: Shifts, closed: &[u32]) -> Result<(), Stop> {
+fn run(rt: &(impl Input + Print + Eprint), given: &Given) -> Result<(), Stop> {
     let mut samples = [0.0f32; 12000];
     let mut events = [0u8; 30720];
     let mut scratch32 = [0.0f32; 12000];
     let mut scratch64 = [0.0f64; limits::SCRATCH64];
+    let mut lent = Lent {
+        samples: &mut samples,
+        events: &mut events,
+        scratch32: &mut scratch32,
+        scratch64: &mut scratch64,
+    };
     let mut receiver = SigfoxReceiver::new(RATE);
-    let left = hear_all(
-        rt,
-        &mut receiver,
-        shifts,
-        closed,
-        &mut samples,
-        &mut events,
-        &mut scratch32,
-        &mut scratch64,
-    )?;
-    let last = receiver.flush(
-        shifts,
-        closed,
-        &mut samples,
-        &mut events,
-        &mut scratch32,
-        &mut scratch64,
-    );
-    match last {
+    let left = hear_all(rt, &mut receiver, given, &mut lent)?;
+    match receiver.flush(given, &mut lent) {
         Ok(count) => {
-            let _ = write_events(rt, count, &events);
+            let _ = write_events(rt, count, lent.events);
         }
         Err(refusal) => print_stop(rt, Stop::Refused(refusal)),
     }
@@ -175,7 +146,7 @@ fn main(rt: HostRuntime) {
         print_usage(&rt);
         return;
     };
-    if let Err(stop) = run(&rt, given.shifts, given.closed) {
+    if let Err(stop) = run(&rt, &given) {
         print_stop(&rt, stop);
     }
 }

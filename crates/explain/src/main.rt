@@ -18,7 +18,7 @@ use limits::Refusal;
 use messages::Closing;
 use receiver::SigfoxReceiver;
 use scans::{Look, Scratch};
-use shifts::Shifts;
+use shifts::{Given, Shifts};
 use tally::Tally;
 
 // The rate of `listen`'s records.
@@ -214,15 +214,17 @@ impl Course {
     // A call, and what it did.
     fn hear(&mut self, rt: &impl Print, dbm: &[f32], lent: &mut Lent) -> Result<(), Refusal> {
         let before = self.receiver;
-        let count = self.receiver.push(
-            dbm,
-            Shifts::none(),
-            &[0u32; 0],
-            &mut lent.samples,
-            &mut lent.events,
-            &mut lent.scratch.f32s,
-            &mut lent.scratch.f64s,
-        )?;
+        let given = Given {
+            shifts: Shifts::none(),
+            closed: &[0u32; 0],
+        };
+        let mut memory = receiver::Lent {
+            samples: &mut lent.samples,
+            events: &mut lent.events,
+            scratch32: &mut lent.scratch.f32s,
+            scratch64: &mut lent.scratch.f64s,
+        };
+        let count = self.receiver.push(dbm, &given, &mut memory)?;
         if self.receiver.unscanned == 0 {
             self.explain(rt, &before, tail(before.rate), lent);
         }
@@ -233,14 +235,17 @@ impl Course {
     // The last call, and what it did.
     fn finish(&mut self, rt: &impl Print, lent: &mut Lent) -> Result<(), Refusal> {
         let before = self.receiver;
-        let count = self.receiver.flush(
-            Shifts::none(),
-            &[0u32; 0],
-            &mut lent.samples,
-            &mut lent.events,
-            &mut lent.scratch.f32s,
-            &mut lent.scratch.f64s,
-        )?;
+        let given = Given {
+            shifts: Shifts::none(),
+            closed: &[0u32; 0],
+        };
+        let mut memory = receiver::Lent {
+            samples: &mut lent.samples,
+            events: &mut lent.events,
+            scratch32: &mut lent.scratch.f32s,
+            scratch64: &mut lent.scratch.f64s,
+        };
+        let count = self.receiver.flush(&given, &mut memory)?;
         self.explain(rt, &before, 0, lent);
         self.print_messages(rt, &before, &lent.events, count, true);
         self.tally.print(rt);

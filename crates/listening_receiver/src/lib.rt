@@ -15,8 +15,8 @@ use frequency::FrequencyTracker;
 use frequency_lists::Reading;
 use limits::Refusal;
 use listening_records::Told;
-use receiver::SigfoxReceiver;
-use shifts::Shifts;
+use receiver::{Lent, SigfoxReceiver};
+use shifts::{Given, Shifts};
 
 // A call's answer: its refusal, or its records told.
 fn tell_answer(
@@ -65,9 +65,17 @@ pub fn hear(
         (record { samples = samples.entry.now; events = events.old; scratch32 = scratch32.old; scratch64 = scratch64.old })
         t.old out.old (record { refused = cause_of result; told = t.new; receiver = receiver.new }) samples.exit.now events.new out.new }
 {
-    let shifts = Shifts::none();
-    let closed = [0u32; 0];
-    let answer = receiver.push_raw(raw, shifts, &closed, samples, events, scratch32, scratch64);
+    let given = Given {
+        shifts: Shifts::none(),
+        closed: &[0u32; 0],
+    };
+    let mut lent = Lent {
+        samples,
+        events: &mut *events,
+        scratch32,
+        scratch64: &mut *scratch64,
+    };
+    let answer = receiver.push_raw(raw, &given, &mut lent);
     tell_answer(
         t, answer, started, passed, tracker, events, readings, scratch64, out,
     )
@@ -94,9 +102,17 @@ pub fn close(
         (record { samples = samples.entry.now; events = events.old; scratch32 = scratch32.old; scratch64 = scratch64.old })
         t.old out.old (record { refused = cause_of result; told = t.new; receiver = receiver.new }) samples.exit.now events.new out.new }
 {
-    let shifts = Shifts::none();
-    let closed = [0u32; 0];
-    let answer = receiver.flush(shifts, &closed, samples, events, scratch32, scratch64);
+    let given = Given {
+        shifts: Shifts::none(),
+        closed: &[0u32; 0],
+    };
+    let mut lent = Lent {
+        samples,
+        events: &mut *events,
+        scratch32,
+        scratch64: &mut *scratch64,
+    };
+    let answer = receiver.flush(&given, &mut lent);
     tell_answer(
         t, answer, started, passed, tracker, events, readings, scratch64, out,
     )

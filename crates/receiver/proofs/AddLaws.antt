@@ -1,5 +1,4 @@
 -- A push that only adds its samples: what the fillings and the end of the call would make of it. Assumes nothing.
-use mathlib.Core.Bool.{false}
 use mathlib.Core.List.{List, [], ◌∷◌, append-nil}
 use mathlib.Core.Path.{◌≡◌, ◌∙◌, ap, refl, sym}
 use Prim.Native.Nat.{ℕ, ◌+◌, ◌-◌, ◌<◌}
@@ -17,6 +16,7 @@ use Rattle.receiver_starts.proofs.StartLaws.{starts_same}
 use Rattle.receiver_waiting.specs.Waiting as waiting
 use Rattle.receiver_waiting.specs.Waiting.{waiting_of}
 use Rattle.receiver_waiting.specs.declared.Waiting.{Waiting}
+use Rattle.receiver_waiting.specs.declared.Leaving.TheVariants.{CompleteAt}
 use Rattle.receiver_waiting.proofs.WaitingLaws.{none_expires}
 use Rattle.receiver_scan.specs.declared.Scanned.{Scanned}
 use Rattle.receiver.specs.Calls.{Received}
@@ -94,7 +94,7 @@ module _ (s : SigfoxReceiver) (xs samples : List Float) (old : List ℕ) (scratc
         record {
           ended =
               rw h.answer
-              (ended s (allIn s samples old scratch xs) old (s.held + length xs) s.base (s.unscanned + length xs) given old done.under mark (push xs) false (ends_push xs) 0 old
+              (ended s (allIn s samples old scratch xs) old (s.held + length xs) s.base (s.unscanned + length xs) given old done.under mark (push xs) (CompleteAt time) (ends_push xs time) 0 old
               (λ rs was z e b. rw (none.0, append-nil rs) (e, b)) s.starts s.waiting
               (starts_same s.starts p.remembers)
               (rw none.1 (waiting_same s.waiting (ap (λ (k : causes.Counts). k.waiting) p.counts))));

@@ -1,13 +1,6 @@
 // The block behind a call's arguments: start second, windows and closed dates.
 use replay::Unanswered;
-use shifts::{Shifts, Window};
-
-// What a call is given of shifts.
-#[derive(Clone, Copy)]
-pub struct Block<'a> {
-    pub shifts: Shifts,
-    pub closed: &'a [u32],
-}
+use shifts::{Given, Shifts, Window};
 
 // The windows that a call takes: those past the last place are read over.
 fn read_windows(rt: &impl Input, n: usize) -> Result<[Window; 32], Unanswered> {
@@ -33,7 +26,7 @@ fn read_dates<'a>(rt: &impl Input, closed: &'a mut [u32]) -> Result<&'a [u32], U
     replay::read_n(rt, endian::get::<u16>(&count, 0) as usize, closed)
 }
 
-fn read_behind<'a>(rt: &impl Input, closed: &'a mut [u32]) -> Result<Block<'a>, Unanswered> {
+fn read_behind<'a>(rt: &impl Input, closed: &'a mut [u32]) -> Result<Given<'a>, Unanswered> {
     let mut head = [0u8; 6];
     replay::read_part(rt, &mut head)?;
     let start = if head[0] == 0 {
@@ -43,7 +36,7 @@ fn read_behind<'a>(rt: &impl Input, closed: &'a mut [u32]) -> Result<Block<'a>, 
     };
     let count = usize::from(head[5]);
     let windows = read_windows(rt, count)?;
-    Ok(Block {
+    Ok(Given {
         shifts: Shifts {
             start,
             windows,
@@ -58,11 +51,11 @@ pub fn read_block<'a>(
     rt: &impl Input,
     behind: bool,
     closed: &'a mut [u32],
-) -> Result<Block<'a>, Unanswered> {
+) -> Result<Given<'a>, Unanswered> {
     if behind {
         return read_behind(rt, closed);
     }
-    Ok(Block {
+    Ok(Given {
         shifts: Shifts::none(),
         closed: &closed[..0],
     })

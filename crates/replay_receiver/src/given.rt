@@ -1,28 +1,20 @@
 // A state that is handed in: base, unscanned count, held samples, starts, and of each message that waits its record and the time of the frame that joined last.
-ghost use Rattle.std.specs.Prelude.{◌<◌, ◌≤◌};
-
 use ledger::Pending;
 use receiver::SigfoxReceiver;
-use receiver_starts::Starts;
+use receiver_starts::{MOST_STARTS, Starts};
 use receiver_waiting::Waiting;
 use record::read::EventRecord;
 use record::{FrameSpan, NO_RANK, SigfoxMessage};
 use replay::Unanswered;
 
-fn least(a: u64, b: u64) -> u64
-    ensures { (result ≤ a) × (result ≤ b) }
-{
-    if a <= b { a } else { b }
-}
-
 // n samples after the first held one, or the farthest i32.
 fn after(n: u64) -> i32 {
-    (least(n, 0x7fff_ffff) as u32).cast_signed()
+    (n.min(0x7fff_ffff) as u32).cast_signed()
 }
 
 // n samples before it, or the farthest i32.
 fn before(n: u64) -> i32 {
-    let k = least(n, 0x8000_0000) as u32;
+    let k = n.min(0x8000_0000) as u32;
     if k == 0 {
         return 0;
     }
@@ -37,7 +29,7 @@ fn distance(start: u64, base: u64) -> i32 {
         }
         return before(base - start);
     }
-    before(least(u64::MAX - start, 0xffff_ffff) + least(base, 0xffff_ffff) + 1)
+    before((u64::MAX - start).min(0xffff_ffff) + base.min(0xffff_ffff) + 1)
 }
 
 // A count, and that many starts; those past the last place are read over.
@@ -49,7 +41,7 @@ fn read_starts(rt: &impl Input, starts: Starts, base: u64) -> Result<Starts, Una
     for i in 0..t.count {
         let mut part = [0u8; 8];
         replay::read_part(rt, &mut part)?;
-        if i < 96 {
+        if i < MOST_STARTS {
             t.at[i] = distance(endian::get(&part, 0), base);
         }
     }
@@ -145,7 +137,7 @@ fn read_waiting(rt: &impl Input, waiting: Waiting) -> Result<Waiting, Unanswered
 pub fn read_state(
     rt: &impl Input,
     rate: u32,
-    samples: &mut [f32; 48001],
+    samples: &mut [f32],
 ) -> Result<SigfoxReceiver, Unanswered> {
     let mut head = [0u8; 12];
     replay::read_part(rt, &mut head)?;

@@ -9,7 +9,7 @@ use crate::block::read_block;
 use crate::given::read_state;
 use crate::lines::print_answer;
 use limits::Refusal;
-use receiver::SigfoxReceiver;
+use receiver::{Lent, SigfoxReceiver};
 use replay::Unanswered;
 
 // Between two calls: whether shifts stand behind their arguments, how many there were, and the receiver.
@@ -26,7 +26,7 @@ fn after(
     s: &mut State,
     name: &[u8],
     answer: Result<usize, Refusal>,
-    events: &mut [u8; 30720],
+    events: &mut [u8],
 ) -> Result<(), Unanswered> {
     let index = s.index;
     s.index = index.wrapping_add(1);
@@ -34,80 +34,36 @@ fn after(
     Ok(())
 }
 
-fn push(
-    rt: &(impl Input + Print),
-    s: &mut State,
-    samples: &mut [f32; 48001],
-    events: &mut [u8; 30720],
-    scratch32: &mut [f32; 48000],
-    scratch64: &mut [f64; limits::SCRATCH64],
-) -> Result<(), Unanswered> {
+fn push(rt: &(impl Input + Print), s: &mut State, lent: &mut Lent) -> Result<(), Unanswered> {
     let mut dbm = [0.0f32; 48001];
     let mut closed = [0u32; 64];
     let dbm = replay::read_list(rt, &mut dbm)?;
-    let behind = read_block(rt, s.shifted, &mut closed)?;
-    let answer = s.receiver.push(
-        dbm,
-        behind.shifts,
-        behind.closed,
-        samples,
-        events,
-        scratch32,
-        scratch64,
-    );
-    after(rt, s, b"push", answer, events)
+    let given = read_block(rt, s.shifted, &mut closed)?;
+    let answer = s.receiver.push(dbm, &given, lent);
+    after(rt, s, b"push", answer, lent.events)
 }
 
-fn push_raw(
-    rt: &(impl Input + Print),
-    s: &mut State,
-    samples: &mut [f32; 48001],
-    events: &mut [u8; 30720],
-    scratch32: &mut [f32; 48000],
-    scratch64: &mut [f64; limits::SCRATCH64],
-) -> Result<(), Unanswered> {
+fn push_raw(rt: &(impl Input + Print), s: &mut State, lent: &mut Lent) -> Result<(), Unanswered> {
     let mut raw = [0u8; 48001];
     let mut closed = [0u32; 64];
     let raw = replay::read_bytes(rt, &mut raw)?;
-    let behind = read_block(rt, s.shifted, &mut closed)?;
-    let answer = s.receiver.push_raw(
-        raw,
-        behind.shifts,
-        behind.closed,
-        samples,
-        events,
-        scratch32,
-        scratch64,
-    );
-    after(rt, s, b"push_raw", answer, events)
+    let given = read_block(rt, s.shifted, &mut closed)?;
+    let answer = s.receiver.push_raw(raw, &given, lent);
+    after(rt, s, b"push_raw", answer, lent.events)
 }
 
-fn flush(
-    rt: &(impl Input + Print),
-    s: &mut State,
-    samples: &mut [f32; 48001],
-    events: &mut [u8; 30720],
-    scratch32: &mut [f32; 48000],
-    scratch64: &mut [f64; limits::SCRATCH64],
-) -> Result<(), Unanswered> {
+fn flush(rt: &(impl Input + Print), s: &mut State, lent: &mut Lent) -> Result<(), Unanswered> {
     let mut closed = [0u32; 64];
-    let behind = read_block(rt, s.shifted, &mut closed)?;
-    let answer = s.receiver.flush(
-        behind.shifts,
-        behind.closed,
-        samples,
-        events,
-        scratch32,
-        scratch64,
-    );
-    after(rt, s, b"flush", answer, events)
+    let given = read_block(rt, s.shifted, &mut closed)?;
+    let answer = s.receiver.flush(&given, lent);
+    after(rt, s, b"flush", answer, lent.events)
 }
 
 // A state that is handed in takes the place of the receiver's; the next call judges it.
 fn take_over(
     rt: &(impl Input + Print),
     s: &mut State,
-    samples: &mut [f32; 48001],
+    samples: &mut [f32],
 ) -> Result<(), Unanswered> {
     let receiver = read_state(rt, s.receiver.rate, samples)?;
     s.receiver = receiver;
@@ -118,16 +74,13 @@ fn call(
     rt: &(impl Input + Print),
     s: &mut State,
     number: u8,
-    samples: &mut [f32; 48001],
-    events: &mut [u8; 30720],
-    scratch32: &mut [f32; 48000],
-    scratch64: &mut [f64; limits::SCRATCH64],
+    lent: &mut Lent,
 ) -> Result<(), Unanswered> {
     match number {
-        0 => push(rt, s, samples, events, scratch32, scratch64),
-        1 => push_raw(rt, s, samples, events, scratch32, scratch64),
-        2 => flush(rt, s, samples, events, scratch32, scratch64),
-        3 => take_over(rt, s, samples),
+        0 => push(rt, s, lent),
+        1 => push_raw(rt, s, lent),
+        2 => flush(rt, s, lent),
+        3 => take_over(rt, s, lent.samples),
         _ => Err(Unanswered::Short),
     }
 }
@@ -138,6 +91,12 @@ pub fn run(rt: &(impl Input + Print), shifted: bool) {
     let mut events = [0u8; 30720];
     let mut scratch32 = [0.0f32; 48000];
     let mut scratch64 = [0.0f64; limits::SCRATCH64];
+    let mut lent = Lent {
+        samples: &mut samples,
+        events: &mut events,
+        scratch32: &mut scratch32,
+        scratch64: &mut scratch64,
+    };
     let mut head = [0u8; 4];
     if replay::read_part(rt, &mut head).is_err() {
         return;
@@ -149,14 +108,6 @@ pub fn run(rt: &(impl Input + Print), shifted: bool) {
         receiver,
     };
     replay::run(rt, |number: [u8; 1]| {
-        call(
-            rt,
-            &mut s,
-            number[0],
-            &mut samples,
-            &mut events,
-            &mut scratch32,
-            &mut scratch64,
-        )
+        call(rt, &mut s, number[0], &mut lent)
     });
 }

@@ -66,7 +66,7 @@ pub fn print_answer(
     name: &[u8],
     count: usize,
     r: &SigfoxReceiver,
-    events: &mut [u8; 30720],
+    events: &mut [u8],
 ) {
     replay::print(rt, b"C");
     print_field(rt, index);

@@ -18,8 +18,8 @@ tell_answer-requires c =
     let e : length c.args.events.now ≡ 30720 = omega arith in
     let f : length c.args.scratch32.now ≡ 12000 = omega arith in
     let g : length c.args.scratch64.now ≡ 8000 = omega arith in
-    let y = calm _ _ _ _ _ _ _ c.none-shifts.ensures refl x.ensures in
-    let k : length x.new.events ≡ 30720 = search rules in
+    let y = calm _ _ _ _ _ _ _ c.none.ensures refl x.ensures.answered in
+    let k : length x.new.lent.events.now ≡ 30720 = search rules in
     let n = at_most_lem _ (ask_flush) tt _ _ _ y e f g _ c.requires.standing.stands k in
     let same = received-count x.result x.new.self in
     (omega (arith, n, same), omega (arith, n, k, same), c.requires.most_in_bounds.0, c.requires.most_in_bounds.1, c.requires.most_in_bounds.2, c.requires.most_in_bounds.3)
@@ -32,7 +32,7 @@ returns c =
     let e : length c.args.events.now ≡ 30720 = omega arith in
     let f : length c.args.scratch32.now ≡ 12000 = omega arith in
     let g : length c.args.scratch64.now ≡ 8000 = omega arith in
-    let y = calm _ _ _ _ _ _ _ c.none-shifts.ensures refl x.ensures in
+    let y = calm _ _ _ _ _ _ _ c.none.ensures refl x.ensures.answered in
     let v = received-receiver x.result x.new.self in
     record {
       told =

@@ -1,8 +1,8 @@
-use mathlib.Core.Bool.{true}
 use Rattle.ledger.specs.Ledger.{flush, scans}
 use Rattle.ledger.specs.Demodulation.{demod_of}
+use Rattle.receiver_waiting.specs.declared.Leaving.TheVariants.{All}
 use Rattle.receiver.specs.State.{ledger_of}
-use Rattle.shifts.specs.Shifts.{mark_of}
+use Rattle.shifts.specs.Shifts.{schedule, mark_by}
 use Rattle.receiver.proofs.RunLaws.{held-is, flush-asks, flush-end, closable, ends_flush}
 use Rattle.receiver.proofs.run.hear_all.Goals as goal
 
@@ -16,8 +16,8 @@ pub finish-requires : goal.finish-requires
 finish-requires c =
     let a = c.args in
     let t = c.scan in
-    closable (mark_of a.shifts a.closed.now) a.s.now flush a.samples.now _ a.events.now _ a.scratch.now _ _ _ _ true c.requires
-    (flush-end a.s.now a.samples.now a.events.now a.scratch.now c.requires t.new.s _ (rw c.begin-t.ensures at t.ensures)) ends_flush t.auto.events
+    closable (mark_by (schedule a.given.now)) a.s.now flush a.samples.now _ a.events.now _ a.scratch.now _ _ _ _ All c.requires
+    (flush-end a.s.now a.samples.now a.events.now a.scratch.now c.requires t.new.s _ (rw c.begin-t.ensures at t.ensures)) (ends_flush _) t.auto.events
 
 pub returns : goal.returns
 returns c =
@@ -25,6 +25,6 @@ returns c =
     let t = c.scan in
     let d = flush-end a.s.now a.samples.now a.events.now a.scratch.now c.requires t.new.s _ (rw c.begin-t.ensures at t.ensures) in
     record {
-      ended = c.finish.ensures flush (scans a.s.now.rate (demod_of a.s.now.rate) (ledger_of a.s.now a.samples.now) flush) a.events.now ends_flush d.under;
+      ended = c.finish.ensures flush (scans a.s.now.rate (demod_of a.s.now.rate) (ledger_of a.s.now a.samples.now) flush) a.events.now (ends_flush _) d.under;
       samples = d.samples;
     }

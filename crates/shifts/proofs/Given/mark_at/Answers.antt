@@ -1,6 +1,6 @@
 use mathlib.Core.Path.{refl, sym, ◌∙◌}
 use Rattle.shifts.specs.Shifts.{mark_at}
-use Rattle.shifts.proofs.mark_at.Goals as goal
+use Rattle.shifts.proofs.Given.mark_at.Goals as goal
 
 pub returns-then-is_among : goal.returns-then-is_among
 unfolding mark_at

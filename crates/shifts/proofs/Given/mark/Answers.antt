@@ -1,7 +1,7 @@
 use mathlib.Core.Path.{refl, sym, ◌∙◌}
 use Rattle.shifts.specs.Shifts.{mark_from}
 use Rattle.shifts.proofs.Times.{given-mark}
-use Rattle.shifts.proofs.mark.Goals as goal
+use Rattle.shifts.proofs.Given.mark.Goals as goal
 
 pub returns-in_default : goal.returns-in_default
 unfolding mark_from
@@ -18,5 +18,5 @@ pub returns : goal.returns
 returns c =
     let a = c.args in
     c.mark_at.ensures
-    ∙ given-mark a.s.start _ a.s a.closed.now a.time c.whole_second-t.result c.in-Some.is
+    ∙ given-mark a.self.now.shifts.start _ a.self.now.shifts a.self.now.closed.now a.time c.whole_second-t.result c.in-Some.is
     (sym c.in_range.ensures ∙ c.if-not-in_range.false) c.whole_second-t.ensures.0
