@@ -1,11 +1,12 @@
 -- The loop over the bursts of a capture, which writes a record for each frame. Assumes nothing.
-use Rattle.std.proofs.Common.{Option, None, Some}
+use Rattle.std.proofs.Common.{Option, None, Some, take_all}
 use mathlib.Core.Path.{◌≡◌, refl, sym, ap, ◌∙◌}
 use mathlib.Core.List.{List, [], ◌∷◌, ◌++◌, append_assoc, append-nil}
-use Prim.Native.Nat.{ℕ, ◌+◌, ◌*◌, ◌≤◌, ◌<◌}
+use Prim.Native.Nat.{ℕ, ◌+◌, ◌-◌, ◌*◌, ◌≤◌, ◌<◌}
 use native.Mathlib.Omega.{arith}
-use lib.ListN.{length, take, drop, length-append, length-take, take-append-drop}
-use lib.Seq.{sets, sets-eq, length-sets, take_at, drop_at, drop-drop}
+use lib.ListN.{length, take, drop, length-append, length-drop, length-take, take-append-drop}
+use lib.Seq.{sets, sets-eq, length-sets, take_at, drop_at, drop-drop, drop-length}
+use borrow.Rule.Slice.PartMut.{put_mid}
 use lib.Ieee.{Float}
 use Rattle.limits.specs.Limits.{lowest_rate, highest_rate, buffer_s, record_size}
 use Rattle.record.specs.Record.{frame_record}
@@ -27,6 +28,14 @@ pub joined-append : (a b : List (List ℕ)) → joined (a ++ b) ≡ joined a ++ 
 unfolding joined
 joined-append [] b = refl
 joined-append (r ∷ a) b = ap (λ (l : List ℕ). r ++ l) (joined-append a b) ∙ sym (append_assoc r (joined a) (joined b))
+
+-- what is written in front of what is left of a list is written at its place
+put_is : (l v : List ℕ) (k : ℕ) → k + length v ≤ length l → put_mid k (length l - k) l (sets (drop k l) 0 v) ≡ sets l k v
+put_is l v k h =
+    let zero : 0 + length v ≡ length v = omega arith in
+    let front : sets (drop k l) 0 v ≡ v ++ drop (k + length v) l = sets-eq v (drop k l) 0 (omega (arith, length-drop k l)) ∙ rw (zero, drop-drop (length v) k l) refl in
+    let none : drop (length l - k) (drop k l) ≡ [] = drop-drop (length l - k) k l ∙ ap (λ (n : ℕ). drop n l) (omega arith) ∙ drop-length l in
+    rw (front, none, append-nil (v ++ drop (k + length v) l)) (sym (append_assoc (take k l) v (drop (k + length v) l)) ∙ sym (sets-eq v l k h))
 
 -- a record is 120 bytes
 sized_if : (o : Option DecodedFrame) (start : ℕ) → ((d : DecodedFrame) → o ≡ Some d → Lawful d.frame) → length (joined (record_if o start)) ≡ record_size * length (record_if o start)
@@ -55,13 +64,21 @@ module _ (dbm : List Float) (rate : ℕ) (t0 : Float) where
     abbrev pub Adds : ℕ → List ℕ → Type 0
     Adds m next = (m ≡ n + length (record_of dbm rate t0 b)) × (next ≡ sets now (record_size * n) (joined (record_of dbm rate t0 b)))
 
-    pub adds_none : None ≡ decode_burst dbm rate b t0 → Adds n now
-    unfolding record_of record_if joined
-    adds_none e = rw (← e) (omega arith, refl)
+    pub adds : (d : Option DecodedFrame) (r : ℕ) (part : List ℕ) → d ≡ decode_burst dbm rate b t0 → record_size * (n + 1) ≤ length now → r ≡ length (record_if d b.start)
+        → part ≡ sets (take (length now - record_size * n) (drop (record_size * n) now)) 0 (joined (record_if d b.start)) → Adds (n + r) (put_mid (record_size * n) (length now - record_size * n) now part)
+    unfolding record_of
+    adds d r part e place rc pc =
+        let rest : take (length now - record_size * n) (drop (record_size * n) now) ≡ drop (record_size * n) now = take_all (length now - record_size * n) (drop (record_size * n) now) (omega (arith, length-drop (record_size * n) now)) in
+        let whole : part ≡ sets (drop (record_size * n) now) 0 (joined (record_if d b.start)) = rw rest at pc in
+        let rec : record_if d b.start ≡ record_of dbm rate t0 b = ap (λ (o : Option DecodedFrame). record_if o b.start) e in (
+          ap (λ (k : ℕ). n + k) (rc ∙ ap length rec),
+          ap (put_mid (record_size * n) (length now - record_size * n) now) (whole ∙ ap (λ (q : List (List ℕ)). sets (drop (record_size * n) now) 0 (joined q)) rec)
+              ∙ put_is now (joined (record_of dbm rate t0 b)) (record_size * n) (omega (arith, sized b, one b)),
+        )
 
-    pub adds_one : (d : DecodedFrame) (next : List ℕ) → Some d ≡ decode_burst dbm rate b t0 → next ≡ sets now (record_size * n) (frame_record d.frame (reception_of d b.start)) → Adds (n + 1) next
-    unfolding record_of record_if joined
-    adds_one d next e w = rw (← e, append-nil (frame_record d.frame (reception_of d b.start))) (omega arith, w)
+    -- one record at most
+    pub few_adds : (d : Option DecodedFrame) (r : ℕ) → r ≡ length (record_if d b.start) → r ≤ 1
+    few_adds d r rc = omega (arith, rc, one_if_lem d b.start)
 
   module _ (floor : Float) where
     -- the records of the bursts that are left at an index
