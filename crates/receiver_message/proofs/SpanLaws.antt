@@ -99,28 +99,6 @@ module _ (f : Frame) (s : FrameSpan) (same : s ≡ span_of f) where
   unfolding meet span_of rank_of
   meet-place l k h e = let g : has (rank_of f) l ≡ false = (rw same at h) in rw (g, e) refl
 
--- ---- three ranks
-
-pub weight-small : (a : Bool) (v x : ℕ) → x ≡ cond a v 0 → x ≤ v
-weight-small true v x e = omega arith
-weight-small false v x e = omega arith
-
-ones_three : (a b c : Bool) → eqb (ones (cond a 1 0 + cond b 2 0 + cond c 4 0)) 3 ≡ a && (b && c)
-unfolding ones ones_in
-ones_three true true true = refl
-ones_three true true false = refl
-ones_three true false true = refl
-ones_three true false false = refl
-ones_three false true true = refl
-ones_three false true false = refl
-ones_three false false true = refl
-ones_three false false false = refl
-
-pub three_ranks_are : (l : List FrameSpan) (a b c : Bool) (x y z : ℕ) → x ≡ cond a 1 0 → y ≡ cond b 2 0 → z ≡ cond c 4 0
-    → a ≡ has 0 l → b ≡ has 1 l → c ≡ has 2 l → eqb (ones (x + y + z)) 3 ≡ three_ranks l
-unfolding three_ranks
-three_ranks_are l a b c x y z ex ey ez ea eb ec = rw (ex, ey, ez, ea, eb, ec) (ones_three (has 0 l) (has 1 l) (has 2 l))
-
 -- ---- the lowest later rank
 
 -- one span before those that are looked at
@@ -192,15 +170,6 @@ unfolding open_entry end_after rank_of
 opened_is f r e s z he hs hz = rw (he, hs, hz, zero_is) refl
 
 -- ---- a given state's messages, and given spans
-
--- a float that differs from itself
-pub nan_is : (x : Float) → ne x x ≡ is_nan x
-unfolding ne eq is_nan
-nan_is nan = refl
-nan_is (inf true) = refl
-nan_is (inf false) = refl
-nan_is (fin true m e) = rw (eq-eqb (m * up e * down e) (m * up e * down e) refl) refl
-nan_is (fin false m e) = rw (eq-eqb (m * up e * down e) (m * up e * down e) refl) refl
 
 and_true : (b : Bool) → b && true ≡ b
 and_true true = refl

@@ -21,42 +21,7 @@ use Rattle.receiver_starts.specs.declared.Starts.{Starts}
 use Rattle.receiver_starts.proofs.Places.{laid_over, over_again, store_next, take-few, take_store}
 use Rattle.receiver_starts.proofs.Signed.{ahead, behind, apart_is, below_is, biased_is, from_is, minus_is, sub_same}
 
--- 10 × distance against 3 × rate, without the product
-pub same_is : (rate a b x y : ℕ) → x ≡ a - b → y ≡ b - a → ltb x ((3 * rate + 9) / 10) && ltb y ((3 * rate + 9) / 10) ≡ close rate a b
-same_is rate a b x y ex ey =
-    ⊎_elim
-    (λ p.
-    ⊎_elim
-    (λ q.
-    let u = ltb-true x ((3 * rate + 9) / 10) p in
-    let v = ltb-true y ((3 * rate + 9) / 10) q in
-    rw (p, q) (sym (lt-ltb (10 * dist a b) (3 * rate) (omega arith))))
-    (λ q.
-    let v = ltb-false y ((3 * rate + 9) / 10) q in
-    rw (p, q) (sym (le-ltb (10 * dist a b) (3 * rate) (omega arith))))
-    (either (ltb y ((3 * rate + 9) / 10))))
-    (λ p.
-    let u = ltb-false x ((3 * rate + 9) / 10) p in
-    rw p (sym (le-ltb (10 * dist a b) (3 * rate) (omega arith))))
-    (either (ltb x ((3 * rate + 9) / 10)))
-
 -- ---- a distance by what it is with 2^31 added
-
--- by its pattern of 32 bits
-module _ (n : ℕ) where
-  pub unbiased-low : n < 2 ^ 31 → signed_of 32 (n + 2 ^ 31) ≡ sub_ℕ n (2 ^ 31)
-  unfolding signed_of
-  unbiased-low h =
-      let e : 2 ^ 32 - suc (n + 2 ^ 31) ≡ 2 ^ 31 - suc n = omega arith in
-      rw (le-ltb (n + 2 ^ 31) (2 ^ 31) (omega arith), lt-ltb n (2 ^ 31) h, e) refl
-
-  pub unbiased-high : 2 ^ 31 ≤ n → n < 2 ^ 32 → signed_of 32 (n - 2 ^ 31) ≡ sub_ℕ n (2 ^ 31)
-  unfolding signed_of
-  unbiased-high h k = rw (lt-ltb (n - 2 ^ 31) (2 ^ 31) (omega arith), le-ltb n (2 ^ 31) h) refl
-
-  pub index_is : n < 2 ^ 31 → signed_of 32 n ≡ pos n
-  unfolding signed_of
-  index_is h = rw (lt-ltb n (2 ^ 31) h) refl
 
 abbrev pub Biased : ℤ → ℕ → Type 0
 Biased d r = pos r ≡ d +ℤ pos (2 ^ 31)
