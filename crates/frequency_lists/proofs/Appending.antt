@@ -25,10 +25,6 @@ module _ {A : Type 0} where
       → r ≡ cond t (w + 1) w → nxt ≡ put t cur w x → Left all rest count r l nxt
   left_turn all l count t x rest w r cur nxt p e q = record { next = count_turn t x rest w r e ∙ p.next; list = list_turn t x rest cur nxt w r e q ∙ p.list }
 
-  -- the list keeps its length
-  pub left-size : {all rest l cur : List A} {count w : ℕ} → Left all rest count w l cur → length cur ≡ length l
-  left-size {all} {rest} {l} {cur} {count} {w} p = sym (length-sets cur w rest) ∙ ap length p.list ∙ length-sets l count all
-
 -- one value
 flip : (b : Bool) (u v : List Reading) → cond b u v ≡ cond (not b) v u
 flip true u v = refl
@@ -50,9 +46,6 @@ module _ (rate : ℕ) (step : Float) (more : Bool) (tuned f line : ℕ) (raw : L
   pub value_end : (k : ℕ) → length raw ≤ k → from_at k ≡ []
   unfolding readings_from
   value_end k h = rw (drop_of_length-le raw {i = k} h) refl
-
-  pub value_first : from_at 0 ≡ readings_from rate step more tuned f line raw
-  value_first = let e : line + 8 * 0 ≡ line = omega arith in rw e refl
 
 pub next-upto : (t : Bool) (w r : ℕ) → r ≡ cond t (w + 1) w → r ≤ w + 1
 next-upto true w r e = omega (arith, e)

@@ -94,25 +94,6 @@ module _ {A : Type 0} where
       let q : w + (k - w) ≡ k = omega arith in
       ap (λ (m : ℕ). get_or (retained (take i bs) l ++ drop w l) m d) e ∙ get_or-append-add (retained (take i bs) l) (drop w l) (k - w) d ∙ get_or-drop w l (k - w) d ∙ ap (λ (m : ℕ). get_or l m d) q
 
-  pub gathered_none : (bs : List Bool) (l s : List A) → gathered (take 0 bs) l s ≡ s
-  unfolding gathered retained marked
-  gathered_none [] l s = refl
-  gathered_none (b ∷ bs) l s = refl
-
-pub marked_none : (bs : List Bool) → marked (take 0 bs) ≡ 0
-unfolding marked
-marked_none [] = refl
-marked_none (b ∷ bs) = refl
-
--- marks look at no more elements than there are marks
-pub retained-take : {A : Type 0} (bs : List Bool) (c : ℕ) (l : List A) → length bs ≤ c → retained bs (take c l) ≡ retained bs l
-unfolding retained
-retained-take [] c l h = refl
-retained-take (b ∷ bs) zero l h = absurd (omega arith)
-retained-take (b ∷ bs) (suc c) [] h = refl
-retained-take {A} (true ∷ bs) (suc c) (x ∷ l) h = ap (λ (z : List A). x ∷ z) (retained-take bs c l (le_of_suc-le-suc h))
-retained-take (false ∷ bs) (suc c) (x ∷ l) h = retained-take bs c l (le_of_suc-le-suc h)
-
 pub map-retained : {A B : Type 0} (f : A → B) (bs : List Bool) (l : List A) → map f (retained bs l) ≡ retained bs (map f l)
 unfolding retained
 map-retained f [] l = refl
@@ -142,24 +123,3 @@ pub map_get : {A B : Type 0} (f : A → B) (l : List A) (i : ℕ) (d : A) → ge
 map_get f [] i d = refl
 map_get f (x ∷ l) zero d = refl
 map_get f (x ∷ l) (suc i) d = map_get f l i d
-
--- ---- gathering into scratch, a turn of the loop
-module _ {A : Type 0} (bs : List Bool) (l s : List A) (d : A) (short : length bs ≤ length l) (room : length bs ≤ length s) where
-  pub scratch-size : (i : ℕ) (cur : List A) → i ≤ length bs → cur ≡ gathered (take i bs) l s → length cur ≡ length s
-  scratch-size i cur h e =
-      let m = marked-upto bs i in
-      let t = length-take-le i bs h in
-      ap length e ∙ length-gathered (take i bs) l s (omega arith) (omega arith)
-
-  pub gather_turn : (i w r : ℕ) (b : Bool) (cur nxt : List A) → i < length bs → get_or bs i false ≡ b → w ≡ marked (take i bs) → cur ≡ gathered (take i bs) l s
-      → r ≡ cond b (w + 1) w → nxt ≡ put b cur w (get_or l i d) → (r ≡ marked (take (i + 1) bs)) × (nxt ≡ gathered (take (i + 1) bs) l s)
-  gather_turn i w r b cur nxt h e m g c p =
-      let u = marked-upto bs i in (
-        c ∙ ap (λ (z : ℕ). cond b (z + 1) z) m ∙ sym (marked_turn bs i b h e),
-        p ∙ rw (m, g) (gathered-turn bs l s d i b h short (omega arith) e),
-      )
-
-  -- what stands in front then
-  pub gathered-front : take (marked bs) (gathered bs l s) ≡ retained bs l
-  unfolding gathered
-  gathered-front = take_at (retained bs l) (drop (marked bs) s) (marked bs) (length_retained bs l short)

@@ -50,9 +50,6 @@ module _ (p : Reading → Bool) (l : List Reading) where
     pub size : length cur ≡ length old
     pub done : take w cur ++ hzs (left i) ≡ hzs (left 0)
 
-  pub gathers_none : (old : List Float) → Gathers old 0 0 old
-  gathers_none old = record { upto = omega arith; size = refl; done = refl }
-
   pub gathers_turn : (old : List Float) (i w r : ℕ) (d : Reading) (cur nxt : List Float) → i < length l → length l ≤ length old → Gathers old i w cur
       → r ≡ cond (p (get_or l i d)) (w + 1) w → nxt ≡ put (p (get_or l i d)) cur w (get_or l i d).hz → Gathers old (i + 1) r nxt
   gathers_turn old i w r d cur nxt h k g n q = go (p (get_or l i d)) n q (ap (λ (z : List Reading). take w cur ++ hzs z) (sym (left_at i d h)) ∙ g.done)

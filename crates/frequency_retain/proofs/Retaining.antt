@@ -19,12 +19,6 @@ use Rattle.frequency_signal.specs.Seconds.{kept}
 use Rattle.frequency_lists.proofs.Gather.{marked_turn, marked-upto, length-gathered, gathered-turn, gathered-ahead, map_at}
 
 module _ {A : Type 0} (bs : List Bool) (l : List A) (d : A) (short : length bs ≤ length l) where
-  pub same_size : (i : ℕ) (cur : List A) → i ≤ length bs → cur ≡ gathered (take i bs) l l → length cur ≡ length l
-  same_size i cur h e =
-      let m = marked-upto bs i in
-      let t = length-take-le i bs h in
-      ap length e ∙ length-gathered (take i bs) l l (omega arith) (omega arith)
-
   pub ahead : (i : ℕ) (cur : List A) → i ≤ length bs → cur ≡ gathered (take i bs) l l → get_or cur i d ≡ get_or l i d
   ahead i cur h e = ap (λ (z : List A). get_or z i d) e ∙ gathered-ahead bs l d i i (omega arith) h short
 

@@ -11,10 +11,6 @@ use Rattle.frequency_lists.specs.Marks.{marked, retained, gathered}
 use Rattle.frequency_lists.proofs.Gather.{marked-le}
 use Rattle.frequency_retain.specs.Retain.{moved}
 
--- no place at all
-pub moved_none : {A : Type 0} (k count : ℕ) (a : List A) → k ≡ 0 → a ≡ moved k (count - k) a
-moved_none k count a e = let z : count - 0 ≡ count = omega arith in rw (e, z) (sym (take-append-drop count a))
-
 -- ---- the marks
 all_marked : {A : Type 0} (bs : List Bool) (l : List A) → marked bs ≡ length bs → retained bs l ≡ take (length bs) l
 unfolding marked retained
