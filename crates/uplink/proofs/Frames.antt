@@ -11,7 +11,7 @@ use lib.Seq.{sets, sets-eq, take_at}
 use borrow.Author.Tests.{eq-eqb, ne_eqb}
 use Rattle.frame.specs.declared.header.UplinkFields.{UplinkFields}
 use Rattle.uplink.specs.Line.{word, rest, spaces, number_from, bytes_in, are_bytes, is_none, is_bit, bit_in, is_device, is_counter, is_flag, is_payload, payload_in, highest_device, most_counter, fields_of, no_frame, frame_of, meaning_of, meaning}
-use Rattle.uplink.proofs.Words.{bytes_count}
+use Rattle.uplink.proofs.Words.{word_fits, rest_fits, bytes_count}
 
 -- ---- a payload's bytes at the front of a slice
 
@@ -57,6 +57,12 @@ five_words l d b1 c b2 p b3 w b4 a e1 e2 e3 e4 e5 =
     let r3 = e3.1 ∙ ap rest r2 in
     let r4 = e4.1 ∙ ap rest r3 in
     record { device = e1.0; counter = e2.0 ∙ ap word e1.1; payload = e3.0 ∙ ap word r2; flag = e4.0 ∙ ap word r3; auth = e5 ∙ ap word r4 }
+
+pub words_fit : (l d c p w a : List ℕ) → Five l d c p w a → (length p ≤ length l) × (length a ≤ length l)
+words_fit l d c p w a f = (
+  omega (arith, ap length f.payload, word_fits (rest (rest l)), rest_fits (rest l), rest_fits l),
+  omega (arith, ap length f.auth, word_fits (rest (rest (rest (rest l)))), rest_fits (rest (rest (rest l))), rest_fits (rest (rest l)), rest_fits (rest l), rest_fits l),
+)
 
 module _ (l d c p w a : List ℕ) (n : ℕ) (count : n ≡ spaces l) (four : n ≡ 4) (five : Five l d c p w a) where
   meaning_is : meaning l ≡ meaning_of d c p w a

@@ -1,8 +1,6 @@
-use mathlib.Core.Path.{sym, ap}
+use mathlib.Core.Path.{sym}
 use native.Mathlib.Omega.{arith}
-use lib.ListN.{length}
-use Rattle.uplink.proofs.Words.{word_fits, rest_fits}
-use Rattle.uplink.proofs.Frames.{front_read, not_five, five_words, no_words, a_frame}
+use Rattle.uplink.proofs.Frames.{front_read, not_five, five_words, words_fit, no_words, a_frame}
 use Rattle.uplink.proofs.line.parse.Goals as goal
 
 pub returns-then-count_spaces-ne4 : goal.returns-then-count_spaces-ne4
@@ -20,12 +18,8 @@ put_payload-requires c =
     omega (
       arith,
       c.requires.0,
-      ap length c.cut.ensures.1,
-      rest_fits c.args.line.now,
-      ap length c.cut-2.ensures.1,
-      rest_fits c.cut.result.1.now,
-      ap length c.cut-3.ensures.0,
-      word_fits c.cut-2.result.1.now,
+      (words_fit c.args.line.now c.cut.result.0.now c.cut-2.result.0.now c.cut-3.result.0.now c.cut-4.result.0.now c.cut-5.result.0.now
+          (five_words c.args.line.now _ c.cut.result.1.now _ c.cut-2.result.1.now _ c.cut-3.result.1.now _ c.cut-4.result.1.now _ c.cut.ensures c.cut-2.ensures c.cut-3.ensures c.cut-4.ensures c.cut-5.ensures.0)).0,
     )
 
 pub put_bytes-requires : goal.put_bytes-requires
@@ -33,16 +27,8 @@ put_bytes-requires c =
     omega (
       arith,
       c.requires.1,
-      ap length c.cut.ensures.1,
-      rest_fits c.args.line.now,
-      ap length c.cut-2.ensures.1,
-      rest_fits c.cut.result.1.now,
-      ap length c.cut-3.ensures.1,
-      rest_fits c.cut-2.result.1.now,
-      ap length c.cut-4.ensures.1,
-      rest_fits c.cut-3.result.1.now,
-      ap length c.cut-5.ensures.0,
-      word_fits c.cut-4.result.1.now,
+      (words_fit c.args.line.now c.cut.result.0.now c.cut-2.result.0.now c.cut-3.result.0.now c.cut-4.result.0.now c.cut-5.result.0.now
+          (five_words c.args.line.now _ c.cut.result.1.now _ c.cut-2.result.1.now _ c.cut-3.result.1.now _ c.cut-4.result.1.now _ c.cut.ensures c.cut-2.ensures c.cut-3.ensures c.cut-4.ensures c.cut-5.ensures.0)).1,
     )
 
 pub returns : goal.returns
@@ -56,14 +42,6 @@ returns c =
     (front_read c.cut-5.result.0.now c.args.auth.now _ p.result (omega (
       arith,
       c.requires.1,
-      ap length c.cut.ensures.1,
-      rest_fits c.args.line.now,
-      ap length c.cut-2.ensures.1,
-      rest_fits c.cut.result.1.now,
-      ap length c.cut-3.ensures.1,
-      rest_fits c.cut-2.result.1.now,
-      ap length c.cut-4.ensures.1,
-      rest_fits c.cut-3.result.1.now,
-      ap length c.cut-5.ensures.0,
-      word_fits c.cut-4.result.1.now,
+      (words_fit c.args.line.now c.cut.result.0.now c.cut-2.result.0.now c.cut-3.result.0.now c.cut-4.result.0.now c.cut-5.result.0.now
+          (five_words c.args.line.now _ c.cut.result.1.now _ c.cut-2.result.1.now _ c.cut-3.result.1.now _ c.cut-4.result.1.now _ c.cut.ensures c.cut-2.ensures c.cut-3.ensures c.cut-4.ensures c.cut-5.ensures.0)).1,
     )) p.ensures.0 p.ensures.1)
