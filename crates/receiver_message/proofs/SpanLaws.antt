@@ -3,22 +3,20 @@ use Rattle.std.proofs.Common.{None, Some, Option}
 use mathlib.Core.Bool.{Bool, ◌&&◌, ◌||◌, cond, false, not, true}
 use mathlib.Core.List.{List, [], ◌∷◌, map}
 use mathlib.Core.Path.{◌∙◌, ◌≡◌, ap, refl, sym}
-use Prim.Native.Nat.{◌*◌, ◌+◌, ◌<◌, ◌≤◌, ℕ}
+use Prim.Native.Nat.{◌<◌, ◌≤◌, ℕ}
 use native.Mathlib.Omega.{arith}
-use lib.Count.{ones, ones_in}
 use lib.Dec.{eqb, leb}
-use lib.Ieee.{Float, binary64, down, eq, fin, inf, is_nan, nan, ne, of_bits, of_int, round, up}
+use lib.Ieee.{Float, binary64, is_nan, nan, of_bits, of_int, round}
 use lib.IntN.{ℤ}
 use lib.ListN.{get_or, length, length-map, set}
-use borrow.Author.Tests.{eq-eqb, le-leb, le-ltb, lt-leb, lt-ltb, ne_eqb}
+use borrow.Author.Tests.{eq-eqb, le-leb, lt-leb, lt-ltb, ne_eqb}
 use Rattle.floats.specs.Number.{num}
 use Rattle.ledger.specs.Causes.{end_nan, span_nan, spans_fit, in_front}
-use Rattle.ledger.specs.Frames.{Frame, rank_of, rssi_of, time_of}
-use Rattle.ledger.specs.Merge.{end_after, estimate, finished, frame_gap_s, has, known_of, later, louder, lower, lowest_later, meet, merge, no_span, open_entry, or_else, place, span_of, three_ranks}
+use Rattle.ledger.specs.Frames.{Frame, rank_of}
+use Rattle.ledger.specs.Merge.{end_after, estimate, frame_gap_s, has, known_of, later, lower, lowest_later, meet, no_span, open_entry, place, span_of}
 use Rattle.record.specs.Spans.{spans_ok}
 use Rattle.receiver_message.specs.Messages.{frame_of}
 use Rattle.record.specs.declared.FrameSpan.{FrameSpan}
-use Rattle.record.specs.declared.SigfoxMessage.{SigfoxMessage}
 use Rattle.ledger.specs.declared.Pending.{Pending}
 use Rattle.frame.specs.declared.UplinkFrame.{UplinkFrame}
 use Rattle.record.specs.declared.Reception.{Reception}
