@@ -1,9 +1,9 @@
 -- Turns of the loops over remembered starts, on plain lists. Assumes nothing.
-use mathlib.Core.Bool.{◌&&◌, true, false}
+use mathlib.Core.Bool.{true, false}
 use mathlib.Core.List.{List, [], ◌++◌, ◌∷◌}
 use mathlib.Core.Logic.{⊎_elim}
 use mathlib.Core.Path.{◌∙◌, ◌≡◌, ap, ap₂, refl, sym}
-use Prim.Native.Nat.{◌*◌, ◌+◌, ◌-◌, ◌/◌, ◌<◌, ◌^◌, ◌≤◌, suc, ℕ}
+use Prim.Native.Nat.{◌*◌, ◌+◌, ◌-◌, ◌<◌, ◌^◌, ◌≤◌, suc, ℕ}
 use native.Mathlib.Numerals.{add-one}
 use native.Mathlib.Omega.{arith}
 use Rattle.std.proofs.lemmas.List.{get_or_at}
@@ -12,8 +12,7 @@ use lib.IntN.{ℤ, pos, negsuc, neg_ℤ, nat_abs, sub_ℕ, ◌+ℤ◌, ◌-ℤ�
 use lib.Signed.{le_z, lt_z, mag}
 use lib.ListN.{drop, get_or, length, length-append, length-map, length-set, set, take, take-append-drop}
 use lib.Seq.{drop-cons, drop-set-lt, length-take-le, take-append_seam, take-suc}
-use borrow.Author.Tests.{le-leb, le-ltb, leb-true, lt-leb, lt-ltb, ltb-false, ltb-true}
-use Rattle.endian.specs.Bytes.{signed_of}
+use borrow.Author.Tests.{le-leb, le-ltb, leb-true, lt-leb, lt-ltb}
 use Rattle.ledger.specs.Ledger.{close, dist}
 use Rattle.ledger.proofs.Basics.{and_true, either}
 use Rattle.receiver_starts.specs.Starts.{distances, over, near_one, lately, moved, all_below, all_from, all_apart}
