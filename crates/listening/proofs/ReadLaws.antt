@@ -6,7 +6,7 @@ use Rattle.std.specs.Prelude.{Result}
 use Rattle.std.proofs.lemmas.Result.{err_from_is_err_and}
 use Rattle.limits.specs.declared.Refusal.{Refusal}
 use Rattle.limits.specs.Refusals.{number_of}
-use mathlib.Core.List.{List, ◌++◌, append_assoc, append-nil}
+use mathlib.Core.List.{List, ◌++◌, append_assoc}
 use native.Mathlib.Omega.{arith}
 use lib.ListN.{length, take, drop, length-append, length-drop}
 use lib.Seq.{drop-drop, take-add, take_all, drop_at, take-append-le, drop-append-le, length-take-le}
@@ -95,19 +95,6 @@ pub record Along (input rest : List ℕ) (i : ℕ) (l₀ : Listener) (v₀ : Sig
   pub went : (read : List ℕ) (n : ℕ) → length read ≡ record_bytes * n → Reached read n l₀ v₀ m₀ places₀ → Reached (read ++ take (record_bytes * i) input) (n + i) l v m places
   pub near : Near (most * i) l₀ l
   pub room : length out ≡ length out₀
-
-pub along_start : (input : List ℕ) (l : Listener) (v : SigfoxReceiver) (m : Lists) (places : List Float) (out : List ℕ) → Along input input 0 l v m places l v m places out out
-along_start input l v m places out =
-    record {
-      left = refl;
-      fits = omega arith;
-      went =
-          λ (read : List ℕ) (n : ℕ) (e : length read ≡ record_bytes * n) (x : Reached read n l v m places).
-          let k : n + 0 ≡ n = omega arith in
-          rw (append-nil read, k) x;
-      near = record { passed = omega arith; samples = omega arith; frames = omega arith; messages = omega arith };
-      room = refl;
-    }
 
 -- a refusal stops it
 pub stopped : (read input : List ℕ) (n i k : ℕ) → i ≤ n → record_bytes * n ≤ length input → Refuses (read ++ take (record_bytes * i) input) k → Refuses (read ++ take (record_bytes * n) input) k
@@ -221,6 +208,3 @@ loop-room l₀ l k h n r =
       frames = omega (arith, n.frames, r.frames);
       messages = omega (arith, n.messages, r.messages);
     }
-
-pub loop-near : (l₀ l : Listener) (k : ℕ) → k ≤ 256 → Near (most * k) l₀ l → Near 65536 l₀ l
-loop-near l₀ l k h n = record { passed = omega (arith, n.passed); samples = omega (arith, n.samples); frames = omega (arith, n.frames); messages = omega (arith, n.messages) }

@@ -168,14 +168,6 @@ module _ (s : State) (c : Call) (text : List ℕ) (old out mid last : List ℕ) 
 
 -- ---- the first record that isn't 0 makes the tracker
 
-pub later-begun : (b : Bool) (p n f k : ℕ) (t : FrequencyTracker) (hz : ℕ) → b ≡ true
-    → ◌≡◌ {A = Listener} (record { started = b; passed = p; samples = n; frames = f; messages = k; tracker = t }) (record { started = b; passed = p; samples = n; frames = f; messages = k; tracker = begun b t hz })
-later-begun b p n f k t hz e = rw e refl
-
-pub first_begun : (b : Bool) (p n f k : ℕ) (t u : FrequencyTracker) (hz : ℕ) → b ≡ false → u ≡ fresh rate hz step_hz
-    → ◌≡◌ {A = Listener} (record { started = b; passed = p; samples = n; frames = f; messages = k; tracker = u }) (record { started = b; passed = p; samples = n; frames = f; messages = k; tracker = begun b t hz })
-first_begun b p n f k t u hz e h = rw (e, h) refl
-
 -- 01's rate and step are accepted
 pub taken : cause_new rate step_hz ≡ 0
 unfolding lt le eq of_bits of_int round

@@ -15,7 +15,8 @@ use crate::Listener;
 use frequency_lists::Reading;
 use limits::Refusal;
 use listening_lines::Line;
-use listening_records::Told;
+use listening_receiver::Buffers;
+use listening_records::{Told, Tracked};
 use receiver::SigfoxReceiver;
 
 // The last line, or that of a refusal.
@@ -40,15 +41,12 @@ pub fn finish(
     receiver: SigfoxReceiver,
     leftover: usize,
     readings: &[Reading; 8000],
-    samples: &mut [f32; 12000],
-    events: &mut [u8; 30720],
-    scratch32: &mut [f32; 12000],
-    scratch64: &mut [f64; 8000],
+    b: &mut Buffers,
     out: &mut [u8],
 ) -> usize
-    requires standing { Standing receiver samples.old }
+    requires standing { Standing receiver b.old.samples }
     requires room { (Room most l) × (out_places ≤ length out.old) }
-    ensures added { (g : Ledger by_frames) (tunings : List Tuning) → StandsFor receiver samples.old g
+    ensures added { (g : Ledger by_frames) (tunings : List Tuning) → StandsFor receiver b.old.samples g
         → Added out.old 0 (ending (state_of l (lists readings.now tunings) g) leftover) result out.new }
     ensures upper_bound { result ≤ out_places }
 {
@@ -58,10 +56,13 @@ pub fn finish(
         end: 0,
     };
     let mut last = receiver;
-    let went = listening_receiver::close(
-        &mut told, &mut last, l.started, l.passed, l.tracker, readings, samples, events, scratch32,
-        scratch64, out,
-    );
+    let q = Tracked {
+        started: l.started,
+        passed: l.passed,
+        tracker: l.tracker,
+        readings,
+    };
+    let went = listening_receiver::close(&mut told, &mut last, q, b, out);
     let line = last_line(went, l.samples, told.frames, told.messages, leftover);
     line.add_to(out, told.end)
 }

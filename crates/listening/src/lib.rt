@@ -18,6 +18,7 @@ use crate::stepping::{RATE, STEP_HZ};
 use frequency::FrequencyTracker;
 use frequency_lists::{Reading, Tuning};
 use limits::Refusal;
+use listening_receiver::Buffers;
 use receiver::SigfoxReceiver;
 use std::io;
 
@@ -105,16 +106,13 @@ fn turn(
     input: &mut [u8],
     readings: &mut [Reading; 8000],
     tunings: &mut [Tuning; 64],
-    samples: &mut [f32; 12000],
-    events: &mut [u8; 30720],
-    scratch32: &mut [f32; 12000],
-    scratch64: &mut [f64; 8000],
+    b: &mut Buffers,
     out: &mut [u8],
 ) -> Result<usize, Stop>
-    requires staged { Staged input.old filled l.old receiver.old (lists readings.old tunings.old) samples.old }
+    requires staged { Staged input.old filled l.old receiver.old (lists readings.old tunings.old) b.old.samples }
     requires room { (length input.old ≡ 4096) × (Room 65536 l.old) × (out_places ≤ length out.old) }
-    ensures by_index { (read : List ℕ) → Stage read input.old filled l.old receiver.old (lists readings.old tunings.old) samples.old
-        → Further read input.new filled result l.new receiver.new (lists readings.new tunings.new) samples.new }
+    ensures by_index { (read : List ℕ) → Stage read input.old filled l.old receiver.old (lists readings.old tunings.old) b.old.samples
+        → Further read input.new filled result l.new receiver.new (lists readings.new tunings.new) b.new.samples }
     ensures near { Near 65536 l.old l.new }
 {
     let n = fetch(rt, input, filled)?;
@@ -127,10 +125,7 @@ fn turn(
         &input[first..last],
         readings,
         tunings,
-        samples,
-        events,
-        scratch32,
-        scratch64,
+        b,
         out,
     )?;
     Ok(n)
@@ -145,20 +140,15 @@ fn conclude(
     readings: &[Reading; 8000],
     tunings: &[Tuning; 64],
     input: &[u8],
-    samples: &mut [f32; 12000],
-    events: &mut [u8; 30720],
-    scratch32: &mut [f32; 12000],
-    scratch64: &mut [f64; 8000],
+    b: &mut Buffers,
     out: &mut [u8],
 )
-    requires staged { Staged input.now filled l receiver (lists readings.now tunings.now) samples.old }
+    requires staged { Staged input.now filled l receiver (lists readings.now tunings.now) b.old.samples }
     requires room { (Room 65536 l) × (out_places ≤ length out.old) }
     ensures { HeardAll }
 {
     let leftover = filled % RECORD;
-    let end = ending::finish(
-        l, receiver, leftover, readings, samples, events, scratch32, scratch64, out,
-    );
+    let end = ending::finish(l, receiver, leftover, readings, b, out);
     let _ = hand_over(rt, &out[..end]);
 }
 
@@ -175,10 +165,12 @@ pub fn run(rt: &(impl Input + Print + Eprint)) -> Result<(), Stop>
     let no_tuning = Tuning { at: 0, freq: 0 };
     let mut readings = [no_reading; 8000];
     let mut tunings = [no_tuning; 64];
-    let mut samples = [0.0f32; 12000];
-    let mut events = [0u8; 30720];
-    let mut scratch32 = [0.0f32; 12000];
-    let mut scratch64 = [0.0f64; 8000];
+    let mut b = Buffers {
+        samples: [0.0; 12000],
+        events: [0; 30720],
+        scratch32: [0.0; 12000],
+        scratch64: [0.0; 8000],
+    };
     let mut out = [0u8; 33024];
     let mut listener = fresh();
     let mut receiver = SigfoxReceiver::new(RATE);
@@ -192,10 +184,7 @@ pub fn run(rt: &(impl Input + Print + Eprint)) -> Result<(), Stop>
             &mut input,
             &mut readings,
             &mut tunings,
-            &mut samples,
-            &mut events,
-            &mut scratch32,
-            &mut scratch64,
+            &mut b,
             &mut out,
         )?;
         filled = (filled + n) % BUFFER;
@@ -204,18 +193,7 @@ pub fn run(rt: &(impl Input + Print + Eprint)) -> Result<(), Stop>
         }
     }
     conclude(
-        rt,
-        filled,
-        listener,
-        receiver,
-        &readings,
-        &tunings,
-        &input,
-        &mut samples,
-        &mut events,
-        &mut scratch32,
-        &mut scratch64,
-        &mut out,
+        rt, filled, listener, receiver, &readings, &tunings, &input, &mut b, &mut out,
     );
     Ok(())
 }

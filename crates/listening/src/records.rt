@@ -8,6 +8,7 @@ use crate::handing::hand_over;
 use crate::stepping::record_step;
 use crate::{Listener, Stop};
 use frequency_lists::{Reading, Tuning};
+use listening_receiver::Buffers;
 use receiver::SigfoxReceiver;
 
 // Bytes of a record.
@@ -21,24 +22,19 @@ pub fn hear(
     records: &[u8],
     readings: &mut [Reading; 8000],
     tunings: &mut [Tuning; 64],
-    samples: &mut [f32; 12000],
-    events: &mut [u8; 30720],
-    scratch32: &mut [f32; 12000],
-    scratch64: &mut [f64; 8000],
+    b: &mut Buffers,
     out: &mut [u8],
 ) -> Result<(), Stop>
-    requires come { Come l.old receiver.old (lists readings.old tunings.old) samples.old }
+    requires come { Come l.old receiver.old (lists readings.old tunings.old) b.old.samples }
     requires room { (length «records».now ≤ 4096) × (Room 65536 l.old) × (out_places ≤ length out.old) }
     ensures by_index { (read : List ℕ) (n : ℕ) → length read ≡ record_bytes * n
-        → Reached read n l.old receiver.old (lists readings.old tunings.old) samples.old
+        → Reached read n l.old receiver.old (lists readings.old tunings.old) b.old.samples
         → GoesOn (read ++ take (16 * (length «records».now / 16)) «records».now) (n + length «records».now / 16) result l.new receiver.new
-        (lists readings.new tunings.new) samples.new }
+        (lists readings.new tunings.new) b.new.samples }
     ensures near { Near 65536 l.old l.new }
 {
     for bytes in records.chunks_exact(RECORD) {
-        let r = record_step(
-            l, receiver, bytes, readings, tunings, samples, events, scratch32, scratch64, out,
-        );
+        let r = record_step(l, receiver, bytes, readings, tunings, b, out);
         let written = hand_over(rt, &out[..r.end]);
         r.went?;
         written?;

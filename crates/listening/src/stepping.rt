@@ -18,7 +18,8 @@ use frequency::FrequencyTracker;
 use frequency_lists::{Reading, Tuning};
 use limits::Refusal;
 use listening_lines::Line;
-use listening_records::Told;
+use listening_receiver::Buffers;
+use listening_records::{Told, Tracked};
 use receiver::SigfoxReceiver;
 
 // Samples per second.
@@ -67,17 +68,14 @@ fn receive(
     end: usize,
     raw: &[u8],
     readings: &[Reading; 8000],
-    samples: &mut [f32; 12000],
-    events: &mut [u8; 30720],
-    scratch32: &mut [f32; 12000],
-    scratch64: &mut [f64; 8000],
+    b: &mut Buffers,
     out: &mut [u8],
 ) -> Brought
-    requires standing { Standing receiver.old samples.old }
+    requires standing { Standing receiver.old b.old.samples }
     requires end_le_widest { (end ≤ widest) × (out_places ≤ length out.old) × (l.old.passed ≤ 2 ^ 53) × (l.old.frames + most < 2 ^ 64) × (l.old.messages + most < 2 ^ 64) }
-    ensures goes { (g : Ledger by_frames) (tunings : List Tuning) (old text : List ℕ) → StandsFor receiver.old samples.old g → Added old 0 text end out.old
+    ensures goes { (g : Ledger by_frames) (tunings : List Tuning) (old text : List ℕ) → StandsFor receiver.old b.old.samples g → Added old 0 text end out.old
         → Goes (received (state_of l.old (lists readings.now tunings) g) text (push_raw raw.now))
-        old (stepped result l.new receiver.new) (lists readings.now tunings) samples.new out.new }
+        old (stepped result l.new receiver.new) (lists readings.now tunings) b.new.samples out.new }
     ensures receives { Receives l.old (stepped result l.new receiver.new) out.old out.new }
 {
     let mut told = Told {
@@ -85,10 +83,13 @@ fn receive(
         messages: l.messages,
         end,
     };
-    let went = listening_receiver::hear(
-        &mut told, receiver, l.started, l.passed, l.tracker, raw, readings, samples, events,
-        scratch32, scratch64, out,
-    );
+    let q = Tracked {
+        started: l.started,
+        passed: l.passed,
+        tracker: l.tracker,
+        readings,
+    };
+    let went = listening_receiver::hear(&mut told, receiver, q, raw, b, out);
     l.frames = told.frames;
     l.messages = told.messages;
     let line = refused_line(went);
@@ -169,33 +170,19 @@ pub fn record_step(
     bytes: &[u8],
     readings: &mut [Reading; 8000],
     tunings: &mut [Tuning; 64],
-    samples: &mut [f32; 12000],
-    events: &mut [u8; 30720],
-    scratch32: &mut [f32; 12000],
-    scratch64: &mut [f64; 8000],
+    b: &mut Buffers,
     out: &mut [u8],
 ) -> Brought
-    requires standing { Standing receiver.old samples.old }
+    requires standing { Standing receiver.old b.old.samples }
     requires single { (Single l.old.tracker (lists readings.old tunings.old)) × (Room most l.old) × (out_places ≤ length out.old) × (length bytes.now ≡ 16) }
-    ensures goes { (g : Ledger by_frames) → StandsFor receiver.old samples.old g
+    ensures goes { (g : Ledger by_frames) → StandsFor receiver.old b.old.samples g
         → Goes (program.step (state_of l.old (lists readings.old tunings.old) g) bytes.now)
-        out.old (stepped result l.new receiver.new) (lists readings.new tunings.new) samples.new out.new }
+        out.old (stepped result l.new receiver.new) (lists readings.new tunings.new) b.new.samples out.new }
     ensures steps { Steps l.old (stepped result l.new receiver.new) (lists readings.new tunings.new) out.old out.new }
 {
-    let f = follow(l, bytes, readings, tunings, scratch64, out);
+    let f = follow(l, bytes, readings, tunings, &mut b.scratch64, out);
     match f.went {
-        Ok(()) => receive(
-            l,
-            receiver,
-            f.end,
-            &bytes[..8],
-            readings,
-            samples,
-            events,
-            scratch32,
-            scratch64,
-            out,
-        ),
+        Ok(()) => receive(l, receiver, f.end, &bytes[..8], readings, b, out),
         Err(_) => f,
     }
 }

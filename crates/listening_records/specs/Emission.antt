@@ -13,6 +13,7 @@ use Rattle.frequency.specs.Calls.{frame1_answer}
 use Rattle.listening_lines.specs.Text.{Added, widest}
 use Rattle.listening_lines.specs.Lines.{message_line}
 use Rattle.listening_records.specs.declared.Told.{Told}
+use Rattle.listening_records.specs.declared.tracked.Tracked.{Tracked}
 
 -- the number of a refusal or 0, what was counted ("E samples frames messages"), and the text of the lines
 pub record Emission : Type 0 where
@@ -59,6 +60,9 @@ pub record Asked : Type 0 where
   pub tracker : FrequencyTracker
   pub readings : List Reading
   pub room : ℕ
+
+abbrev pub asked : Tracked → ℕ → Asked
+asked q room = record { started = q.started; passed = q.passed; tracker = q.tracker; readings = q.readings.now; room = room }
 
 -- the answer of `frame1` for a message; 02, request 04: "A message written while no frequency has come prints `-` for hz"
 unfoldable pub answer_for : Asked → List ℕ → Answer (Option ℕ)

@@ -1,15 +1,16 @@
 // What a call's records make `listen` print and count (01, frequency.rs): a frame is counted, a message counted and printed.
 #![tactic(auto)]
 
+mod tracked; // what `frame1` is asked of
+
 ghost use Rattle.std.specs.Prelude.{◌≡◌, ℕ, ◌+◌, ◌*◌, ◌^◌, ◌≤◌, ◌<◌, List, length};
 ghost use Rattle.limits.specs.Limits.{record_size};
 ghost use Rattle.limits.specs.Answer.{said, cause_of};
 ghost use Rattle.listening_lines.specs.Text.{widest};
-ghost use Rattle.listening_records.specs.Emission.{Emission, shifted, spans_in, earlier, downlink_in, answer_for, with_line, emitted, emitted_all, Tells, Within, Grown};
+ghost use Rattle.listening_records.specs.Emission.{Emission, asked, shifted, spans_in, earlier, downlink_in, answer_for, with_line, emitted, emitted_all, Tells, Within, Grown};
 ghost use Rattle.ledger.specs.Records.{records_in};
 
-use frequency::FrequencyTracker;
-use frequency_lists::Reading;
+pub use crate::tracked::Tracked;
 use limits::Refusal;
 use record::FrameSpan;
 use record::read::EventRecord;
@@ -63,22 +64,15 @@ fn downlink_of(event: EventRecord) -> bool
 }
 
 // What `frame1` answers for a message; nothing while no frequency has come.
-fn answer_for(
-    started: bool,
-    passed: u64,
-    tracker: FrequencyTracker,
-    event: EventRecord,
-    readings: &[Reading; 8000],
-    scratch: &mut [f64],
-) -> Result<Option<u32>, Refusal>
-    requires { passed ≤ 2 ^ 53 }
-    ensures { said result ≡ answer_for (record { started = started; passed = passed; tracker = tracker; readings = readings.now; room = length scratch.old }) event.entry.bytes.now }
+fn answer_for(q: Tracked, event: EventRecord, scratch: &mut [f64]) -> Result<Option<u32>, Refusal>
+    ensures { said result ≡ answer_for (asked q.entry (length scratch.old)) event.entry.bytes.now }
 {
-    if !started {
+    if !q.started {
         return Ok(None);
     }
-    let spans = spans_of(event, earlier(passed));
-    tracker.frame1(spans, downlink_of(event), readings, scratch)
+    let spans = spans_of(event, earlier(q.passed));
+    q.tracker
+        .frame1(spans, downlink_of(event), q.readings, scratch)
 }
 
 // A message's line behind the text.
@@ -96,24 +90,21 @@ fn tell_line(t: &mut Told, event: EventRecord, answer: Option<u32>, out: &mut [u
 // One record.
 fn tell(
     t: &mut Told,
-    started: bool,
-    passed: u64,
-    tracker: FrequencyTracker,
+    q: Tracked,
     event: EventRecord,
-    readings: &[Reading; 8000],
     scratch: &mut [f64],
     out: &mut [u8],
 ) -> Result<(), Refusal>
-    requires { (t.old.end + widest ≤ length out.old) × (t.old.frames + 1 < 2 ^ 64) × (t.old.messages + 1 < 2 ^ 64) × (passed ≤ 2 ^ 53) }
+    requires { (t.old.end + widest ≤ length out.old) × (t.old.frames + 1 < 2 ^ 64) × (t.old.messages + 1 < 2 ^ 64) }
     ensures by_index { (old : List ℕ) (start : ℕ) (p : Emission) → Tells p old start 0 t.old out.old
-        → Tells (emitted (record { started = started; passed = passed; tracker = tracker; readings = readings.now; room = length scratch.old }) p event.entry.bytes.now) old start (cause_of result) t.new out.new }
+        → Tells (emitted (asked q.entry (length scratch.old)) p event.entry.bytes.now) old start (cause_of result) t.new out.new }
     ensures within { Within t.old t.new out.old out.new }
 {
     if event.kind() == record::FRAME {
         t.frames += 1;
         return Ok(());
     }
-    let answer = answer_for(started, passed, tracker, event, readings, scratch)?;
+    let answer = answer_for(q, event, scratch)?;
     tell_line(t, event, answer, out);
     Ok(())
 }
@@ -121,33 +112,21 @@ fn tell(
 // A call's records, in order; nothing after a refusal.
 pub fn tell_all(
     t: &mut Told,
-    started: bool,
-    passed: u64,
-    tracker: FrequencyTracker,
+    q: Tracked,
     count: usize,
     events: &[u8],
-    readings: &[Reading; 8000],
     scratch: &mut [f64],
     out: &mut [u8],
 ) -> Result<(), Refusal>
-    requires { (record_size * count ≤ length events.now) × (t.old.end + widest * count ≤ length out.old) × (t.old.frames + count < 2 ^ 64) × (t.old.messages + count < 2 ^ 64) × (passed ≤ 2 ^ 53) }
+    requires { (record_size * count ≤ length events.now) × (t.old.end + widest * count ≤ length out.old) × (t.old.frames + count < 2 ^ 64) × (t.old.messages + count < 2 ^ 64) }
     ensures by_index { (old : List ℕ) (start : ℕ) (p : Emission) → Tells p old start 0 t.old out.old
-        → Tells (emitted_all (record { started = started; passed = passed; tracker = tracker; readings = readings.now; room = length scratch.old }) p (records_in count events.now)) old start (cause_of result) t.new out.new }
+        → Tells (emitted_all (asked q.entry (length scratch.old)) p (records_in count events.now)) old start (cause_of result) t.new out.new }
     ensures grown { Grown count t.old t.new out.old out.new }
 {
     for i in 0..count {
         let from = limits::RECORD * i;
         let to = from + limits::RECORD;
-        tell(
-            t,
-            started,
-            passed,
-            tracker,
-            EventRecord::new(&events[from..to]),
-            readings,
-            scratch,
-            out,
-        )?;
+        tell(t, q, EventRecord::new(&events[from..to]), scratch, out)?;
     }
     Ok(())
 }

@@ -45,10 +45,10 @@ pub conclude-requires-clause-staged : goal.conclude-requires-clause-staged
 conclude-requires-clause-staged g c =
     let i = c.loop.invariant in
     elim c.loop-test.branch [
-      | else-loop-test w ↦ rw (w.input-is, w.readings-is, w.tunings-is, w.samples-is, w.listener-is, w.receiver-is, w.filled-is) i.0
+      | else-loop-test w ↦ rw (w.input-is, w.readings-is, w.tunings-is, w.b-is, w.listener-is, w.receiver-is, w.filled-is) i.0
       | then-loop-test+in_ok-n+then-n-eq0 w ↦
           let x = w.in_ok-n.ensures.by_index i.0.read i.0.stage in
-          rw (w.input-is, w.readings-is, w.tunings-is, w.samples-is, w.listener-is, w.receiver-is, w.filled-is) (record { read = _; stage = x.stage })
+          rw (w.input-is, w.readings-is, w.tunings-is, w.b-is, w.listener-is, w.receiver-is, w.filled-is) (record { read = _; stage = x.stage })
     ]
 
 pub conclude-requires-clause-room : goal.conclude-requires-clause-room

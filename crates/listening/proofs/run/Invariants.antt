@@ -8,4 +8,4 @@ use Rattle.listening.proofs.run.Given as goal
 
 abbrev pub invariant-loop : goal.invariant-loop
 invariant-loop g l =
-    Staged l.input l.filled l.listener l.receiver (lists l.readings l.tunings) l.samples × Near (65536 * l.counter) new_listener l.listener × (length l.input ≡ 4096) × (length l.out ≡ 33024)
+    Staged l.input l.filled l.listener l.receiver (lists l.readings l.tunings) l.b.samples × Near (65536 * l.counter) new_listener l.listener × (length l.input ≡ 4096) × (length l.out ≡ 33024)

@@ -7,4 +7,4 @@ use Rattle.listening.proofs.records.hear.Given as goal
 
 abbrev pub invariant-loop-bytes : goal.invariant-loop-bytes
 invariant-loop-bytes g l =
-    (chunks_exact_size l.bytes-iterator ≡ 16) × Along l.«records» (chunks_exact_rest l.bytes-iterator) (length l.yielded) l.initial.l l.initial.receiver (lists l.initial.readings l.initial.tunings) l.initial.samples l.l l.receiver (lists l.readings l.tunings) l.samples l.initial.out l.out
+    (chunks_exact_size l.bytes-iterator ≡ 16) × Along l.«records» (chunks_exact_rest l.bytes-iterator) (length l.yielded) l.initial.l l.initial.receiver (lists l.initial.readings l.initial.tunings) l.initial.b.samples l.l l.receiver (lists l.readings l.tunings) l.b.samples l.initial.out l.out

@@ -14,13 +14,13 @@ use Rattle.listening.proofs.stepping.receive.Goals as goal
 pub hear-went-requires : goal.hear-went-requires
 hear-went-requires c =
     let p = c.requires in
-    record { standing = p.standing; most_in_bounds = (omega (arith, p.end_le_widest.0, p.end_le_widest.1), p.end_le_widest.3, p.end_le_widest.4, p.end_le_widest.2) }
+    record { standing = p.standing; most_in_bounds = (omega (arith, p.end_le_widest.0, p.end_le_widest.1), p.end_le_widest.3, p.end_le_widest.4) }
 
 pub returns : goal.returns
 returns c =
     let h = c.hear-went in
     let b = c.add_to-last.ensures in record {
-      goes = λ (g : Ledger by_frames) (tunings : List Tuning) (old text : List ℕ) (st : StandsFor c.args.receiver.now c.args.samples.now g) (a : Added old 0 text c.args.end c.args.out.now).
+      goes = λ (g : Ledger by_frames) (tunings : List Tuning) (old text : List ℕ) (st : StandsFor c.args.receiver.now c.args.b.now.samples g) (a : Added old 0 text c.args.end c.args.out.now).
           goes-received (state_of c.args.l.now (lists c.args.readings.now tunings) g) _ text old _ _ _ _ _ _ _ _ _ _ st a h.ensures (rw c.refused_line-line.ensures at b.added);
       receives = record {
         tracker = refl;
