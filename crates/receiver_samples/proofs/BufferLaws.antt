@@ -1,12 +1,12 @@
 -- Turns of the loops over the sample buffer, on plain lists. Assumes nothing.
 use mathlib.Core.List.{List, [], ◌++◌, ◌∷◌, map}
 use mathlib.Core.Path.{◌∙◌, ◌≡◌, ap, refl, sym}
-use Prim.Native.Nat.{◌+◌, ◌-◌, ◌<◌, ◌≤◌, suc, ℕ}
+use Prim.Native.Nat.{◌+◌, ◌<◌, ◌≤◌, suc, ℕ}
 use native.Mathlib.Numerals.{add-one}
 use native.Mathlib.Omega.{arith}
 use lib.Ieee.{Float, binary32, nan, of_bits, of_int, round}
-use lib.ListN.{drop, get_or, length, length-drop, length-map, set, take}
-use lib.Seq.{append_snoc, drop-cons, get_or-append-add, get_or-drop, length-take-le, paste, paste-suc, set_at, take-suc}
+use lib.ListN.{drop, get_or, length, length-map, set, take}
+use lib.Seq.{append_snoc, drop-cons, length-take-le, set_at, take-suc}
 use Rattle.floats.specs.Number.{num}
 use Rattle.ledger.specs.Ledger.{dbm_of}
 
