@@ -82,17 +82,17 @@ module _ (dbm : List Float) (rate : ℕ) (t0 : Float) where
 
   module _ (floor : Float) where
     -- the records of the bursts that are left at an index
-    abbrev pub recordsLeft : ℕ → List (List ℕ)
-    recordsLeft at = records_of dbm rate t0 (bursts_from dbm rate default_options floor at)
+    abbrev pub records_left : ℕ → List (List ℕ)
+    records_left at = records_of dbm rate t0 (bursts_from dbm rate default_options floor at)
 
     -- n records are written, and the search goes on at an index
     pub record CaptureAt (old : List ℕ) (at n : ℕ) (now : List ℕ) : Type 0 where
       pub inside : at ≤ length dbm
       pub few : n + length (bursts_from dbm rate default_options floor at) ≤ most_bursts
       pub size : length now ≡ length old
-      pub count : n + length (recordsLeft at) ≡ length (captured dbm rate t0 floor)
+      pub count : n + length (records_left at) ≡ length (captured dbm rate t0 floor)
       pub past : drop (record_size * n) now ≡ drop (record_size * n) old
-      pub here : take (record_size * n) now ++ joined (recordsLeft at) ≡ joined (captured dbm rate t0 floor)
+      pub here : take (record_size * n) now ++ joined (records_left at) ≡ joined (captured dbm rate t0 floor)
 
     pub capture-start : (old : List ℕ) → lowest_rate ≤ rate → rate ≤ highest_rate → length dbm ≤ buffer_s * rate → CaptureAt old 0 0 old
     unfolding captured
@@ -127,7 +127,7 @@ module _ (dbm : List Float) (rate : ℕ) (t0 : Float) where
 
       -- it found a burst
       module _ (b : Burst) (f : Next dbm rate default_options floor at b) where
-        left : recordsLeft at ≡ record_of dbm rate t0 b ++ recordsLeft b.end
+        left : records_left at ≡ record_of dbm rate t0 b ++ records_left b.end
         unfolding records_of
         left = ap (records_of dbm rate t0) f.list
 
@@ -158,12 +158,12 @@ module _ (dbm : List Float) (rate : ℕ) (t0 : Float) where
                 inside = f.inside;
                 few = omega (arith, fewer, one b);
                 size = ap length w ∙ length-sets now (record_size * n) bytes ∙ c.size;
-                count = omega (arith, c.count, ap length left, length-append (record_of dbm rate t0 b) (recordsLeft b.end));
+                count = omega (arith, c.count, ap length left, length-append (record_of dbm rate t0 b) (records_left b.end));
                 past =
                     ap (drop (record_size * m)) parts ∙ drop_at (take (record_size * n) now ++ bytes) (drop (record_size * m) now) (record_size * m) front
                     ∙ rw (← long) (sym (drop-drop (length bytes) (record_size * n) now) ∙ ap (drop (length bytes)) c.past ∙ drop-drop (length bytes) (record_size * n) old);
                 here =
-                    ap (λ (l : List ℕ). l ++ joined (recordsLeft b.end)) (ap (take (record_size * m)) parts ∙ take_at (take (record_size * n) now ++ bytes) (drop (record_size * m) now) (record_size * m) front)
-                    ∙ append_assoc (take (record_size * n) now) bytes (joined (recordsLeft b.end))
-                    ∙ ap (λ (l : List ℕ). take (record_size * n) now ++ l) (sym (joined-append (record_of dbm rate t0 b) (recordsLeft b.end)) ∙ ap joined (sym left)) ∙ c.here;
+                    ap (λ (l : List ℕ). l ++ joined (records_left b.end)) (ap (take (record_size * m)) parts ∙ take_at (take (record_size * n) now ++ bytes) (drop (record_size * m) now) (record_size * m) front)
+                    ∙ append_assoc (take (record_size * n) now) bytes (joined (records_left b.end))
+                    ∙ ap (λ (l : List ℕ). take (record_size * n) now ++ l) (sym (joined-append (record_of dbm rate t0 b) (records_left b.end)) ∙ ap joined (sym left)) ∙ c.here;
               }

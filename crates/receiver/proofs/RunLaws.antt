@@ -82,13 +82,13 @@ module _ (s : SigfoxReceiver) (samples : List Float) (old : List ℕ) (scratch :
         no_cap rate (demod_of rate) (demod_fair rate p.lowest p.highest) entries_lawful (omega (arith, p.lowest)) (ledger_of s samples) c p.order p.accepted
 
   module _ (xs : List Float) where
-    abbrev pub allIn : Ledger by_entry
-    allIn = scans rate (demod_of rate) (ledger_of s samples) (push xs)
+    abbrev pub all_in : Ledger by_entry
+    all_in = scans rate (demod_of rate) (ledger_of s samples) (push xs)
 
-    abbrev pub lastBuffer : Buffer
-    lastBuffer = all_filled rate (length xs) (record { held = s.held; places = samples }) xs
+    abbrev pub last_buffer : Buffer
+    last_buffer = all_filled rate (length xs) (record { held = s.held; places = samples }) xs
 
-    pub fill_start : Passes s (push xs) samples old scratch → FillAt rate xs allIn lastBuffer old samples old s.held s.base s.unscanned (record { starts = s.starts; waiting = s.waiting; count = 0 }) 0
+    pub fill_start : Passes s (push xs) samples old scratch → FillAt rate xs all_in last_buffer old samples old s.held s.base s.unscanned (record { starts = s.starts; waiting = s.waiting; count = 0 }) 0
     unfolding scans_if start_call
     fill_start p =
         let e = held-is (push xs) p in
@@ -115,13 +115,13 @@ module _ (s : SigfoxReceiver) (samples : List Float) (old : List ℕ) (scratch :
         }
 
     pub fill_end : (places : List Float) (now : List ℕ) (held base unscanned : ℕ) (t : Scanned) (from : ℕ)
-        → FillAt rate xs allIn lastBuffer old places now held base unscanned t from → length xs ≤ from
+        → FillAt rate xs all_in last_buffer old places now held base unscanned t from → length xs ≤ from
         → Done s (push xs) samples old held base unscanned t places now
     unfolding samples_after
     fill_end places now held base unscanned t from m h =
         let q : from ≡ length xs = omega (arith, m.inside) in
-        let e : m.ledger ≡ allIn = ledger_end rate (demod_of rate) m.ledger allIn xs from q m.rest in
-        let f = buffer_end rate (record { held = held; places = places }) lastBuffer xs from q m.buffer in
+        let e : m.ledger ≡ all_in = ledger_end rate (demod_of rate) m.ledger all_in xs from q m.rest in
+        let f = buffer_end rate (record { held = held; places = places }) last_buffer xs from q m.buffer in
         record {
           starts = m.within.starts;
           waiting = m.within.waiting;
