@@ -1,6 +1,6 @@
 -- `next_tuning` of a state in order, on the readings held. Assumes nothing.
 use Rattle.std.proofs.Common.{None, Some, Option, cond}
-use mathlib.Core.Path.{◌≡◌, refl, sym, ap, ◌∙◌, subst}
+use mathlib.Core.Path.{◌≡◌, refl, sym, ap, ◌∙◌}
 use mathlib.Core.Bool.{Bool, true, false, not}
 use mathlib.Core.List.{List}
 use Prim.Native.Nat.{ℕ, ◌≤◌, ◌<◌}
@@ -21,7 +21,7 @@ use Rattle.frequency_lists.specs.Lists.{all_numbers, freqs, last_or}
 use Rattle.frequency_measure.specs.Gathered.{Front}
 use Rattle.frequency_measure.specs.Measured.{fewest, median}
 use Rattle.frequency_tuning.specs.declared.Step.TheVariants.{Stay, Base, Settled}
-use Rattle.frequency_tuning.specs.Steps.{waits, is_asked, settled_by, target, asked, retunes, with_retuned}
+use Rattle.frequency_tuning.specs.Steps.{waits, settled_by, target, asked, retunes, with_retuned}
 use Rattle.frequency.specs.declared.FrequencyTracker.{FrequencyTracker}
 use Rattle.frequency.specs.Lent.{Lists, tracker, packed}
 use Rattle.frequency.specs.Order.{in_order, floats_ok, numbers_ok, cause_next}

@@ -14,6 +14,7 @@ ghost use Rattle.frequency.specs.Waiting.{Settling, settled_of, step_by};
 
 use frequency_lists::{Reading, Tuning};
 use frequency_measure::FrameFrequency;
+use frequency_signal::{Signal, Stream};
 use frequency_tuning::Step;
 use limits::Refusal;
 
@@ -30,7 +31,7 @@ pub struct FrequencyTracker {
     pub readings: usize,
     pub tunings: usize,
     pub requested: Option<u32>,
-    pub signal: frequency_signal::Signal,
+    pub signal: Signal,
 }
 
 fn floats_ok(t: &FrequencyTracker) -> bool
@@ -274,7 +275,11 @@ fn settled_step(t: &FrequencyTracker, held: &[Reading], out: &mut [f64]) -> Step
     requires { Settling t.now held.now out.old }
     ensures { result ≡ settled_by (settled_of t.now held.now) }
 {
-    let m = frequency_measure::gather_late(t.rate, t.signal.frame_from, held, out);
+    let stream = Stream {
+        rate: t.rate,
+        n: t.signal.n,
+    };
+    let m = frequency_measure::gather_late(stream, t.signal.frame_from, held, out);
     if m < frequency_measure::FEWEST {
         return Step::Stay;
     }
@@ -289,7 +294,11 @@ fn step_of(t: &FrequencyTracker, held: &[Reading], out: &mut [f64]) -> Step
     let None = t.requested else {
         return Step::Stay;
     };
-    if frequency_signal::is_quiet(t.rate, t.signal.n, t.signal.last_signal) {
+    let stream = Stream {
+        rate: t.rate,
+        n: t.signal.n,
+    };
+    if stream.is_quiet(t.signal.last_signal) {
         return Step::Base;
     }
     if frequency_tuning::is_waiting(t.rate, t.signal) {
@@ -314,10 +323,13 @@ pub fn hear_line(
 {
     t.line_start = t.signal.n;
     t.signal = frequency_signal::hear_all(t.rate, t.signal, dbm);
-    let n = t.signal.n;
+    let stream = Stream {
+        rate: t.rate,
+        n: t.signal.n,
+    };
     let held = &mut readings[..t.readings];
-    t.readings = frequency_retain::retain_looked(look, t.rate, n, held);
-    t.tunings = frequency_retain::retain_tunings(t.rate, n, &mut tunings[..t.tunings]);
+    t.readings = frequency_retain::retain_looked(look, stream, held);
+    t.tunings = frequency_retain::retain_tunings(stream, &mut tunings[..t.tunings]);
 }
 
 // What an accepted `cfo` does.
@@ -333,16 +345,12 @@ pub fn read_line(
     let more = 1 < t.tunings;
     let f = freq_of(t, tunings);
     let last = frequency_lists::last_tuned(&tunings[..t.tunings]);
+    let start = Stream {
+        rate: t.rate,
+        n: t.line_start,
+    };
     let count = frequency_lists::read_values(
-        t.rate,
-        t.step_hz,
-        more,
-        last,
-        f,
-        t.line_start,
-        t.readings,
-        raw,
-        readings,
+        start, t.step_hz, more, last, f, t.readings, raw, readings,
     );
     t.readings = count;
 }
@@ -385,7 +393,7 @@ impl FrequencyTracker {
             readings: 0,
             tunings: 0,
             requested: None,
-            signal: frequency_signal::Signal {
+            signal: Signal {
                 n: 0,
                 floor: None,
                 frame_from: None,

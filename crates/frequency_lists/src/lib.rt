@@ -4,9 +4,10 @@
 ghost use Rattle.std.specs.Prelude.{◌≡◌, cond, ◌+◌, ◌<◌, ◌≤◌, true, not, length, is_nan};
 ghost use Rattle.std.proofs.lemmas.List.Edits.{sets};
 ghost use Rattle.limits.specs.Limits.{longest_stream, most_readings};
-ghost use Rattle.frequency_signal.specs.Seconds.{Rate};
 ghost use Rattle.frequency_lists.specs.Lists.{read_up_to, tuned_up_to, all_numbers, ReachesAll, last_or, readings_from, fits_readings, fits_tunings, ats, tuneds, freqs};
 ghost use Rattle.frequency_lists.specs.Marks.{put};
+
+use frequency_signal::Stream;
 
 // One CFO value per 8 RSSI samples.
 const CFO_EVERY: u64 = 8;
@@ -116,29 +117,28 @@ pub fn put<T: Copy>(due: bool, w: usize, x: T, l: &mut [T]) -> usize
 // The readings of a line's values behind the first count, and how many there are then: the loop of `cfo`. A value is not
 // taken while the register is still catching up with a retune, if there was one (more than one tuning).
 pub fn read_values(
-    rate: u32,
+    start: Stream,
     step: f64,
     more: bool,
     tuned_at: u64,
     f: u32,
-    line: u64,
     count: usize,
     raw: &[u16],
     readings: &mut [Reading],
 ) -> usize
-    requires { Rate rate × (tuned_at ≤ longest_stream) × (line ≤ longest_stream) × (length raw.now ≤ most_readings) × (count + length raw.now ≤ length readings.old) }
-    ensures next { result ≡ count + length (readings_from rate step more tuned_at f line raw.now) }
-    ensures list { readings.new ≡ sets readings.old count (readings_from rate step more tuned_at f line raw.now) }
+    requires { (tuned_at ≤ longest_stream) × (length raw.now ≤ most_readings) × (count + length raw.now ≤ length readings.old) }
+    ensures next { result ≡ count + length (readings_from start.rate step more tuned_at f start.n raw.now) }
+    ensures list { readings.new ≡ sets readings.old count (readings_from start.rate step more tuned_at f start.n raw.now) }
 {
     let mut w = count;
     for (k, v) in raw.iter().enumerate() {
-        let at = line + CFO_EVERY * (k as u64);
+        let at = start.n + CFO_EVERY * (k as u64);
         let x = Reading {
             at,
             lo: f,
             hz: cfo::reading_hz(f, *v, step),
         };
-        let settling = frequency_signal::is_settling(rate, tuned_at, at);
+        let settling = start.is_settling(tuned_at, at);
         w = put(!(settling & more), w, x, readings);
     }
     w

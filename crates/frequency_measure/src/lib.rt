@@ -4,7 +4,7 @@
 ghost use Rattle.std.specs.Prelude.{◌≡◌, true, ◌&&◌, map, ℕ, ◌≤◌, ◌<◌, length, eqb, Some, None};
 ghost use Rattle.std.specs.List.{last_or};
 ghost use Rattle.limits.specs.Limits.{longest_stream};
-ghost use Rattle.frequency_signal.specs.Seconds.{Rate, late};
+ghost use Rattle.frequency_signal.specs.Seconds.{late};
 ghost use Rattle.frequency_signal.specs.Order.{Index};
 ghost use Rattle.frequency_lists.specs.Lists.{Small, no_nan, ats, hzs};
 ghost use Rattle.frequency_lists.specs.Marks.{retained};
@@ -12,6 +12,7 @@ ghost use Rattle.frequency_measure.specs.Measured.{median, sample_of, first_of, 
 ghost use Rattle.frequency_measure.specs.Gathered.{Front, Free, in_frame, of_frame, los};
 
 use frequency_lists::Reading;
+use frequency_signal::Stream;
 use record::FrameSpan;
 
 // The frequency of a frame, and a retune, need this many readings.
@@ -47,13 +48,18 @@ struct Trusted {
 }
 
 // The frequencies of the readings that are at least GAP_S into the frame, in front of the scratch (hz of next_tuning).
-pub fn gather_late(rate: u32, from: Option<u64>, readings: &[Reading], out: &mut [f64]) -> usize
-    requires { Rate rate × Index longest_stream from × Small (ats readings.now) × (length readings.now ≤ length out.old) }
-    ensures { Front (hzs (retained (map (late rate from) (ats readings.now)) readings.now)) out.old result out.new }
+pub fn gather_late(
+    stream: Stream,
+    from: Option<u64>,
+    readings: &[Reading],
+    out: &mut [f64],
+) -> usize
+    requires { Index longest_stream from × Small (ats readings.now) × (length readings.now ≤ length out.old) }
+    ensures { Front (hzs (retained (map (late stream.rate from) (ats readings.now)) readings.now)) out.old result out.new }
 {
     let mut w = 0usize;
     for x in readings {
-        w = frequency_lists::put(frequency_signal::is_late(rate, from, x.at), w, x.hz, out);
+        w = frequency_lists::put(stream.is_late(from, x.at), w, x.hz, out);
     }
     w
 }

@@ -12,7 +12,6 @@ use Rattle.std.proofs.lemmas.List.{drop-map, get_or-drop}
 use Rattle.std.specs.Prelude.{IfSome}
 use Rattle.std.specs.Bool.{then_some}
 use Rattle.frequency_lists.specs.declared.Reading.{Reading}
-use Rattle.frequency_lists.specs.Marks.{marked, gathered}
 use Rattle.frequency_lists.specs.Lists.{Small, Reaches, ReachesAll, ats}
 use Rattle.frequency_lists.proofs.Gather.{map_at}
 use Rattle.frequency_lists.proofs.Reach.{read_up_to_all}

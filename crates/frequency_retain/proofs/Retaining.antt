@@ -8,7 +8,7 @@ use native.Mathlib.Numerals.{add-one}
 use native.Mathlib.Omega.{arith}
 use lib.Dec.{eqb, eqb-suc-suc, eqb-zero-suc}
 use lib.ListN.{length, take, get_or, length-map}
-use lib.Seq.{length-take-le, take_all}
+use lib.Seq.{take_all}
 use Rattle.frequency_lists.specs.declared.Reading.{Reading}
 use Rattle.frequency_lists.specs.declared.Tuning.{Tuning}
 use Rattle.frequency_lists.specs.Lists.{ats, tuneds}
@@ -16,7 +16,7 @@ use Rattle.frequency_lists.specs.Marks.{marked, retained, gathered, put}
 use Rattle.frequency_retain.specs.Retain.{Compacted}
 use Rattle.frequency_retain.specs.Retain.{stays}
 use Rattle.frequency_signal.specs.Seconds.{kept}
-use Rattle.frequency_lists.proofs.Gather.{marked_turn, marked-upto, length-gathered, gathered-turn, gathered-ahead, map_at}
+use Rattle.frequency_lists.proofs.Gather.{marked_turn, marked-upto, gathered-turn, gathered-ahead, map_at}
 
 module _ {A : Type 0} (bs : List Bool) (l : List A) (d : A) (short : length bs ≤ length l) where
   pub ahead : (i : ℕ) (cur : List A) → i ≤ length bs → cur ≡ gathered (take i bs) l l → get_or cur i d ≡ get_or l i d

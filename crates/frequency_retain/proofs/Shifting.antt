@@ -4,8 +4,8 @@ use mathlib.Core.Bool.{Bool, true, false}
 use mathlib.Core.List.{List, [], ◌∷◌, ◌++◌, map}
 use Prim.Native.Nat.{ℕ, zero, suc, ◌+◌, ◌-◌, ◌≤◌, ◌<◌}
 use native.Mathlib.Omega.{arith}
-use lib.Dec.{T, leb}
-use lib.ListN.{length, take, drop, get_or, take-append-drop}
+use lib.Dec.{T}
+use lib.ListN.{length, take, drop, get_or}
 use lib.Seq.{take-nil}
 use Rattle.frequency_lists.specs.Marks.{marked, retained, gathered}
 use Rattle.frequency_lists.proofs.Gather.{marked-le}

@@ -2,25 +2,25 @@
 #![tactic(auto)]
 
 ghost use Rattle.std.specs.Prelude.{◌≡◌, IfSome, cond, true, false, map, ℕ, ◌+◌, ◌-◌, ◌≤◌, ◌<◌, ◌^◌, length, get_or, eqb, leb};
-ghost use Rattle.limits.specs.Limits.{longest_stream};
-ghost use Rattle.frequency_signal.specs.Seconds.{Rate, kept, oldest_of};
+ghost use Rattle.frequency_signal.specs.Seconds.{kept, oldest_of};
 ghost use Rattle.frequency_lists.specs.Lists.{Small, ats, tuneds};
 ghost use Rattle.frequency_retain.specs.Retain.{moved, stays, Leads, Looked, Compacted};
 
 use frequency_lists::{Reading, Tuning};
+use frequency_signal::Stream;
 
 // No two indices in order are so far apart.
 const FAR: u64 = 0x8000_0000_0000_0000;
 
 // readings.retain, one by one.
-fn compact_readings(rate: u32, n: u64, readings: &mut [Reading]) -> usize
-    requires { Rate rate × (n ≤ longest_stream) × Small (ats readings.old) }
-    ensures { Compacted (map (kept rate n) (ats readings.old)) readings.old result readings.new }
+fn compact_readings(stream: Stream, readings: &mut [Reading]) -> usize
+    requires { Small (ats readings.old) }
+    ensures { Compacted (map (kept stream.rate stream.n) (ats readings.old)) readings.old result readings.new }
 {
     let mut w = 0usize;
     for i in 0..readings.len() {
         let x = readings[i];
-        w = frequency_lists::put(frequency_signal::is_kept(rate, n, x.at), w, x, readings);
+        w = frequency_lists::put(stream.is_kept(x.at), w, x, readings);
     }
     w
 }
@@ -65,48 +65,48 @@ pub fn look_at(low: u64, limit: u64, readings: &[Reading]) -> Option<usize>
 
 // The readings of the last 60 s stay (readings.retain). Readings come in the order of their indices, so that those that go
 // mostly stand in front; any other list is compacted one by one.
-fn retain_readings(rate: u32, n: u64, readings: &mut [Reading]) -> usize
-    requires { Rate rate × (n ≤ longest_stream) × Small (ats readings.old) }
-    ensures { Compacted (map (kept rate n) (ats readings.old)) readings.old result readings.new }
+fn retain_readings(stream: Stream, readings: &mut [Reading]) -> usize
+    requires { Small (ats readings.old) }
+    ensures { Compacted (map (kept stream.rate stream.n) (ats readings.old)) readings.old result readings.new }
 {
-    let oldest = frequency_signal::oldest(rate, n);
+    let oldest = frequency_signal::oldest(stream.rate, stream.n);
     let lead = leading(oldest, readings);
     if FAR <= frequency_lists::spread(&readings[lead..], oldest) {
-        return compact_readings(rate, n, readings);
+        return compact_readings(stream, readings);
     }
     forget(lead, readings)
 }
 
 // The same after a look that may have settled which go.
-pub fn retain_looked(look: Option<usize>, rate: u32, n: u64, readings: &mut [Reading]) -> usize
-    requires { Rate rate × (n ≤ longest_stream) × Small (ats readings.old) × IfSome look (λ lead. Leads (oldest_of rate n) lead (ats readings.old)) }
-    ensures { Compacted (map (kept rate n) (ats readings.old)) readings.old result readings.new }
+pub fn retain_looked(look: Option<usize>, stream: Stream, readings: &mut [Reading]) -> usize
+    requires { Small (ats readings.old) × IfSome look (λ lead. Leads (oldest_of stream.rate stream.n) lead (ats readings.old)) }
+    ensures { Compacted (map (kept stream.rate stream.n) (ats readings.old)) readings.old result readings.new }
 {
     let Some(lead) = look else {
-        return retain_readings(rate, n, readings);
+        return retain_readings(stream, readings);
     };
     forget(lead, readings)
 }
 
 // A tuning stays while it is the last one or the next one is still kept.
-fn tuning_stays(rate: u32, n: u64, i: usize, tunings: &[Tuning]) -> bool
-    requires { Rate rate × (n ≤ longest_stream) × (i < length tunings.now) × (i + 1 < length tunings.now → get_or (tuneds tunings.now) (i + 1) 0 ≤ 2 ^ 41) }
-    ensures { result ≡ cond (eqb (i + 1) (length tunings.now)) true (kept rate n (get_or (tuneds tunings.now) (i + 1) 0)) }
+fn tuning_stays(stream: Stream, i: usize, tunings: &[Tuning]) -> bool
+    requires { (i < length tunings.now) × (i + 1 < length tunings.now → get_or (tuneds tunings.now) (i + 1) 0 ≤ 2 ^ 41) }
+    ensures { result ≡ cond (eqb (i + 1) (length tunings.now)) true (kept stream.rate stream.n (get_or (tuneds tunings.now) (i + 1) 0)) }
 {
     if i + 1 == tunings.len() {
         return true;
     }
-    frequency_signal::is_kept(rate, n, tunings[i + 1].at)
+    stream.is_kept(tunings[i + 1].at)
 }
 
 // tuning.retain: the next tuning is looked up in the list as it was.
-pub fn retain_tunings(rate: u32, n: u64, tunings: &mut [Tuning]) -> usize
-    requires { Rate rate × (n ≤ longest_stream) × Small (tuneds tunings.old) }
-    ensures { Compacted (stays rate n (tuneds tunings.old)) tunings.old result tunings.new }
+pub fn retain_tunings(stream: Stream, tunings: &mut [Tuning]) -> usize
+    requires { Small (tuneds tunings.old) }
+    ensures { Compacted (stays stream.rate stream.n (tuneds tunings.old)) tunings.old result tunings.new }
 {
     let mut w = 0usize;
     for i in 0..tunings.len() {
-        let keep = tuning_stays(rate, n, i, tunings);
+        let keep = tuning_stays(stream, i, tunings);
         w = frequency_lists::put(keep, w, tunings[i], tunings);
     }
     w

@@ -11,6 +11,7 @@ ghost use Rattle.frequency_tuning.specs.Ranges.{step_ok};
 
 use frequency_lists::{Reading, Tuning};
 use frequency_measure::FrameFrequency;
+use frequency_signal::{Signal, Stream};
 use record::FrameSpan;
 
 // The Hz of a CFO step lie between 0 and this.
@@ -61,13 +62,14 @@ pub fn answer(requested: Option<u32>, hz: u32) -> Option<u32>
 }
 
 // Whether a frame is heard whose frequency is not known yet.
-pub fn is_waiting(rate: u32, s: frequency_signal::Signal) -> bool
+pub fn is_waiting(rate: u32, s: Signal) -> bool
     requires { Steady rate s }
     ensures { result ≡ waits rate s }
 {
+    let stream = Stream { rate, n: s.n };
     let a = !s.retuned;
-    let b = !frequency_signal::is_gap(rate, s.n, s.last_signal);
-    let c = !frequency_signal::is_young(rate, s.n, s.frame_from);
+    let b = !stream.is_gap(s.last_signal);
+    let c = !stream.is_young(s.frame_from);
     a & (b & c)
 }
 

@@ -1,4 +1,4 @@
-use Rattle.std.proofs.Common.{refl, sym, length, ◌∙◌}
+use Rattle.std.proofs.Common.{refl, sym, length}
 use lib.Seq.{length-take-le}
 use Rattle.frequency.specs.Lent.{lists}
 use Rattle.frequency.proofs.Ordered.{counts_of}

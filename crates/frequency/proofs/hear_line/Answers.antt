@@ -23,6 +23,12 @@ hear_all-t-requires c = let f = good (goal.at.hear_all-t-requires c).Start in (f
 heard : (c : After-hear_all-t) → let a = c.args in c.hear_all-t.result.n ≡ a.t.now.signal.n + length a.dbm.now
 heard c = ap (λ (z : Signal). z.n) c.hear_all-t.ensures ∙ heard-n c.args.t.now.rate c.args.t.now.signal c.args.dbm.now
 
+pub invariant_of-stream : goal.invariant_of-stream
+invariant_of-stream c =
+    let f = good (goal.at.invariant_of-stream c).Start in
+    let h = heard (goal.at.invariant_of-stream c).After-hear_all-t in
+    record { right = f.rate; short = subst (λ (z : ℕ). z ≤ longest_stream) (sym h) f.room }
+
 pub slice_bounds-held-end : goal.slice_bounds-held-end
 slice_bounds-held-end c = (good (goal.at.slice_bounds-held-end c).Start).ordered.r.places
 
@@ -34,8 +40,6 @@ retain_looked-t-requires c =
     let a = c.args in
     let f = good (goal.at.retain_looked-t-requires c).Start in
     let h = heard (goal.at.retain_looked-t-requires c).After-hear_all-t in (
-      f.rate,
-      subst (λ (z : ℕ). z ≤ longest_stream) (sym h) f.room,
       small_readings a.t.now a.readings.now f.ordered.r,
       subst (λ (z : ℕ). IfSome a.look (λ lead. Leads (oldest_of a.t.now.rate z) lead (ats (take a.t.now.readings a.readings.now)))) (sym h) c.requires.1,
     )
@@ -50,7 +54,7 @@ pub retain_tunings-t-requires : goal.retain_tunings-t-requires
 retain_tunings-t-requires c =
     let a = c.args in
     let f = good (goal.at.retain_tunings-t-requires c).Start in
-    (f.rate, subst (λ (z : ℕ). z ≤ longest_stream) (sym (heard (goal.at.retain_tunings-t-requires c).After-hear_all-t)) f.room, small_tunings a.t.now a.tunings.now f.ordered.t)
+    small_tunings a.t.now a.tunings.now f.ordered.t
 
 pub returns : goal.returns
 returns c =

@@ -1,8 +1,8 @@
-use Rattle.std.proofs.Common.{◌≡◌, ℕ, ◌+◌, ◌≤◌, length, refl, sym, ap, ◌∙◌, subst, arith, take}
+use Rattle.std.proofs.Common.{◌≡◌, ℕ, ◌+◌, ◌≤◌, length, refl, sym, ap, ◌∙◌, subst, arith}
 use lib.Dec.{ltb}
 use lib.Seq.{length-take-le, sets}
 use Rattle.limits.specs.Limits.{longest_stream}
-use Rattle.frequency_lists.specs.Lists.{freqs, last_or, readings_from}
+use Rattle.frequency_lists.specs.Lists.{readings_from}
 use Rattle.frequency.specs.Lent.{lists}
 use Rattle.frequency.proofs.Listened.{Fine, fine, last_upto, new, cfo-state, cfo-lists}
 use Rattle.frequency.proofs.read_line.Goals.{Start}
@@ -17,13 +17,18 @@ freq_of-f-requires c = (good (goal.at.freq_of-f-requires c).Start).ordered.t.pla
 pub slice_bounds-last_tuned-end : goal.slice_bounds-last_tuned-end
 slice_bounds-last_tuned-end c = sym (length-take-le c.args.t.now.tunings c.args.tunings.now (good (goal.at.slice_bounds-last_tuned-end c).Start).ordered.t.places)
 
+pub invariant_of-start : goal.invariant_of-start
+invariant_of-start c =
+    let f = good (goal.at.invariant_of-start c).Start in
+    let h = f.ordered.t.signals.upto in
+    let m = f.ordered.t.signals.stream in
+    record { right = f.rate; short = omega arith }
+
 pub read_values-count-requires : goal.read_values-count-requires
 read_values-count-requires c =
     let a = c.args in
     let f = good (goal.at.read_values-count-requires c).Start in
-    let h = f.ordered.t.signals.upto in
-    let m = f.ordered.t.signals.stream in
-    (f.rate, subst (λ (z : ℕ). z ≤ longest_stream) (sym c.last_tuned-last.ensures) (last_upto a.t.now (lists a.readings.now a.tunings.now) f.ordered), omega arith, f.few, f.places)
+    (subst (λ (z : ℕ). z ≤ longest_stream) (sym c.last_tuned-last.ensures) (last_upto a.t.now (lists a.readings.now a.tunings.now) f.ordered), f.few, f.places)
 
 pub returns : goal.returns
 returns c =

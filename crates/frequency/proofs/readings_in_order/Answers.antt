@@ -1,7 +1,4 @@
-use Rattle.std.proofs.Common.{sym, ◌∙◌, arith}
-use lib.Seq.{length-take-le}
-use borrow.Author.Tests.{leb-true}
-use Rattle.frequency.proofs.Ordered.{signals_of}
+use Rattle.std.proofs.Common.{sym, ◌∙◌}
 use Rattle.frequency.proofs.Choices.{fails, holds}
 use Rattle.frequency.specs.Order.{readings_in_order}
 use Rattle.frequency.proofs.readings_in_order.Goals as goal

@@ -6,7 +6,7 @@ use Rattle.frequency.proofs.Settled.{too_few, settled, index_up}
 use Rattle.frequency.proofs.settled_step.Goals as goal
 
 pub gather_late-m-requires : goal.gather_late-m-requires
-gather_late-m-requires c = (c.requires.steady.rates, index_up c.args.t.now.signal.n c.args.t.now.signal.frame_from c.requires.steady.stream c.requires.steady.from, c.requires.small, c.requires.room)
+gather_late-m-requires c = (index_up c.args.t.now.signal.n c.args.t.now.signal.frame_from c.requires.steady.stream c.requires.steady.from, c.requires.small, c.requires.room)
 
 pub returns-then-m-lt-FEWEST : goal.returns-then-m-lt-FEWEST
 returns-then-m-lt-FEWEST c =

@@ -7,4 +7,4 @@ use Rattle.frequency_retain.specs.Retain.{Compacted}
 use Rattle.frequency_retain.proofs.compact_readings.Given as goal
 
 abbrev pub invariant-loop-i : goal.invariant-loop-i
-invariant-loop-i l = Compacted (take l.i (map (kept l.rate l.n) (ats l.initial.readings))) l.initial.readings l.w l.readings
+invariant-loop-i l = Compacted (take l.i (map (kept l.stream.rate l.stream.n) (ats l.initial.readings))) l.initial.readings l.w l.readings

@@ -10,8 +10,8 @@ use Rattle.frequency_retain.proofs.retain_looked.Goals.{In-Some}
 use Rattle.frequency_retain.proofs.retain_looked.Goals as goal
 
 -- what the look says of its number
-front : (c : In-Some) → let a = c.args in Leads (oldest_of a.rate a.n) c.in-Some.lead (ats a.readings.now)
-front c = rw c.in-Some.is at c.requires.3
+front : (c : In-Some) → let a = c.args in Leads (oldest_of a.stream.rate a.stream.n) c.in-Some.lead (ats a.readings.now)
+front c = rw c.in-Some.is at c.requires.1
 
 pub forget-requires : goal.forget-requires
 forget-requires c =
@@ -22,5 +22,5 @@ forget-requires c =
 pub returns : goal.returns
 returns c =
     let a = c.args in
-    front_goes a.rate a.n (oldest_of a.rate a.n) a.readings.now c.requires.2 (λ b h. kept_from a.rate c.requires.0 a.n b c.requires.1 h) c.in-Some.lead
+    front_goes a.stream.rate a.stream.n (oldest_of a.stream.rate a.stream.n) a.readings.now c.requires.0 (λ b h. kept_from a.stream.rate a.stream.right a.stream.n b a.stream.short h) c.in-Some.lead
     (front (goal.at.returns c).In-Some) _ _ c.forget.ensures.count c.forget.ensures.list

@@ -12,6 +12,6 @@ returns c =
     let o = c.oldest-oldest in
     let l = c.leading-lead in
     let e = o.ensures in
-    front_goes a.rate a.n (oldest_of a.rate a.n) a.readings.now c.requires.2 (λ b h. kept_from a.rate c.requires.0 a.n b c.requires.1 h) l.result
+    front_goes a.stream.rate a.stream.n (oldest_of a.stream.rate a.stream.n) a.readings.now c.requires (λ b h. kept_from a.stream.rate a.stream.right a.stream.n b a.stream.short h) l.result
     (subst (λ (z : ℕ). Leads z l.result (ats a.readings.now)) e (leads_of o.result l.result c.spread.result a.readings.now l.ensures.0 l.ensures.1 c.spread.ensures (omega (arith, e, c.if-spread-ge-FAR.false))))
     _ _ c.forget.ensures.count c.forget.ensures.list

@@ -10,9 +10,9 @@ returns-then-i-tunings c = rw (eq-eqb (c.args.i + 1) (length c.args.tunings.now)
 pub is_kept-requires : goal.is_kept-requires
 is_kept-requires c =
     let m = map_at (λ (u : Tuning). u.at) c.args.tunings.now (c.args.i + 1) _ 0 (omega arith) in
-    (c.requires.0, c.requires.1, subst (λ (z : ℕ). z ≤ 2 ^ 41) m (c.requires.3 (omega arith)))
+    (subst (λ (z : ℕ). z ≤ 2 ^ 41) m (c.requires.1 (omega arith)))
 
 pub returns : goal.returns
 returns c =
     rw (ne_eqb (c.args.i + 1) (length c.args.tunings.now) c.if-i-tunings.false)
-    (c.is_kept.ensures ∙ ap (kept c.args.rate c.args.n) (sym (map_at (λ (u : Tuning). u.at) c.args.tunings.now (c.args.i + 1) _ 0 (omega arith))))
+    (c.is_kept.ensures ∙ ap (kept c.args.stream.rate c.args.stream.n) (sym (map_at (λ (u : Tuning). u.at) c.args.tunings.now (c.args.i + 1) _ 0 (omega arith))))

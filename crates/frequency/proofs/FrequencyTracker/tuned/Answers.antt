@@ -1,8 +1,7 @@
-use Rattle.std.proofs.Common.{◌≡◌, ◌+◌, Option, ℕ, refl, sym, ap, ◌∙◌, arith, cond}
+use Rattle.std.proofs.Common.{Option, ℕ, refl, sym, ap, ◌∙◌, arith}
 use Rattle.limits.specs.Answer.{cause_of}
 use Rattle.limits.proofs.AnswerLaws.{cause_refused}
-use Rattle.frequency_lists.specs.Marks.{put}
-use Rattle.frequency.proofs.Tuned.{Fine, fine, new, made, tuned-state, tuned-lists}
+use Rattle.frequency.proofs.Tuned.{Fine, fine, made, tuned-state, tuned-lists}
 use Rattle.frequency.proofs.FrequencyTracker.tuned.Goals.{In_ok-check_tuned}
 use Rattle.frequency.proofs.FrequencyTracker.tuned.Goals as goal
 
