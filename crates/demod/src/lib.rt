@@ -43,7 +43,7 @@ fn depth_byte(depth: f64) -> u8
 
 impl DecodedFrame {
     // What its record has besides the frame: the burst starts at a sample.
-    fn reception(self, start: u64) -> Reception
+    pub fn reception(self, start: u64) -> Reception
         ensures { result ≡ reception_of self start }
     {
         Reception {

@@ -10,7 +10,8 @@ ghost use Rattle.receiver.specs.Calls.{received};
 ghost use Rattle.receiver.specs.Running.{Passes, Under, Closable, EndsBy, Ended, Answers, Addable, Adds, Added};
 
 use crate::SigfoxReceiver;
-use receiver_scan::Scanned;
+use limits::rated::Samples;
+use receiver_scan::{Held, Scanned};
 use receiver_waiting::Leaving;
 use shifts::Given;
 
@@ -34,7 +35,14 @@ fn scan_tail(
     requires { Lent rate base (tail rate) held.now events.old scratch.old × Within t.old }
     ensures { Does (scan_if rate (demod_of rate) (tail rate)) held.now base t.old events.old t.new events.new }
 {
-    receiver_scan::scan(held, rate, base, tail(rate), t, events, scratch);
+    let samples = Samples { dbm: held, rate };
+    let wait = tail(rate);
+    let held = Held {
+        samples,
+        base,
+        wait,
+    };
+    receiver_scan::scan(held, t, events, scratch);
 }
 
 // The end of a call on the state s: the messages that leave are written, the others kept (`expire`).
@@ -181,6 +189,15 @@ pub fn hear_all(
     let base = s.base;
     let unscanned = s.unscanned;
     let mut t = begin(s);
-    receiver_scan::scan(&samples[..held], s.rate, base, 0, &mut t, events, scratch);
+    let looked_at = Samples {
+        dbm: &samples[..held],
+        rate: s.rate,
+    };
+    let all = Held {
+        samples: looked_at,
+        base,
+        wait: 0,
+    };
+    receiver_scan::scan(all, &mut t, events, scratch);
     finish(s, held, base, unscanned, &t, Leaving::All, given, events)
 }
