@@ -1,12 +1,11 @@
 -- Laws of the bit clock, step by step. Assumes nothing.
-use Rattle.std.proofs.Common.{◌∙◌, sym, ◌≡◌, ℕ, ◌+◌, ◌-◌, ◌<◌, ◌≤◌, min, Bool, true, false, ltb, List, length, get_or, take, sym, refl, ⊎_elim, add-one, arith, take_all, ltb-false, le-leb}
+use Rattle.std.proofs.Common.{◌∙◌, sym, ◌≡◌, ℕ, ◌+◌, ◌-◌, ◌<◌, ◌≤◌, min, true, false, ltb, List, length, get_or, take, sym, ⊎_elim, add-one, arith, take_all, ltb-false, le-leb}
 use native.Mathlib.Nat.{min-eq_left, min-eq_right}
 use lib.Seq.{slice, slice-cons, slice_empty}
-use lib.Ieee.{Float, nan, binary64, add, lt, ne, is_nan}
+use lib.Ieee.{Float, nan, binary64, add, lt, is_nan}
 use borrow.Author.Tests.{lt-leb}
 use Rattle.floats.specs.Number.{num}
 use Rattle.floats.specs.Trig.{sine, cosine}
-use Rattle.floats.proofs.Floors.{nan_is, no_nan_is}
 use Rattle.clock.specs.declared.Clock.{Clock}
 use Rattle.clock.specs.declared.Step.TheVariants.{Lost, Skipped, Joined}
 use Rattle.clock.specs.Numbers.{anchors, refits, farthest_bit}
@@ -15,13 +14,6 @@ use Rattle.clock.specs.Running.{place, index_at, skips, summed, det, refitted, r
 use Rattle.dips.proofs.DipLaws.{lt_or_ge, or_right}
 
 -- ---- bit indexes
-
-pub nan-test : (x : Float) → ne x x ≡ is_nan x
-nan-test x = go (ne x x) (nan_is x) (no_nan_is x)
-  where
-    go : (t : Bool) → (t ≡ true → is_nan x ≡ true) → (t ≡ false → is_nan x ≡ false) → t ≡ is_nan x
-    go true f g = sym (f refl)
-    go false f g = sym (g refl)
 
 pub size_small : (k : Float) → lost k ≡ false → size_of k ≤ farthest_bit
 unfolding lost

@@ -93,8 +93,8 @@ pub fn anchor_of(dips: &[f64], nominal: f64) -> f64
     let end = dips.len().min(ANCHORS);
     let mut s = 0.0;
     let mut c = 0.0;
-    for i in 0..end {
-        let a = angle_of(nominal, d0, dips[i]);
+    for d in &dips[..end] {
+        let a = angle_of(nominal, d0, *d);
         s += floats::sin64(a);
         c += floats::cos64(a);
     }
@@ -118,7 +118,7 @@ impl BitIndex {
     fn new(k: f64) -> Option<Self>
         ensures { MatchOption result (lost k ≡ true) (λ i. i.k ≡ k) }
     {
-        let none = k != k;
+        let none = k.is_nan();
         let beyond = size_of(k) > FARTHEST_BIT;
         if none | beyond {
             return None;

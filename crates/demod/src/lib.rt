@@ -138,7 +138,7 @@ fn burst_ok(burst: Burst, t0: f64) -> bool
     let end = (burst.end as u64) <= limits::LONGEST_STREAM;
     let time = limits::time_ok(t0);
     let floor = limits::is_dbm(burst.floor_dbm);
-    let peak = burst.peak_dbm != burst.peak_dbm;
+    let peak = burst.peak_dbm.is_nan();
     start & (end & (time & (floor & !peak)))
 }
 
