@@ -80,10 +80,7 @@ pub fn found(b: Best, grip: f64, within: f64) -> Result<Option<usize>, Refusal>
     if !times {
         return Err(Refusal::BadTime);
     }
-    match b.nearest {
-        Some(nearest) => Ok(Some(nearest.number)),
-        None => Ok(None),
-    }
+    Ok(b.nearest.map(|m| m.number))
 }
 
 // The record number, from 0, frames counted, of the message whose time is nearest to the grip's, not over `within` seconds away, or none, or a refusal.
@@ -109,9 +106,7 @@ pub fn on_air(records: &[u8], x: f64, numbers: &mut [u32]) -> Result<usize, Refu
         return Err(Refusal::Long);
     }
     let mut marks = [0u8; MARKS];
-    if !spans::mark_all(records, x, &mut marks) {
-        return Err(Refusal::BadRecords);
-    }
+    spans::mark_all(records, x, &mut marks)?;
     if !x.is_finite() {
         return Err(Refusal::BadTime);
     }

@@ -6,6 +6,7 @@ ghost use Rattle.grip.specs.OnAir.{span_on, is_on_air, air_numbers};
 ghost use Rattle.grip.specs.Marks.{Unmarked, number_if, marked_of};
 
 use crate::marks;
+use limits::Refusal;
 use record::FrameSpan;
 use record::read::EventRecord;
 
@@ -30,10 +31,10 @@ fn is_on_air(x: f64, r: EventRecord) -> bool
     message & (first | (second | third))
 }
 
-// One pass over the records: each is tested for refusal 12, and marked where it is a message on air; whether 12 does not apply.
-pub fn mark_all(records: &[u8], x: f64, marks: &mut [u8]) -> bool
+// One pass over the records: each is tested for refusal 12, and marked where it is a message on air.
+pub fn mark_all(records: &[u8], x: f64, marks: &mut [u8]) -> Result<(), Refusal>
     requires { (wholes records.now ≤ 8 * length marks.old) × Unmarked marks.old }
-    ensures { (result ≡ list_ok records.now) × (marked_of (wholes records.now) marks.new ≡ air_numbers x records.now) }
+    ensures { (result ≡ cond (list_ok records.now) (Ok unit) (Err BadRecords)) × (marked_of (wholes records.now) marks.new ≡ air_numbers x records.now) }
 {
     let mut ok = records.len() % limits::RECORD == 0;
     for (i, r) in records.chunks_exact(limits::RECORD).enumerate() {
@@ -41,7 +42,10 @@ pub fn mark_all(records: &[u8], x: f64, marks: &mut [u8]) -> bool
         ok &= event_list::record_ok(event);
         marks::mark(marks, i, is_on_air(x, event));
     }
-    ok
+    if !ok {
+        return Err(Refusal::BadRecords);
+    }
+    Ok(())
 }
 
 // Record number i is noted behind the first n where it is marked.
