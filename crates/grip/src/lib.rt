@@ -80,7 +80,10 @@ pub fn found(b: Best, grip: f64, within: f64) -> Result<Option<usize>, Refusal>
     if !times {
         return Err(Refusal::BadTime);
     }
-    Ok(b.nearest.map(|m| m.number))
+    match b.nearest {
+        Some(nearest) => Ok(Some(nearest.number)),
+        None => Ok(None),
+    }
 }
 
 // The record number, from 0, frames counted, of the message whose time is nearest to the grip's, not over `within` seconds away, or none, or a refusal.
