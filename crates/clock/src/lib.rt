@@ -425,9 +425,7 @@ fn check<'a>(
     ensures cause { cause_of result ≡ bits_cause seg.now rate bits s32 s64 }
     ensures ok { IfOk result (λ s. (s.dbm.now ≡ seg.now) × (s.rate ≡ rate) × (most_bits ≤ bits) × (scratch64 ≤ s64)) }
 {
-    if !limits::rate_ok(rate) {
-        return Err(Refusal::BadRate);
-    }
+    limits::check_rate(rate)?;
     let narrow = s32 < limits::BUFFER_S * (rate as usize);
     if bits < limits::MOST_BITS || narrow || s64 < limits::SCRATCH64 {
         return Err(Refusal::Short);

@@ -155,9 +155,7 @@ fn check_burst<'a>(
     ensures cause { cause_of result ≡ decode_cause dbm.now rate burst t0 s32 s64 }
     ensures ok { IfOk result (λ s. (s.dbm.now ≡ dbm.now) × (s.rate ≡ rate) × (burst.start ≤ longest_stream) × (burst.end ≤ longest_stream) × (scratch64 ≤ s64)) }
 {
-    if !limits::rate_ok(rate) {
-        return Err(Refusal::BadRate);
-    }
+    limits::check_rate(rate)?;
     if s32 < limits::BUFFER_S * (rate as usize) || s64 < limits::SCRATCH64 {
         return Err(Refusal::Short);
     }
@@ -259,9 +257,7 @@ fn check_capture<'a>(
     ensures cause { cause_of result ≡ capture_cause dbm.now rate t0 floor room s32 s64 }
     ensures ok { IfOk result (λ s. (s.dbm.now ≡ dbm.now) × (s.rate ≡ rate) × (events_size ≤ room) × (scratch64 ≤ s64)) }
 {
-    if !limits::rate_ok(rate) {
-        return Err(Refusal::BadRate);
-    }
+    limits::check_rate(rate)?;
     let narrow = s32 < limits::BUFFER_S * (rate as usize);
     if room < limits::EVENTS || narrow || s64 < limits::SCRATCH64 {
         return Err(Refusal::Short);

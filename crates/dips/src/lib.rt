@@ -215,9 +215,7 @@ fn check<'a>(seg: &'a [f32], rate: u32, level: f64, room: usize) -> Result<Sampl
     ensures cause { cause_of result ≡ dip_cause seg.now rate level room }
     ensures ok { IfOk result (λ s. (s.dbm.now ≡ seg.now) × (s.rate ≡ rate) × (scratch64 ≤ room)) }
 {
-    if !limits::rate_ok(rate) {
-        return Err(Refusal::BadRate);
-    }
+    limits::check_rate(rate)?;
     if room < limits::SCRATCH64 {
         return Err(Refusal::Short);
     }
