@@ -3,7 +3,7 @@
 
 ghost use Rattle.std.specs.Prelude.{◌≡◌, true, ◌≤◌};
 ghost use Rattle.limits.specs.Answer.{cause_of};
-ghost use Rattle.shifts.specs.Shifts.{no_shifts, start_ok, window_ok, windows_ok, rising, shifts_ok, windows_of, in_range, farthest, second, among, holds, any_holds, mark_at, schedule, schedule_cause, mark_by};
+ghost use Rattle.shifts.specs.Shifts.{no_shifts, start_ok, window_ok, windows_ok, rising, shifts_ok, windows_of, in_range, farthest, second, among, holds, any_holds, mark_at, schedule, no_schedule, schedule_cause, mark_by};
 
 use limits::Refusal;
 
@@ -63,6 +63,16 @@ pub struct Given<'a> {
 }
 
 impl Given<'_> {
+    // No shifts, no closed date.
+    pub fn none() -> Self
+        ensures { schedule result ≡ no_schedule }
+    {
+        Self {
+            shifts: Shifts::none(),
+            closed: &[0u32; 0],
+        }
+    }
+
     // Whether refusal 11 does not apply.
     pub fn is_ok(&self) -> bool
         ensures { result ≡ shifts_ok self.now.shifts self.now.closed.now }
