@@ -11,7 +11,7 @@ ghost use Rattle.receiver_grown.specs.Grown.{Grown};
 
 use limits::Refusal;
 use receiver::{Lent, SigfoxReceiver};
-use shifts::{Given, Shifts};
+use shifts::Given;
 
 // Between two pushes: the receiver, how many records it wrote, and the refusal of the last call.
 #[derive(Clone, Copy)]
@@ -37,10 +37,7 @@ fn note(s: &mut State, answer: Result<usize, Refusal>)
 }
 
 fn flush(s: &mut State, lent: &mut Lent) {
-    let given = Given {
-        shifts: Shifts::none(),
-        closed: &[0u32; 0],
-    };
+    let given = Given::none();
     let answer = s.receiver.flush(&given, lent);
     note(s, answer);
 }
@@ -61,10 +58,7 @@ fn push(s: &mut State, proved: bool, raw: &[u8], lent: &mut Lent)
     requires { Grown s.old.receiver lent.old.samples.now }
     ensures { Grown s.new.receiver lent.new.samples.now }
 {
-    let given = Given {
-        shifts: Shifts::none(),
-        closed: &[0u32; 0],
-    };
+    let given = Given::none();
     if adds(&s.receiver, proved, raw, &given, lent) {
         s.receiver.add_raw(raw, &given, lent);
         s.refused = None;
@@ -112,15 +106,14 @@ fn main(rt: HostRuntime) {
         records: 0,
         refused: None,
     };
-    let mut left = replay::MOST_CASES;
-    let mut more = whole & (0 < step);
-    while left > 0 && more {
-        let mut raw = [0u8; 48000];
-        let n = reading::read_full(&rt, &mut raw);
-        more = n == 48000;
-        left -= 1;
-        if 0 < step && n <= 48000 {
+    if whole && 0 < step {
+        for _ in 0..replay::MOST_CASES {
+            let mut raw = [0u8; 48000];
+            let n = reading::read_full(&rt, &mut raw);
             push_chunk(&mut s, proved, &raw[..n], step, &mut lent);
+            if n < 48000 {
+                break;
+            }
         }
     }
     flush(&mut s, &mut lent);
