@@ -16,10 +16,10 @@ use record::read::EventRecord;
 fn span_on(x: f64, span: FrameSpan) -> bool
     ensures { result ≡ span_on x span }
 {
-    let none = span.rank == record::NO_RANK;
+    let there = span.is_there();
     let begun = span.time <= x;
     let open = x < span.end;
-    !none & (begun & open)
+    there & (begun & open)
 }
 
 fn is_on_air(x: f64, r: EventRecord) -> bool

@@ -23,10 +23,7 @@ fn bit_flags(bit: Option<bool>) -> u8
 fn known_flag(e: Option<f64>) -> u8
     ensures { (result ≡ known_flag e) × (result ≤ 32) }
 {
-    match e {
-        Some(_) => 32,
-        None => 0,
-    }
+    flag_if(32, e.is_some())
 }
 
 // Byte 2 of a frame.
@@ -94,8 +91,5 @@ pub fn repair_place(how: Option<Repair>) -> usize
 pub fn end_of(e: Option<f64>) -> f64
     ensures { result ≡ end_of e }
 {
-    match e {
-        Some(t) => t,
-        None => 0.0,
-    }
+    e.unwrap_or(0.0)
 }

@@ -121,7 +121,7 @@ pub fn put_span(out: &mut [u8], at: usize, s: FrameSpan)
     requires { at + 16 ≤ length out.old }
     ensures { out.new ≡ sets out.old at (span_bytes s) }
 {
-    if s.rank == 255 {
+    if !s.is_there() {
         put_spare(out, at, 16);
         return;
     }
