@@ -63,8 +63,8 @@ pub fn word(bits: &[u8], at: usize) -> u16
     ensures { result ≡ value (take sync_size (drop at (map odd bits.now))) }
 {
     let mut v: u16 = 0;
-    for j in 0..SYNC {
-        v = (v % 32768) * 2 + u16::from(bits[at + j]);
+    for b in &bits[at..at + SYNC] {
+        v = (v % 32768) * 2 + u16::from(*b);
     }
     v
 }
