@@ -109,8 +109,8 @@ fn put_sheet(table: &[DeviceRow], rows: &mut [i64])
     requires { 9 * length table.now ≤ length rows.old }
     ensures { rows.new ≡ sets rows.old 0 (nines (length table.now) (devices_in table.now) (rows_in table.now)) }
 {
-    for p in 0..table.len() {
-        put_nine(rows, NUMBERS * p, table[p].device, table[p].row);
+    for (p, entry) in table.iter().enumerate() {
+        put_nine(rows, NUMBERS * p, entry.device, entry.row);
     }
 }
 
