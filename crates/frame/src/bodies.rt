@@ -54,8 +54,8 @@ impl<'a> Body<'a> {
         let mut v: u8 = 0;
         let mut a = last % 2;
         let mut b = last / 2 % 2;
-        for j in 0..8 {
-            let x = coding::coded_bit(self.bits[from + j], self.kind.rank, a, b);
+        for bit in &self.bits[from..from + 8] {
+            let x = coding::coded_bit(*bit, self.kind.rank, a, b);
             v = (v % 128) * 2 + x;
             b = a;
             a = x;
