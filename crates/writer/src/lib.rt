@@ -101,10 +101,7 @@ fn frame_bytes(fields: UplinkFields, layout: Layout, payload: &[u8], auth: &[u8]
 fn bit_and_payload(bit: Option<bool>, n: usize) -> bool
     ensures { result ≡ bit_and_payload bit n }
 {
-    match bit {
-        Some(_) => n != 0,
-        None => false,
-    }
+    bit.is_some() && n != 0
 }
 
 // The three repetitions of an uplink into a lent slice, each at its rank's places; how many bits each has.
