@@ -10,8 +10,8 @@ use native.Mathlib.Numerals.{add-one}
 use lib.Dec.{ltb, leb, eqb}
 use lib.ListN.{length, take, drop, get_or, drop_of_length-le, length-drop}
 use lib.Seq.{drop-cons, take_all}
-use borrow.Author.Tests.{lt-ltb, le-ltb, eq-eqb, ne_eqb, ltb-true, leb-true}
-use Rattle.uplink.specs.Line.{space, word, rest, spaces, digit_of, are_digits, number_from, bytes_in}
+use borrow.Author.Tests.{eq-eqb, ne_eqb, ltb-true, leb-true}
+use Rattle.uplink.specs.Line.{space, word, rest, spaces, digit_of, number_from, bytes_in}
 
 pub here : (l : List ℕ) (i : ℕ) → i < length l → drop i l ≡ get_or l i 0 ∷ drop (i + 1) l
 here l i h = drop-cons l i 0 h ∙ ap (λ (j : ℕ). get_or l i 0 ∷ drop j l) (sym (add-one i))
@@ -131,19 +131,6 @@ module _ (c : ℕ) where
   is_other d f e = simp (d, f, e)
 
 -- ---- digits of a word
-
-module _ (base : ℕ) (l : List ℕ) (i d : ℕ) (h : i < length l) (v : d ≡ digit_of (get_or l i 0)) where
-  pub digits-turn : d < base → are_digits base (drop (i + 1) l) ≡ are_digits base (drop i l)
-  unfolding are_digits
-  digits-turn m = sym (ap (are_digits base) (here l i h) ∙ ap (λ (b : Bool). b && are_digits base (drop (i + 1) l)) (lt-ltb _ _ (omega arith)))
-
-  pub digits-stop : base ≤ d → false ≡ are_digits base (drop i l)
-  unfolding are_digits
-  digits-stop m = sym (ap (are_digits base) (here l i h) ∙ ap (λ (b : Bool). b && are_digits base (drop (i + 1) l)) (le-ltb _ _ (omega arith)))
-
-pub digits_end : (base : ℕ) (l : List ℕ) (i : ℕ) → length l ≤ i → true ≡ are_digits base (drop i l)
-unfolding are_digits
-digits_end base l i h = sym (ap (are_digits base) (drop_of_length-le l {i = i} h))
 
 pub number_end : (base most n : ℕ) (l : List ℕ) (i : ℕ) → length l ≤ i → number_from base most n (drop i l) ≡ n
 unfolding number_from

@@ -62,12 +62,7 @@ fn count_spaces(line: &[u8]) -> usize
 fn all_digits(w: &[u8], base: u8) -> bool
     ensures { result ≡ are_digits base w.now }
 {
-    for c in w {
-        if base <= digit_of(*c) {
-            return false;
-        }
-    }
-    true
+    w.iter().all(|c| digit_of(*c) < base)
 }
 
 // The number that a word's digits make.
@@ -158,10 +153,7 @@ fn is_bit(w: &[u8]) -> bool
 fn bit_in(w: &[u8]) -> Option<bool>
     ensures { result ≡ bit_in w.now }
 {
-    if is_bit(w) {
-        return Some(digit_of(w[3]) == 1);
-    }
-    None
+    is_bit(w).then(|| digit_of(w[3]) == 1)
 }
 
 fn is_payload(w: &[u8]) -> bool
