@@ -35,10 +35,7 @@ pub struct Given {
 
 // x, where the byte in front of it says that it is known.
 fn known<T: Copy>(flag: u8, x: T) -> Option<T> {
-    if flag == 0 {
-        return None;
-    }
-    Some(x)
+    (flag != 0).then_some(x)
 }
 
 // A field of each place, from the front on; how many numbers there are.
