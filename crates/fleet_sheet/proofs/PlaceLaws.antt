@@ -2,7 +2,7 @@
 use Rattle.std.proofs.Common.{◌≡◌, ℕ, zero, suc, ◌+◌, ◌-◌, ◌<◌, ◌≤◌, Bool, true, false, ◌&&◌, eqb, ltb, List, [], ◌∷◌, ◌++◌, length, get_or, take, drop, sym, refl, ap, ◌∙◌, subst, append_assoc, ⊎_elim, eq-or-lt_of_le, arith, length-append, length-drop, length-take-le, get_or-take, ltb-true, ltb-false, le-ltb, lt-ltb, eqb-true}
 use lib.ListN.{length-map}
 use lib.Seq.{slice, length-slice}
-use Rattle.core.specs.List.Sorted.{IsNonDecreasingBy, IsPartitionPoint}
+use Rattle.std.specs.List.Sorted.{IsNonDecreasingBy, IsPartitionPoint}
 use Rattle.std.specs.List.{copy_within}
 use Rattle.std.proofs.lemmas.List.{drop-take}
 use Rattle.limits.proofs.Samples.{and_left, and_right}
