@@ -31,14 +31,24 @@ fn exported(line: &str) -> Option<&str> {
     rest.strip_prefix("fn ")?.split(['(', '<']).next()
 }
 
+/// The name of the type in a line as `impl<'a> Given<'a> {`.
+fn implemented(line: &str) -> Option<&str> {
+    let rest = line.strip_prefix("impl")?;
+    let rest = match rest.strip_prefix('<') {
+        Some(parameters) => parameters.split_once("> ")?.1,
+        None => rest.strip_prefix(' ')?,
+    };
+    rest.split(['<', ' ']).next()
+}
+
 fn functions_of(folder: &Path, file: &Path) -> Vec<Function> {
     let source = text(file);
     let lines: Vec<&str> = source.lines().collect();
     let (mut of, mut found) = (module(folder, file), vec![]);
     let outside = of.clone();
     for (i, line) in lines.iter().enumerate() {
-        if let Some(of_type) = line.strip_prefix("impl ") {
-            of = format!("{outside}::{}", of_type.trim_end_matches(" {"));
+        if let Some(of_type) = implemented(line) {
+            of = format!("{outside}::{of_type}");
         } else if *line == "}" {
             of = outside.clone();
         } else if let Some(function) = exported(line) {

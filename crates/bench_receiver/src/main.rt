@@ -3,13 +3,15 @@
 
 ghost use Rattle.std.specs.Prelude.{◌≡◌, ◌<◌, true, length};
 ghost use Rattle.ledger.specs.Ledger.{push_raw};
+ghost use Rattle.shifts.specs.Shifts.{schedule};
+ghost use Rattle.receiver.specs.Calls.{memory};
 ghost use Rattle.receiver.specs.Running.{OnlyAdds};
 ghost use Rattle.receiver_grown.specs.InOrder.{InOrder};
 ghost use Rattle.receiver_grown.specs.Grown.{Grown};
 
 use limits::Refusal;
-use receiver::SigfoxReceiver;
-use shifts::Shifts;
+use receiver::{Lent, SigfoxReceiver};
+use shifts::Given;
 
 // Between two pushes: the receiver, how many records it wrote, and the refusal of the last call.
 #[derive(Clone, Copy)]
@@ -34,93 +36,44 @@ fn note(s: &mut State, answer: Result<usize, Refusal>)
     }
 }
 
-fn flush(
-    s: &mut State,
-    samples: &mut [f32; 48000],
-    events: &mut [u8; 30720],
-    scratch32: &mut [f32; 48000],
-    scratch64: &mut [f64; limits::SCRATCH64],
-) {
-    let shifts = Shifts::none();
-    let answer = s
-        .receiver
-        .flush(shifts, &[0u32; 0], samples, events, scratch32, scratch64);
+fn flush(s: &mut State, lent: &mut Lent) {
+    let given = Given::none();
+    let answer = s.receiver.flush(&given, lent);
     note(s, answer);
 }
 
 // Whether a push only adds its samples: by what the calls before it promise where that is proved, else after a test of all that is held.
-fn adds(
-    receiver: &SigfoxReceiver,
-    proved: bool,
-    raw: &[u8],
-    shifts: Shifts,
-    closed: &[u32],
-    samples: &[f32],
-    events: &[u8],
-    scratch32: &[f32],
-    scratch64: &[f64],
-) -> bool
-    requires { InOrder receiver.now samples.now }
-    ensures { result ≡ true → OnlyAdds receiver.now (push_raw raw.now) (record { shifts = shifts; closed = closed.now }) (length raw.now)
-        (record { samples = samples.entry.now; events = events.now; scratch32 = scratch32.now; scratch64 = scratch64.now }) }
+fn adds(receiver: &SigfoxReceiver, proved: bool, raw: &[u8], given: &Given, lent: &Lent) -> bool
+    requires { InOrder receiver.now lent.now.samples.now }
+    ensures { result ≡ true → OnlyAdds receiver.now (push_raw raw.now) (schedule given.now) (length raw.now) (memory lent.now) }
 {
     if proved {
-        return receiver_grown::adds_raw(
-            receiver, raw, shifts, closed, samples, events, scratch32, scratch64,
-        );
+        return receiver_grown::adds_raw(receiver, raw, given, lent);
     }
-    receiver.adds_raw(raw, shifts, closed, samples, events, scratch32, scratch64)
+    receiver.adds_raw(raw, given, lent)
 }
 
 // One push.
-fn push(
-    s: &mut State,
-    proved: bool,
-    raw: &[u8],
-    samples: &mut [f32; 48000],
-    events: &mut [u8; 30720],
-    scratch32: &mut [f32; 48000],
-    scratch64: &mut [f64; limits::SCRATCH64],
-)
-    requires { Grown s.old.receiver samples.old }
-    ensures { Grown s.new.receiver samples.new }
+fn push(s: &mut State, proved: bool, raw: &[u8], lent: &mut Lent)
+    requires { Grown s.old.receiver lent.old.samples.now }
+    ensures { Grown s.new.receiver lent.new.samples.now }
 {
-    let shifts = Shifts::none();
-    let closed = [0u32; 0];
-    if adds(
-        &s.receiver,
-        proved,
-        raw,
-        shifts,
-        &closed,
-        samples,
-        events,
-        scratch32,
-        scratch64,
-    ) {
-        s.receiver.add_raw(raw, shifts, &closed, samples, events, scratch32, scratch64);
+    let given = Given::none();
+    if adds(&s.receiver, proved, raw, &given, lent) {
+        s.receiver.add_raw(raw, &given, lent);
         s.refused = None;
         return;
     }
-    let answer = s.receiver.push_raw(raw, shifts, &closed, samples, events, scratch32, scratch64);
+    let answer = s.receiver.push_raw(raw, &given, lent);
     note(s, answer);
 }
 
-fn push_chunk(
-    s: &mut State,
-    proved: bool,
-    raw: &[u8],
-    step: usize,
-    samples: &mut [f32; 48000],
-    events: &mut [u8; 30720],
-    scratch32: &mut [f32; 48000],
-    scratch64: &mut [f64; limits::SCRATCH64],
-)
-    requires { (0 < step) × Grown s.old.receiver samples.old }
-    ensures { Grown s.new.receiver samples.new }
+fn push_chunk(s: &mut State, proved: bool, raw: &[u8], step: usize, lent: &mut Lent)
+    requires { (0 < step) × Grown s.old.receiver lent.old.samples.now }
+    ensures { Grown s.new.receiver lent.new.samples.now }
 {
     for part in raw.chunks(step) {
-        push(s, proved, part, samples, events, scratch32, scratch64);
+        push(s, proved, part, lent);
     }
 }
 
@@ -137,8 +90,14 @@ fn main(rt: HostRuntime) {
     let mut events = [0u8; 30720];
     let mut scratch32 = [0.0f32; 48000];
     let mut scratch64 = [0.0f64; limits::SCRATCH64];
+    let mut lent = Lent {
+        samples: &mut samples,
+        events: &mut events,
+        scratch32: &mut scratch32,
+        scratch64: &mut scratch64,
+    };
     let mut head = [0u8; 12];
-    let whole = replay::read_part(&rt, &mut head);
+    let whole = replay::read_part(&rt, &mut head).is_ok();
     let receiver = SigfoxReceiver::new(endian::get::<u32>(&head, 0));
     let step = endian::get::<u32>(&head, 4) as usize;
     let proved = 0 < endian::get::<u32>(&head, 8);
@@ -147,32 +106,16 @@ fn main(rt: HostRuntime) {
         records: 0,
         refused: None,
     };
-    let mut left = replay::MOST_CASES;
-    let mut more = whole & (0 < step);
-    while left > 0 && more {
-        let mut raw = [0u8; 48000];
-        let n = reading::read_full(&rt, &mut raw);
-        more = n == 48000;
-        left -= 1;
-        if 0 < step && n <= 48000 {
-            push_chunk(
-                &mut s,
-                proved,
-                &raw[..n],
-                step,
-                &mut samples,
-                &mut events,
-                &mut scratch32,
-                &mut scratch64,
-            );
+    if whole && 0 < step {
+        for _ in 0..replay::MOST_CASES {
+            let mut raw = [0u8; 48000];
+            let n = reading::read_full(&rt, &mut raw);
+            push_chunk(&mut s, proved, &raw[..n], step, &mut lent);
+            if n < 48000 {
+                break;
+            }
         }
     }
-    flush(
-        &mut s,
-        &mut samples,
-        &mut events,
-        &mut scratch32,
-        &mut scratch64,
-    );
+    flush(&mut s, &mut lent);
     print_totals(&rt, s.records, s.refused);
 }

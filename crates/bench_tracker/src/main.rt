@@ -2,25 +2,29 @@
 // are made for each of them, or `samples` and `cfo` alone; and whether by the public calls, or by those of a tracker that is known to be in order.
 #![tactic(auto)]
 
-ghost use Rattle.std.specs.Prelude.{◌≡◌, List, ℕ, ◌≤◌, ◌<◌, Float};
+ghost use Rattle.std.specs.Prelude.{◌≡◌, List, ℕ, Float, length, IfOk};
 ghost use Rattle.limits.specs.Answer.{cause_of};
 ghost use Rattle.frequency.specs.Lent.{Lists, lists};
 ghost use Rattle.frequency.specs.Calls.{SamplesEnd, CfoEnd, NextEnd, tune_of};
 ghost use Rattle.frequency_grown.specs.Rising.{Single};
 
 use frequency::FrequencyTracker;
+use frequency_lists::{Reading, Tuning};
 use limits::Refusal;
+use replay::Unanswered;
 
 const RATE: u32 = 1000;
 
 const STEP_HZ: f64 = 122.0703125;
 
-// Between two records: whether all calls are made, whether by what is known of the tracker, whether there may be another record, whether there was one, and the tracker.
+// Bytes of a record.
+const RECORD: usize = 16;
+
+// Between two records: whether all calls are made, whether by what is known of the tracker, whether there was a record, and the tracker.
 #[derive(Clone, Copy)]
 struct State {
     all: bool,
     known: bool,
-    open: bool,
     started: bool,
     tracker: FrequencyTracker,
 }
@@ -33,21 +37,13 @@ fn print_tune(rt: &impl Print, f: Option<u32>) {
     }
 }
 
-fn dbm_of(raw: u8) -> f32 {
-    -(raw as f32) / 2.0
-}
-
-fn levels(record: &[u8; 16]) -> [f32; 8] {
-    [
-        dbm_of(record[0]),
-        dbm_of(record[1]),
-        dbm_of(record[2]),
-        dbm_of(record[3]),
-        dbm_of(record[4]),
-        dbm_of(record[5]),
-        dbm_of(record[6]),
-        dbm_of(record[7]),
-    ]
+// A record's samples in dBm.
+fn levels(record: &[u8]) -> [f32; 8] {
+    let mut dbm = [0.0f32; 8];
+    for (x, raw) in dbm.iter_mut().zip(record) {
+        *x = -(*raw as f32) / 2.0;
+    }
+    dbm
 }
 
 // The tracker of the first record's frequency, where there was no record before.
@@ -68,19 +64,16 @@ fn sampled(
     t: &mut FrequencyTracker,
     known: bool,
     dbm: &[f32],
-    at: &mut [u64],
-    lo: &mut [u32],
-    hz: &mut [f64],
-    tunings: &mut [u64],
-    freqs: &mut [u32],
+    readings: &mut [Reading],
+    tunings: &mut [Tuning],
 ) -> Result<(), Refusal>
-    requires { Single t.old (lists at.old lo.old hz.old tunings.old freqs.old) }
-    ensures { SamplesEnd t.old dbm.now (lists at.old lo.old hz.old tunings.old freqs.old) (cause_of result) t.new (lists at.new lo.new hz.new tunings.new freqs.new) }
+    requires { Single t.old (lists readings.old tunings.old) }
+    ensures { SamplesEnd t.old dbm.now (lists readings.old tunings.old) (cause_of result) t.new (lists readings.new tunings.new) }
 {
     if known {
-        return frequency_grown::samples_rising(t, dbm, at, lo, hz, tunings, freqs);
+        return frequency_grown::samples_rising(t, dbm, readings, tunings);
     }
-    t.samples(dbm, at, lo, hz, tunings, freqs)
+    t.samples(dbm, readings, tunings)
 }
 
 // A register value, by one of the two ways.
@@ -88,204 +81,158 @@ fn read(
     t: &mut FrequencyTracker,
     known: bool,
     raw: &[u16],
-    at: &mut [u64],
-    lo: &mut [u32],
-    hz: &mut [f64],
-    tunings: &[u64],
-    freqs: &[u32],
+    readings: &mut [Reading],
+    tunings: &[Tuning],
 ) -> Result<(), Refusal>
-    requires { Single t.old (lists at.old lo.old hz.old tunings.now freqs.now) }
-    ensures { CfoEnd t.old raw.now (lists at.old lo.old hz.old tunings.now freqs.now) (cause_of result) t.new (lists at.new lo.new hz.new tunings.now freqs.now) }
+    requires { Single t.old (lists readings.old tunings.now) }
+    ensures { CfoEnd t.old raw.now (lists readings.old tunings.now) (cause_of result) t.new (lists readings.new tunings.now) }
 {
     if known {
-        return frequency_grown::cfo(t, raw, at, lo, hz, tunings, freqs);
+        return frequency_grown::cfo(t, raw, readings, tunings);
     }
-    t.cfo(raw, at, lo, hz, tunings, freqs)
+    t.cfo(raw, readings, tunings)
 }
 
 // Where to tune, by one of the two ways.
 fn chosen(
     t: &mut FrequencyTracker,
     known: bool,
-    at: &[u64],
-    lo: &[u32],
-    hz: &[f64],
-    tunings: &[u64],
-    freqs: &[u32],
+    readings: &[Reading],
+    tunings: &[Tuning],
     scratch: &mut [f64],
 ) -> Result<Option<u32>, Refusal>
-    requires { Single t.old (lists at.now lo.now hz.now tunings.now freqs.now) }
-    ensures { NextEnd t.old (lists at.now lo.now hz.now tunings.now freqs.now) scratch.old (cause_of result) t.new (tune_of result) scratch.new }
+    requires { Single t.old (lists readings.now tunings.now) }
+    ensures { NextEnd t.old (lists readings.now tunings.now) scratch.old (cause_of result) t.new (tune_of result) scratch.new }
 {
     if known {
-        return frequency_grown::next_tuning(t, at, lo, hz, tunings, freqs, scratch);
+        return frequency_grown::next_tuning(t, readings, tunings, scratch);
     }
-    t.next_tuning(at, lo, hz, tunings, freqs, scratch)
+    t.next_tuning(readings, tunings, scratch)
 }
 
 // The record's samples and its register value.
 fn heard(
     t: &mut FrequencyTracker,
     known: bool,
-    record: &[u8; 16],
-    at: &mut [u64; 8000],
-    lo: &mut [u32; 8000],
-    hz: &mut [f64; 8000],
-    tunings: &mut [u64; 64],
-    freqs: &mut [u32; 64],
+    record: &[u8],
+    readings: &mut [Reading; 8000],
+    tunings: &mut [Tuning; 64],
 ) -> Result<(), Refusal>
-    requires { Single t.old (lists at.old lo.old hz.old tunings.old freqs.old) }
-    ensures { Single t.new (lists at.new lo.new hz.new tunings.new freqs.new) }
+    requires { (length record.now ≡ 16) × Single t.old (lists readings.old tunings.old) }
+    ensures { Single t.new (lists readings.new tunings.new) }
 {
     let value = [endian::get::<u16>(record, 8)];
     let dbm = levels(record);
-    sampled(t, known, &dbm, at, lo, hz, tunings, freqs)?;
-    read(t, known, &value, at, lo, hz, tunings, freqs)
+    sampled(t, known, &dbm, readings, tunings)?;
+    read(t, known, &value, readings, tunings)
 }
 
 // The calls of one record.
 fn record_calls(
     rt: &impl Print,
     s: &mut State,
-    record: &[u8; 16],
-    at: &mut [u64; 8000],
-    lo: &mut [u32; 8000],
-    hz: &mut [f64; 8000],
-    tunings: &mut [u64; 64],
-    freqs: &mut [u32; 64],
+    record: &[u8],
+    readings: &mut [Reading; 8000],
+    tunings: &mut [Tuning; 64],
     scratch: &mut [f64; 8000],
 ) -> Result<(), Refusal>
-    requires { Single s.old.tracker (lists at.old lo.old hz.old tunings.old freqs.old) }
-    ensures { Single s.new.tracker (lists at.new lo.new hz.new tunings.new freqs.new) }
+    requires { (length record.now ≡ 16) × Single s.old.tracker (lists readings.old tunings.old) }
+    ensures { Single s.new.tracker (lists readings.new tunings.new) }
 {
     let freq = endian::get::<u32>(record, 10);
     begin(s, freq);
     if s.all {
-        s.tracker.tuned(freq, tunings, freqs)?;
+        s.tracker.tuned(freq, tunings)?;
     }
-    heard(&mut s.tracker, s.known, record, at, lo, hz, tunings, freqs)?;
+    heard(&mut s.tracker, s.known, record, readings, tunings)?;
     if s.all {
-        let tune = chosen(&mut s.tracker, s.known, at, lo, hz, tunings, freqs, scratch)?;
+        let tune = chosen(&mut s.tracker, s.known, readings, tunings, scratch)?;
         print_tune(rt, tune);
     }
     Ok(())
 }
 
 // The last line: samples, readings and tunings.
-fn end(rt: &impl Print, s: &mut State)
-    ensures { s.new.tracker ≡ s.old.tracker }
-{
-    if s.open {
-        replay::print(rt, b"E ");
-        replay::print_number(rt, s.tracker.signal.n);
-        replay::print(rt, b" ");
-        replay::print_number(rt, s.tracker.readings as u64);
-        replay::print(rt, b" ");
-        replay::print_number(rt, s.tracker.tunings as u64);
-        replay::print_end(rt);
-        s.open = false;
-    }
+fn print_last(rt: &impl Print, t: &FrequencyTracker) {
+    replay::print(rt, b"E ");
+    replay::print_number(rt, t.signal.n);
+    replay::print(rt, b" ");
+    replay::print_number(rt, t.readings as u64);
+    replay::print(rt, b" ");
+    replay::print_number(rt, t.tunings as u64);
+    replay::print_end(rt);
 }
 
-// One of the records of a block.
-fn record_of(block: &[u8; 4096], i: usize) -> [u8; 16]
-    requires { i < 256 }
-{
-    let mut record = [0u8; 16];
-    record.copy_from_slice(&block[16 * i..16 * i + 16]);
-    record
-}
-
-// The first `count` records of a block; nothing after a refusal.
-fn records(
+// The whole records of a block; nothing after a refusal.
+fn hear(
     rt: &impl Print,
     s: &mut State,
-    block: &[u8; 4096],
-    count: usize,
-    at: &mut [u64; 8000],
-    lo: &mut [u32; 8000],
-    hz: &mut [f64; 8000],
-    tunings: &mut [u64; 64],
-    freqs: &mut [u32; 64],
+    block: &[u8],
+    readings: &mut [Reading; 8000],
+    tunings: &mut [Tuning; 64],
     scratch: &mut [f64; 8000],
-)
-    requires { (count ≤ 256) × Single s.old.tracker (lists at.old lo.old hz.old tunings.old freqs.old) }
-    ensures { Single s.new.tracker (lists at.new lo.new hz.new tunings.new freqs.new) }
+) -> Result<(), Refusal>
+    requires { Single s.old.tracker (lists readings.old tunings.old) }
+    ensures { Single s.new.tracker (lists readings.new tunings.new) }
 {
-    for i in 0..count {
-        if !s.open {
-            return;
-        }
-        let record = record_of(block, i);
-        if let Err(refusal) = record_calls(rt, s, &record, at, lo, hz, tunings, freqs, scratch) {
-            s.open = false;
-            replay::print_refusal(rt, refusal);
-        }
+    for record in block.chunks_exact(RECORD) {
+        record_calls(rt, s, record, readings, tunings, scratch)?;
     }
+    Ok(())
 }
 
-// The records of the next block.
-fn turn(
+// The whole input.
+fn hear_all(
     rt: &(impl Input + Print),
     s: &mut State,
-    at: &mut [u64; 8000],
-    lo: &mut [u32; 8000],
-    hz: &mut [f64; 8000],
-    tunings: &mut [u64; 64],
-    freqs: &mut [u32; 64],
+    readings: &mut [Reading; 8000],
+    tunings: &mut [Tuning; 64],
     scratch: &mut [f64; 8000],
-)
-    requires { Single s.old.tracker (lists at.old lo.old hz.old tunings.old freqs.old) }
-    ensures { Single s.new.tracker (lists at.new lo.new hz.new tunings.new freqs.new) }
+) -> Result<(), Refusal>
+    requires { Single s.old.tracker (lists readings.old tunings.old) }
 {
-    let mut block = [0u8; 4096];
-    let n = reading::read_full(rt, &mut block);
-    if n == 4096 {
-        records(rt, s, &block, 256, at, lo, hz, tunings, freqs, scratch);
-    } else {
-        records(rt, s, &block, n / 16, at, lo, hz, tunings, freqs, scratch);
-        end(rt, s);
+    for _ in 0..replay::MOST_CASES {
+        let mut block = [0u8; 4096];
+        let n = reading::read_full(rt, &mut block);
+        hear(rt, s, &block[..n], readings, tunings, scratch)?;
+        if n < 4096 {
+            print_last(rt, &s.tracker);
+            break;
+        }
     }
+    Ok(())
 }
 
-fn start(rt: &impl Input, tracker: FrequencyTracker) -> State
-    ensures { result.tracker ≡ tracker }
+fn start(rt: &impl Input, tracker: FrequencyTracker) -> Result<State, Unanswered>
+    ensures { IfOk result (λ s. s.tracker ≡ tracker) }
 {
     let mut first = [0u8; 2];
-    let there = replay::read_part(rt, &mut first);
-    State {
+    replay::read_part(rt, &mut first)?;
+    Ok(State {
         all: first[0] != 0,
         known: first[1] != 0,
-        open: there,
         started: false,
         tracker,
-    }
+    })
 }
 
 fn main(rt: HostRuntime) {
-    let mut at = [0u64; 8000];
-    let mut lo = [0u32; 8000];
-    let mut hz = [0.0f64; 8000];
-    let mut tunings = [0u64; 64];
-    let mut freqs = [0u32; 64];
+    let no_reading = Reading {
+        at: 0,
+        lo: 0,
+        hz: 0.0,
+    };
+    let no_tuning = Tuning { at: 0, freq: 0 };
+    let mut readings = [no_reading; 8000];
+    let mut tunings = [no_tuning; 64];
     let mut scratch = [0.0f64; 8000];
     let Ok(tracker) = FrequencyTracker::new(RATE, 0, STEP_HZ) else {
         return;
     };
-    let mut s = start(&rt, tracker);
-    for _ in 0..replay::MOST_CASES {
-        if !s.open {
-            return;
-        }
-        turn(
-            &rt,
-            &mut s,
-            &mut at,
-            &mut lo,
-            &mut hz,
-            &mut tunings,
-            &mut freqs,
-            &mut scratch,
-        );
+    let Ok(mut s) = start(&rt, tracker) else {
+        return;
+    };
+    if let Err(refusal) = hear_all(&rt, &mut s, &mut readings, &mut tunings, &mut scratch) {
+        replay::print_refusal(&rt, refusal);
     }
 }

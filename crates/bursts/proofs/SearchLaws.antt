@@ -1,12 +1,50 @@
 -- The search for the first burst at or after an index, cluster by cluster. Assumes nothing.
-use Rattle.std.proofs.Common.{◌≡◌, ℕ, ◌+◌, ◌<◌, ◌≤◌, Bool, true, false, cond, List, ◌∷◌, length, sym, refl, ap, ◌∙◌, add-one, arith, le-leb, Option, None, Some}
-use lib.Ieee.{Float}
+use Rattle.std.proofs.Common.{◌≡◌, ℕ, zero, suc, ◌+◌, ◌-◌, ◌<◌, ◌≤◌, Bool, true, false, cond, List, ◌∷◌, length, get_or, take, drop, length-drop, sym, refl, ap, ◌∙◌, add-one, arith, le-leb, Option, None, Some}
+use lib.Ieee.{Float, nan}
+use lib.Seq.{get_or-drop, take-length}
+use Rattle.std.specs.List.{position, position_or_len}
+use Rattle.std.proofs.lemmas.Grind.{common_steps}
+use Rattle.std.proofs.lemmas.List.Quantifiers.{position-Some}
+use Rattle.std.proofs.lemmas.List.Sums.{fails_before_first}
 use borrow.Author.Tests.{lt-leb}
-use Rattle.bursts.specs.Bursts.{Cluster, cluster, none, long_enough, threshold, gap_samples, burst_of, bursts_in, bursts_of, first_from}
+use Rattle.bursts.specs.Bursts.{Cluster, cluster, none, loud, long_enough, threshold, gap_samples, burst_of, bursts_in, bursts_of, first_from}
 use Rattle.bursts.specs.Found.{bursts_from, FirstLoud, LastLoud}
 use Rattle.bursts.specs.declared.BurstOptions.{BurstOptions}
 use Rattle.bursts.specs.declared.Burst.{Burst}
-use Rattle.bursts.proofs.ClusterLaws.{left, left_end, opened}
+use Rattle.bursts.proofs.ClusterLaws.{left, left_end, quiet-passed, opened}
+
+module _ (t : Float) (l : List Float) (from : ℕ) where
+  -- quiet samples from an index on open no cluster
+  all_quiet : (gap k : ℕ) → from + k ≤ length l → ((j : ℕ) → j < k → loud t (get_or (drop from l) j nan) ≡ false) → left t gap l none from ≡ left t gap l none (from + k)
+  all_quiet gap zero h q = let e : from ≡ from + 0 = omega arith in ap (λ (n : ℕ). left t gap l none n) e
+  all_quiet gap (suc k) h q =
+      let e : from + k + 1 ≡ from + suc k = omega arith in
+      all_quiet gap k (omega arith) (λ j lt. q j (omega arith))
+      ∙ quiet-passed t gap l (from + k) (omega arith) (ap (loud t) (sym (get_or-drop from l k nan)) ∙ q k (omega arith))
+      ∙ ap (λ (n : ℕ). left t gap l none n) e
+
+  ahead : take (length l - from) (drop from l) ≡ drop from l
+  ahead = ap (λ (n : ℕ). take n (drop from l)) (sym (length-drop from l)) ∙ take-length (drop from l)
+
+  module _ (h : from ≤ length l) where
+    pub first-found : (k : ℕ) → position (loud t) (take (length l - from) (drop from l)) ≡ Some k → FirstLoud t l from (from + k) × (from + k < length l)
+    first-found k e =
+        let f = position-Some (loud t) (drop from l) k nan (ap (position (loud t)) (sym ahead) ∙ e) in
+        let m : from + k < length l = omega (arith, length-drop from l, f.0) in
+        (record { passed = λ gap. all_quiet gap k (omega arith) f.2; after = omega arith; inside = omega arith; there = λ g. ap (loud t) (sym (get_or-drop from l k nan)) ∙ f.1 }, m)
+
+    pub first_none : position (loud t) (take (length l - from) (drop from l)) ≡ None → FirstLoud t l from (length l)
+    first_none e =
+        let z : position (loud t) (drop from l) ≡ None = ap (position (loud t)) (sym ahead) ∙ e in
+        let n = length l - from in
+        let b : length (drop from l) ≤ position_or_len (loud t) (drop from l) = grind (arith, common_steps) in
+        let m : from + n ≡ length l = omega arith in
+        record {
+          passed = λ gap. all_quiet gap n (omega arith) (λ j lt. fails_before_first (loud t) (drop from l) j nan (omega (arith, b, length-drop from l))) ∙ ap (λ (k : ℕ). left t gap l none k) m;
+          after = h;
+          inside = omega arith;
+          there = λ g. absurd (omega arith);
+        }
 
 module _ (dbm : List Float) (rate : ℕ) (o : BurstOptions) (floor : Float) where
   -- from index 0 on it is the whole list

@@ -1,8 +1,7 @@
 // The noise floor, and the bursts that stand over it (demod.rs `noise_floor`, `find_bursts`).
 #![tactic(auto)]
 
-ghost use Rattle.std.specs.Prelude.{◌≡◌, ◌<◌, ◌≤◌, true, length, slice_index_or};
-ghost use Rattle.std.specs.Float.{nan};
+ghost use Rattle.std.specs.Prelude.{◌≡◌, ◌<◌, ◌≤◌, true, length, position};
 ghost use Rattle.floats.specs.Fold.{max_from};
 ghost use Rattle.limits.specs.Limits.{most_samples};
 ghost use Rattle.limits.specs.Samples.{all_dbm};
@@ -10,7 +9,7 @@ ghost use Rattle.limits.specs.Answer.{said, cause_of};
 ghost use Rattle.bursts.specs.Numbers.{lowest_peak};
 ghost use Rattle.bursts.specs.Levels.{noise_floor, floor_cause, floor_answer};
 ghost use Rattle.bursts.specs.Bursts.{default_options, loud, cluster, long_enough, gap_samples, burst_of, first_from, inside, options_ok, burst_cause, burst_answer};
-ghost use Rattle.bursts.specs.Found.{bursts_from, FirstLoud, LastLoud};
+ghost use Rattle.bursts.specs.Found.{bursts_from, LastLoud};
 
 use limits::Refusal;
 use limits::rated::Samples;
@@ -65,6 +64,21 @@ impl BurstOptions {
             gap_ms: Self::GAP_MS,
         }
     }
+
+    // The quiet samples that a cluster bridges.
+    fn gap_samples(self, rate: u32) -> usize
+        ensures { result ≡ gap_samples self rate }
+    {
+        floats::to_usize_saturating(floats::round_half_up(self.gap_ms / MS_PER_S * (rate as f64)))
+    }
+
+    // Whether a cluster is as long as a burst must be.
+    fn is_long(self, rate: u32, first: usize, last: usize) -> bool
+        requires { (first ≤ last) × (last ≤ most_samples) }
+        ensures { result ≡ long_enough self rate (cluster first last) }
+    {
+        floats::count_as_f64(last - first) / (rate as f64) >= self.min_ms / MS_PER_S
+    }
 }
 
 // The noise floor of valid samples.
@@ -104,25 +118,18 @@ pub fn noise_floor(dbm: &[f32], scratch: &mut [f32]) -> Result<f32, Refusal>
     Ok(measured_floor(dbm))
 }
 
-// f64::from(dbm[i]) > threshold
-fn loud_at(dbm: &[f32], i: usize, threshold: f64) -> bool
-    requires { i < length dbm.now }
-    ensures { result ≡ loud threshold (slice_index_or dbm.now i nan) }
+// f64::from(x) > threshold
+fn is_loud(x: f32, threshold: f64) -> bool
+    ensures { result ≡ loud threshold x }
 {
-    std::num::f32_to_f64_with_nan(dbm[i]) > threshold
+    std::num::f32_to_f64_with_nan(x) > threshold
 }
 
-// The first loud sample at or after an index, the length where there is none.
-fn first_loud(dbm: &[f32], threshold: f64, from: usize) -> usize
-    requires { from ≤ length dbm.now }
-    ensures { FirstLoud threshold dbm.now from result }
+// The first loud sample.
+fn first_loud(dbm: &[f32], threshold: f64) -> Option<usize>
+    ensures { result ≡ position (loud threshold) dbm.now }
 {
-    for i in from..dbm.len() {
-        if loud_at(dbm, i, threshold) {
-            return i;
-        }
-    }
-    dbm.len()
+    dbm.iter().position(|x| is_loud(*x, threshold))
 }
 
 // The last loud sample of the cluster whose first one is given.
@@ -132,7 +139,7 @@ fn last_loud(dbm: &[f32], threshold: f64, gap: usize, first: usize) -> usize
 {
     let mut last = first;
     for i in first + 1..dbm.len() {
-        if loud_at(dbm, i, threshold) {
+        if is_loud(dbm[i], threshold) {
             last = i;
         } else if gap < i - last {
             return last;
@@ -167,21 +174,6 @@ fn options_ok(options: BurstOptions, floor: f32) -> bool
     above & (min & (gap & level))
 }
 
-// The quiet samples that a cluster bridges.
-fn gap_samples(options: BurstOptions, rate: u32) -> usize
-    ensures { result ≡ gap_samples options rate }
-{
-    floats::to_usize_saturating(floats::round_half_up(options.gap_ms / MS_PER_S * (rate as f64)))
-}
-
-// Whether a cluster is as long as a burst must be.
-fn is_long(options: BurstOptions, rate: u32, first: usize, last: usize) -> bool
-    requires { (first ≤ last) × (last ≤ most_samples) }
-    ensures { result ≡ long_enough options rate (cluster first last) }
-{
-    floats::count_as_f64(last - first) / (rate as f64) >= options.min_ms / MS_PER_S
-}
-
 fn burst_of(dbm: &[f32], first: usize, last: usize, floor: f32) -> Burst
     requires { (first ≤ last) × (last < length dbm.now) }
     ensures { result ≡ burst_of dbm.now floor (cluster first last) }
@@ -209,16 +201,13 @@ pub fn search_bursts(
     ensures { result ≡ first_from from (bursts_from dbm.now rate options floor at) }
 {
     let threshold = std::num::f32_to_f64_with_nan(floor) + options.above_db;
-    let gap = gap_samples(options, rate);
+    let gap = options.gap_samples(rate);
     let mut i = at;
     while i < dbm.len() {
-        let first = first_loud(dbm, threshold, i);
-        if first == dbm.len() {
-            return None;
-        }
+        let first = i + first_loud(&dbm[i..], threshold)?;
         let last = last_loud(dbm, threshold, gap, first);
         if from <= first {
-            if is_long(options, rate, first, last) {
+            if options.is_long(rate, first, last) {
                 return Some(burst_of(dbm, first, last, floor));
             }
         }

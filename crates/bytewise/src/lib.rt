@@ -109,6 +109,6 @@ pub fn deconvolve_bytes(
 {
     check(bytes, rest, rank, out.len(), out_rest.len())?;
     let s = undo_into(bytes, rank, number_of(start), out);
-    let end = coding::code_from(rest, rank, true, s, out_rest);
+    let end = coding::deconvolve_from(rest, rank, s, out_rest);
     Ok(state_of(end))
 }

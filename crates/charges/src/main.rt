@@ -3,19 +3,18 @@
 
 mod words; // a number in an argument
 
-ghost use Rattle.std.specs.Prelude.{◌≡◌, ◌≤◌, length};
 ghost use Rattle.event_list.specs.Events.{most_records};
 ghost use Rattle.subscription.specs.Counting.{Few};
 
 use limits::Refusal;
 use std::rt::Env;
-use subscription::{MOST_STEPS, Plan, Tally};
+use subscription::{MOST_STEPS, Plan, Step, Tally};
 
 // Arguments before those of the steps: the program's name, fee, allowance and month's start.
 const FIRST_STEP: usize = 4;
 
 // A step's arguments: its upper count and its price.
-const STEP: usize = 2;
+const STEP_WORDS: usize = 2;
 
 // A 32-bit number in an argument.
 fn count_of(text: &[u8]) -> Option<u32> {
@@ -38,57 +37,39 @@ fn start_of(text: &[u8]) -> Option<i64> {
     Some(if is_negative { -n } else { n })
 }
 
-fn count_at(rt: &impl Env, i: usize) -> Option<u32> {
-    let mut text = [0u8; 32];
-    let n = command_line::arg(rt, i, &mut text);
-    count_of(&text[..n])
-}
-
-fn start_at(rt: &impl Env, i: usize) -> Option<i64> {
-    let mut text = [0u8; 32];
-    let n = command_line::arg(rt, i, &mut text);
-    start_of(&text[..n])
-}
-
-// The upper count of a step; that of the last one is not read.
-fn upper_at(rt: &impl Env, i: usize, is_last: bool) -> Option<u32> {
-    if is_last {
-        return Some(0);
-    }
-    count_at(rt, i)
-}
-
-// The steps of the arguments, eight of them at most, or which argument is wrong.
-fn read_steps(
-    rt: &impl Env,
-    steps: usize,
-    uppers: &mut [u32],
-    prices: &mut [u32],
-) -> Result<(), usize>
-    requires { (length uppers.old ≡ 8) × (length prices.old ≡ 8) }
+// What argument i says, or that it is wrong.
+fn argument<T, F: Fn(&[u8]) -> Option<T>>(rt: &impl Env, i: usize, parse: F) -> Result<T, usize>
+    requires { F.IsAlwaysCallable parse }
 {
-    for j in 0..steps.min(MOST_STEPS) {
-        let at = FIRST_STEP + STEP * j;
-        uppers[j] = upper_at(rt, at, j + 1 == steps).ok_or(at)?;
-        prices[j] = count_at(rt, at + 1).ok_or(at + 1)?;
+    let mut text = [0u8; 32];
+    let n = command_line::arg(rt, i, &mut text);
+    parse(&text[..n]).ok_or(i)
+}
+
+// The steps of the arguments, eight of them at most, or which argument is wrong. The upper count of the last one is not read.
+fn read_steps(rt: &impl Env, count: usize, steps: &mut [Step; 8]) -> Result<(), usize> {
+    for j in 0..count.min(MOST_STEPS) {
+        let at = FIRST_STEP + STEP_WORDS * j;
+        if j + 1 < count {
+            steps[j].upper = argument(rt, at, count_of)?;
+        }
+        steps[j].price = argument(rt, at + 1, count_of)?;
     }
     Ok(())
 }
 
 // The plan and the month's start of the arguments, or which argument is wrong.
-fn read_arguments(rt: &impl Env, steps: usize) -> Result<(Plan, i64), usize> {
-    let fee = count_at(rt, 1).ok_or(1usize)?;
-    let allowance = count_at(rt, 2).ok_or(2usize)?;
-    let month_start = start_at(rt, 3).ok_or(3usize)?;
-    let mut uppers = [0u32; 8];
-    let mut prices = [0u32; 8];
-    read_steps(rt, steps, &mut uppers, &mut prices)?;
+fn read_arguments(rt: &impl Env, count: usize) -> Result<(Plan, i64), usize> {
+    let fee = argument(rt, 1, count_of)?;
+    let allowance = argument(rt, 2, count_of)?;
+    let month_start = argument(rt, 3, start_of)?;
+    let mut steps = [Step { upper: 0, price: 0 }; 8];
+    read_steps(rt, count, &mut steps)?;
     let plan = Plan {
         fee,
         allowance,
+        count,
         steps,
-        uppers,
-        prices,
     };
     Ok((plan, month_start))
 }
@@ -164,11 +145,11 @@ fn charge_input(rt: &(impl Input + Print + Eprint), plan: Plan, month_start: i64
 
 fn main(rt: HostRuntime) {
     let count = command_line::arg_count(&rt);
-    if count < FIRST_STEP || count % STEP != 0 {
+    if count < FIRST_STEP || count % STEP_WORDS != 0 {
         print_usage(&rt);
         return;
     }
-    match read_arguments(&rt, (count - FIRST_STEP) / STEP) {
+    match read_arguments(&rt, (count - FIRST_STEP) / STEP_WORDS) {
         Ok((plan, month_start)) => charge_input(&rt, plan, month_start),
         Err(i) => print_wrong(&rt, i),
     }

@@ -49,14 +49,14 @@ fn decoded_of(digits: &[u8], n: usize) -> Option<UplinkFrame> {
 }
 
 fn print_flag(rt: &impl Print, b: bool) {
-    replay::print_number(rt, if b { 1 } else { 0 });
+    replay::print_number(rt, u8::from(b));
 }
 
 fn print_part(rt: &impl Print, bytes: &[u8], n: u8) {
     replay::print(rt, b" ");
     replay::print_number(rt, n as u64);
     replay::print(rt, b":");
-    replay::print_bytes(rt, bytes, n as usize);
+    replay::print_bytes(rt, &bytes[..usize::from(n).min(bytes.len())]);
 }
 
 fn print_bit(rt: &impl Print, bit: Option<bool>) {

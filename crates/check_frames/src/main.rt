@@ -27,7 +27,7 @@ fn deconvolve_line(rt: &impl Print, rank: u8) {
     replay::print(rt, b"deconvolve ");
     replay::print_number(rt, rank as u64);
     replay::print(rt, b" 100 ");
-    replay::print_digits(rt, &out, n);
+    replay::print_digits(rt, &out[..n.min(out.len())]);
     replay::print(rt, b"\n");
 }
 
@@ -44,7 +44,7 @@ fn header_line(rt: &impl Print, counter: u16, bit: Option<bool>, payload: &[u8])
         return;
     };
     replay::print(rt, b"header ");
-    replay::print_bytes(rt, &out, header.size);
+    replay::print_bytes(rt, &out[..header.size.min(out.len())]);
     replay::print(rt, b" ");
     replay::print_number(rt, u64::from(header.class));
     replay::print(rt, b" ");

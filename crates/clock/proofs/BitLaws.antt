@@ -1,5 +1,5 @@
 -- The outcomes of `burst_bits`, case by case. Assumes nothing.
-use Rattle.std.proofs.Common.{Option, ◌≡◌, ℕ, ◌+◌, ◌-◌, ◌/◌, ◌<◌, ◌≤◌, min, max, true, false, List, [], ◌∷◌, ◌++◌, map, length, get_or, take, drop, ℤ, sym, refl, ap, ◌∙◌, arith, length-append, length-take, get_or-take, take-take, take_at, w32, SFits, le-ltb, lt-ltb, None, Some}
+use Rattle.std.proofs.Common.{Option, ◌≡◌, ℕ, ◌+◌, ◌-◌, ◌/◌, ◌<◌, ◌≤◌, min, max, true, false, List, [], ◌∷◌, ◌++◌, map, length, get_or, take, drop, ℤ, sym, refl, ap, ◌∙◌, arith, take_at, w32, SFits, le-ltb, lt-ltb, None, Some}
 use lib.ListN.{length-map}
 use lib.Ieee.{Float, nan, binary64, to_unsigned}
 use Rattle.floats.proofs.Saturating.{signed-fits}
@@ -101,22 +101,22 @@ module _ (seg : List Float) (rate : ℕ) (level : Float) (ds : List Dip) where
   dips-clock start h e = rw (le-ltb (length ds) enough_dips h, e) (running_is seg rate level (nominal_of rate) (anchor (nominal_of rate) (get_or (positions_of ds) 0 nan) (positions_of ds)) ds)
 
 module _ (seg : List Float) (rate : ℕ) (level : Float) (ds hs : List Float) where
-  pub lost-clock : (start : Clock) (now : List Float) → Tracked start ds hs None now → clocked seg rate level (points_from start ds) (depths_from start ds hs) (fit_from start ds) ≡ None
+  pub lost-clock : (start : Clock) (now deep : List Float) → Tracked start ds hs None now deep → clocked seg rate level (points_from start ds) (depths_from start ds hs) (fit_from start ds) ≡ None
   unfolding clocked
-  lost-clock start now t = rw (sym t.fit)
+  lost-clock start now deep t = rw (sym t.fit)
 
   -- a fitted clock, with what stands in the slice
-  module _ (start c : Clock) (now : List Float) (z : start.count ≡ 0) (t : Tracked start ds hs (Some c) now) where
+  module _ (start c : Clock) (now deep : List Float) (z : start.count ≡ 0) (t : Tracked start ds hs (Some c) now deep) where
     fitted : fit_from start ds ≡ Some c
     fitted = sym t.fit
 
     empty : Good start
     empty = record { order = λ h. absurd (omega arith); low = λ h. absurd (omega arith) }
 
-    pub kept-places : places now c.count ≡ points_from start ds
+    pub kept-places : places (take c.count now) ≡ points_from start ds
     kept-places = ap (map (to_unsigned 64)) (t.holds c refl) ∙ places_back (points_from start ds) (facts start c ds fitted empty).small
 
-    pub kept-ready : Ready c (places now c.count)
+    pub kept-ready : Ready c (places (take c.count now))
     kept-ready =
         let f = facts start c ds fitted empty in
         rw kept-places (record { rising = rising_first (points_from start ds) c.first (f.starts z) (f.opens z); order = f.good.order; low = f.good.low })
@@ -124,11 +124,11 @@ module _ (seg : List Float) (rate : ℕ) (level : Float) (ds hs : List Float) wh
     pub kept-few : c.count ≤ length ds
     kept-few = let f = facts start c ds fitted empty in omega (arith, f.many, points-few start ds)
 
-    pub kept-deep : AllNumbers hs → Numbers (take c.count (drop depths_at now))
-    kept-deep n = rw (t.deep c refl) (each_number (depths_from start ds hs) (kept_numbers start ds hs n))
+    pub kept-deep : AllNumbers hs → Numbers (take c.count deep)
+    kept-deep n = rw (t.depths c refl) (each_number (depths_from start ds hs) (kept_numbers start ds hs n))
 
-    pub kept-clock : clocked seg rate level (points_from start ds) (depths_from start ds hs) (fit_from start ds) ≡ clocked seg rate level (places now c.count) (take c.count (drop depths_at now)) (Some c)
-    kept-clock = rw (kept-places, t.deep c refl, fitted)
+    pub kept-clock : clocked seg rate level (points_from start ds) (depths_from start ds hs) (fit_from start ds) ≡ clocked seg rate level (places (take c.count now)) (take c.count deep) (Some c)
+    kept-clock = rw (kept-places, t.depths c refl, fitted)
 
 -- a list in the front of a slice
 pub front : (ds old now : List Float) (n : ℕ) → Written ds old n now → take n now ≡ ds
@@ -145,25 +145,9 @@ module _ (seg : List Float) (rate : ℕ) (level wide : Float) (old now : List Fl
   found : List Dip
   found = found_in seg rate level
 
-  fits : n ≤ depths_at
-  fits = omega (arith, length-take depths_at now, ap length w.positions.holds, length-append (positions_of (found_in seg rate wide)) (drop n (take depths_at old)), w.positions.count)
-
-  positions : take n now ≡ positions_of found
-  unfolding found
-  positions =
-      sym (take-take n depths_at now fits) ∙ front (positions_of (found_in seg rate wide)) (take depths_at old) (take depths_at now) n w.positions ∙ ap (λ (x : Float). positions_of (found_in seg rate x)) we
-
-  deep : take n (drop depths_at now) ≡ depths_of found
-  unfolding found
-  deep = front (depths_of (found_in seg rate wide)) (drop depths_at old) (drop depths_at now) n w.depths ∙ ap (λ (x : Float). depths_of (found_in seg rate x)) we
-
   many : n ≡ length found
   unfolding found
   many = w.positions.count ∙ length-map (found_in seg rate wide) (λ (d : Dip). d.at) ∙ ap (λ (x : Float). length (found_in seg rate x)) we
-
-  pub samples-deep : all_dbm seg ≡ true → AllNumbers (take n (drop depths_at now))
-  unfolding found
-  samples-deep v = rw deep (depths-numbers seg v rate level)
 
   from : outcome seg rate ≡ from_dips seg rate level found
   unfolding found
@@ -172,9 +156,21 @@ module _ (seg : List Float) (rate : ℕ) (level wide : Float) (old now : List Fl
   pub samples-few : n < enough_dips → outcome seg rate ≡ None
   samples-few a = from ∙ few-dips seg rate level found (omega (arith, many))
 
-  pub samples-clock : (nominal phase : Float) (start : Clock) → enough_dips ≤ n → nominal ≡ nominal_of rate → phase ≡ anchor nominal (get_or now 0 nan) (take n now)
-      → start ≡ start_clock nominal phase → outcome seg rate ≡ clocked seg rate level (points_from start (take n now)) (depths_from start (take n now) (take n (drop depths_at now))) (fit_from start (take n now))
-  samples-clock nominal phase start a ne pe se =
-      let g : get_or (take n now) 0 nan ≡ get_or now 0 nan = get_or-take n now 0 nan (omega arith) in
-      let s : start ≡ start_clock (nominal_of rate) (anchor (nominal_of rate) (get_or (take n now) 0 nan) (take n now)) = se ∙ rw (pe, ne, g) in
-      from ∙ dips-clock seg rate level found start (omega (arith, many)) (rw positions at s) ∙ rw (positions, deep)
+  module _ (ds hs : List Float) (de : ds ≡ take n (take depths_at now)) (he : hs ≡ take n (drop depths_at now)) where
+    positions : ds ≡ positions_of found
+    unfolding found
+    positions = de ∙ front (positions_of (found_in seg rate wide)) (take depths_at old) (take depths_at now) n w.positions ∙ ap (λ (x : Float). positions_of (found_in seg rate x)) we
+
+    deep : hs ≡ depths_of found
+    unfolding found
+    deep = he ∙ front (depths_of (found_in seg rate wide)) (drop depths_at old) (drop depths_at now) n w.depths ∙ ap (λ (x : Float). depths_of (found_in seg rate x)) we
+
+    pub samples-deep : all_dbm seg ≡ true → AllNumbers hs
+    unfolding found
+    samples-deep v = rw deep (depths-numbers seg v rate level)
+
+    pub samples-clock : (nominal phase : Float) (start : Clock) → enough_dips ≤ n → nominal ≡ nominal_of rate → phase ≡ anchor nominal (get_or ds 0 nan) ds
+        → start ≡ start_clock nominal phase → outcome seg rate ≡ clocked seg rate level (points_from start ds) (depths_from start ds hs) (fit_from start ds)
+    samples-clock nominal phase start a ne pe se =
+        let s : start ≡ start_clock (nominal_of rate) (anchor (nominal_of rate) (get_or ds 0 nan) ds) = se ∙ rw (pe, ne) in
+        from ∙ dips-clock seg rate level found start (omega (arith, many)) (rw positions at s) ∙ rw (positions, deep)

@@ -1,12 +1,11 @@
 -- Laws of the bit clock, step by step. Assumes nothing.
-use Rattle.std.proofs.Common.{◌≡◌, ℕ, ◌+◌, ◌-◌, ◌<◌, ◌≤◌, min, Bool, true, false, ltb, List, length, get_or, take, sym, refl, ⊎_elim, add-one, arith, length-take, take_all, take-take, ltb-false, le-leb}
+use Rattle.std.proofs.Common.{◌∙◌, sym, ◌≡◌, ℕ, ◌+◌, ◌-◌, ◌<◌, ◌≤◌, min, true, false, ltb, List, length, get_or, take, sym, ⊎_elim, add-one, arith, take_all, ltb-false, le-leb}
 use native.Mathlib.Nat.{min-eq_left, min-eq_right}
 use lib.Seq.{slice, slice-cons, slice_empty}
-use lib.Ieee.{Float, nan, binary64, add, lt, ne, is_nan}
+use lib.Ieee.{Float, nan, binary64, add, lt, is_nan}
 use borrow.Author.Tests.{lt-leb}
 use Rattle.floats.specs.Number.{num}
 use Rattle.floats.specs.Trig.{sine, cosine}
-use Rattle.floats.proofs.Floors.{nan_is, no_nan_is}
 use Rattle.clock.specs.declared.Clock.{Clock}
 use Rattle.clock.specs.declared.Step.TheVariants.{Lost, Skipped, Joined}
 use Rattle.clock.specs.Numbers.{anchors, refits, farthest_bit}
@@ -15,13 +14,6 @@ use Rattle.clock.specs.Running.{place, index_at, skips, summed, det, refitted, r
 use Rattle.dips.proofs.DipLaws.{lt_or_ge, or_right}
 
 -- ---- bit indexes
-
-pub nan-test : (x : Float) → ne x x ≡ is_nan x
-nan-test x = go (ne x x) (nan_is x) (no_nan_is x)
-  where
-    go : (t : Bool) → (t ≡ true → is_nan x ≡ true) → (t ≡ false → is_nan x ≡ false) → t ≡ is_nan x
-    go true f g = sym (f refl)
-    go false f g = sym (g refl)
 
 pub size_small : (k : Float) → lost k ≡ false → size_of k ≤ farthest_bit
 unfolding lost
@@ -64,12 +56,12 @@ module _ (c : Clock) (d : Float) where
 
 -- ---- the anchor
 
-pub first_few : (n m : ℕ) (l : List Float) → take m (take n l) ≡ take (min n m) l
-first_few n m l =
+pub first_few : (m : ℕ) (l : List Float) → take (min (length l) m) l ≡ take m l
+first_few m l =
     ⊎_elim
-    (λ h. let e : min n m ≡ n = min-eq_left (omega arith) in rw e (take_all m (take n l) (omega (arith, length-take n l))))
-    (λ h. let e : min n m ≡ m = min-eq_right h in rw e (take-take m n l h))
-    (lt_or_ge n m)
+    (λ h. let e : min (length l) m ≡ length l = min-eq_left (omega arith) in rw e (take_all (length l) l (omega arith) ∙ sym (take_all m l (omega arith))))
+    (λ h. let e : min (length l) m ≡ m = min-eq_right h in rw e)
+    (lt_or_ge (length l) m)
 
 -- a sum over the elements from i on, one step, and at its end
 module _ (f : Float → Float) (l : List Float) (i to : ℕ) (w : Float) where
@@ -88,7 +80,7 @@ sine_of nominal d₀ d = sine (angle nominal d₀ d)
 abbrev pub cosine_of : Float → Float → Float → Float
 cosine_of nominal d₀ d = cosine (angle nominal d₀ d)
 
-pub anchor_is : (nominal d₀ : Float) (l : List Float) (n to : ℕ) (s c : Float) → to ≡ min n anchors
-    → s ≡ sum_from (sine_of nominal d₀) (num 0) (slice 0 to l) → c ≡ sum_from (cosine_of nominal d₀) (num 0) (slice 0 to l) → turned nominal d₀ s c ≡ anchor nominal d₀ (take n l)
+pub anchor_is : (nominal d₀ : Float) (l : List Float) (to : ℕ) (s c : Float) → to ≡ min (length l) anchors
+    → s ≡ sum_from (sine_of nominal d₀) (num 0) (slice 0 to l) → c ≡ sum_from (cosine_of nominal d₀) (num 0) (slice 0 to l) → turned nominal d₀ s c ≡ anchor nominal d₀ l
 unfolding anchor
-anchor_is nominal d₀ l n to s c e p q = rw (p, q, e, first_few n anchors l)
+anchor_is nominal d₀ l to s c e p q = rw (p, q, e, first_few anchors l)

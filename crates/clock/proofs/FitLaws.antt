@@ -1,11 +1,10 @@
 -- Laws of the clock over all dips: what a point changes, and the loop that keeps the points' places. Assumes nothing.
-use Rattle.std.proofs.Common.{None, Some, ◌≡◌, ℕ, suc, ◌+◌, ◌-◌, ◌*◌, ◌<◌, ◌≤◌, Bool, true, false, cond, ◌&&◌, ◌||◌, ltb, leb, List, [], ◌∷◌, ◌++◌, map, length, get_or, take, drop, set, sym, refl, ap, ◌∙◌, subst, append_assoc, append-nil, add-one, arith, length-drop, length-set, get_or-drop, take-suc-set, drop-set-lt, lt-ltb, eq-eqb, ne_eqb, leb-false}
-use lib.Seq.{slice, slice-cons, slice_empty, take-set-le, take-set-lt, drop-set-add}
+use Rattle.std.proofs.Common.{None, Some, ◌≡◌, ℕ, suc, ◌+◌, ◌-◌, ◌*◌, ◌<◌, ◌≤◌, Bool, true, false, cond, ◌&&◌, ◌||◌, ltb, leb, List, [], ◌∷◌, ◌++◌, map, length, get_or, take, drop, set, sym, refl, ap, ◌∙◌, subst, append_assoc, append-nil, add-one, arith, take-suc-set, drop-set-lt, lt-ltb, eq-eqb, ne_eqb, leb-false}
+use lib.Seq.{drop-cons}
+use Rattle.std.proofs.lemmas.List.{drop_all}
 use lib.Ieee.{Float, nan, binary64, add, sub, mul, lt}
 use Rattle.floats.specs.Number.{num}
 use Rattle.floats.specs.Trig.{magnitude}
-use Rattle.limits.specs.Limits.{scratch64}
-use Rattle.dips.specs.Numbers.{depths_at}
 use Rattle.clock.specs.declared.Clock.{Clock}
 use Rattle.clock.specs.declared.Step.{Step}
 use Rattle.clock.specs.declared.Step.TheVariants.{Lost, Skipped, Joined}
@@ -75,77 +74,65 @@ joined-point c e d q = go (lost (index_at c d)) (skips c d (index_at c d)) (join
 
 -- ---- the loop, at dip i: the points so far stand in front, with their depths in front of the depths, and the dips from i on are still there
 
-pub record FitAt (start : Clock) (n : ℕ) (old now : List Float) (c : Clock) (i : ℕ) : Type 0 where
+pub record FitAt (start : Clock) (ds hs now deep : List Float) (c : Clock) (i : ℕ) : Type 0 where
   pub few : c.count ≤ i
-  pub size : length now ≡ length old
-  pub fits : fit_from start (take n old) ≡ fit_from c (slice i n now)
-  pub points : map num (points_from start (take n old)) ≡ take c.count now ++ map num (points_from c (slice i n now))
-  pub depths : depths_from start (take n old) (take n (drop depths_at old)) ≡ take c.count (drop depths_at now) ++ depths_from c (slice i n now) (slice i n (drop depths_at now))
+  pub fits : fit_from start ds ≡ fit_from c (drop i now)
+  pub points : map num (points_from start ds) ≡ take c.count now ++ map num (points_from c (drop i now))
+  pub depths : depths_from start ds hs ≡ take c.count deep ++ depths_from c (drop i now) (drop i deep)
 
-pub fit_start : (start : Clock) (n : ℕ) (old : List Float) → start.count ≡ 0 → FitAt start n old old start 0
-fit_start start n old z = record { few = omega arith; size = refl; fits = refl; points = rw z; depths = rw z }
+pub fit_start : (start : Clock) (ds hs : List Float) → start.count ≡ 0 → FitAt start ds hs ds hs start 0
+fit_start start ds hs z = record { few = omega arith; fits = refl; points = rw z; depths = rw z }
 
 -- a place that is behind is written
-behind : (i n a : ℕ) (l : List Float) (v : Float) → a ≤ i → i < n → slice (i + 1) n (set l a v) ≡ slice (suc i) n l
-behind i n a l v h k = rw (add-one i, take-set-lt n l a v (omega arith), drop-set-lt (suc i) (take n l) a v (omega arith))
+behind : (i a : ℕ) (l : List Float) (v : Float) → a ≤ i → drop (i + 1) (set l a v) ≡ drop (suc i) l
+behind i a l v h = rw (add-one i, drop-set-lt (suc i) l a v (omega arith))
 
-module _ (start : Clock) (n : ℕ) (old now : List Float) (c : Clock) (i : ℕ) (f : FitAt start n old now c i) where
-  pub fit_end : i ≡ n → Tracked start (take n old) (take n (drop depths_at old)) (Some c) now
+module _ (start : Clock) (ds hs now deep : List Float) (c : Clock) (i : ℕ) (f : FitAt start ds hs now deep c i) where
+  pub fit_end : length now ≤ i → Tracked start ds hs (Some c) now deep
   unfolding fit_from points_from depths_from
   fit_end e =
       record {
-        fit = sym (rw (e, slice_empty n now) at f.fits);
-        holds = λ d q. let s : d ≡ c = cc in rw s (sym (f.points ∙ rw (e, slice_empty n now) (append-nil (take c.count now))));
-        deep = λ d q. let s : d ≡ c = cc in rw s (sym (f.depths ∙ rw (e, slice_empty n now) (append-nil (take c.count (drop depths_at now)))));
+        fit = sym (rw (drop_all i now e) at f.fits);
+        holds = λ d q. let s : d ≡ c = cc in rw s (sym (f.points ∙ rw (drop_all i now e) (append-nil (take c.count now))));
+        depths = λ d q. let s : d ≡ c = cc in rw s (sym (f.depths ∙ rw (drop_all i now e) (append-nil (take c.count deep))));
       }
 
-  module _ (h : i < n) (k : n ≤ depths_at) (room : scratch64 ≤ length now) (r : Step) (t : r ≡ step c (get_or now i nan)) where
-    cut : slice i n now ≡ get_or now i nan ∷ slice (suc i) n now
-    cut = slice-cons i n now nan h (omega arith)
+  module _ (h : i < length now) (same : length deep ≡ length now) (r : Step) (t : r ≡ step c (get_or now i nan)) where
+    cut : drop i now ≡ get_or now i nan ∷ drop (suc i) now
+    cut = drop-cons now i nan h
 
-    cut-depths : slice i n (drop depths_at now) ≡ get_or now (depths_at + i) nan ∷ slice (suc i) n (drop depths_at now)
-    cut-depths =
-        slice-cons i n (drop depths_at now) nan h (omega (arith, length-drop depths_at now)) ∙ ap (λ (x : Float). x ∷ slice (suc i) n (drop depths_at now)) (get_or-drop depths_at now i nan)
+    cut-depths : drop i deep ≡ get_or deep i nan ∷ drop (suc i) deep
+    cut-depths = drop-cons deep i nan (omega arith)
 
-    pub fit-lost : r ≡ Lost → Tracked start (take n old) (take n (drop depths_at old)) None now
+    pub fit-lost : r ≡ Lost → Tracked start ds hs None now deep
     unfolding fit_from astray
     fit-lost e =
         record {
           fit = sym (f.fits ∙ rw (cut, sym t ∙ e));
           holds = λ d q. absurd (let z : ◌≡◌ {A = ℕ} 0 1 = cc in omega arith);
-          deep = λ d q. absurd (let z : ◌≡◌ {A = ℕ} 0 1 = cc in omega arith);
+          depths = λ d q. absurd (let z : ◌≡◌ {A = ℕ} 0 1 = cc in omega arith);
         }
 
-    pub fit-skipped : r ≡ Skipped → FitAt start n old now c (i + 1)
+    pub fit-skipped : r ≡ Skipped → FitAt start ds hs now deep c (i + 1)
     unfolding fit_from points_from depths_from astray after added kept
     fit-skipped e =
         record {
           few = omega (arith, f.few);
-          size = f.size;
           fits = f.fits ∙ rw (cut, sym t ∙ e, add-one i);
           points = f.points ∙ rw (cut, sym t ∙ e, add-one i);
           depths = f.depths ∙ rw (cut, cut-depths, sym t ∙ e, add-one i);
         }
 
-    pub fit-joined : (e : Clock) (v x : Float) → r ≡ Joined e → v ≡ num e.last → x ≡ get_or now (depths_at + i) nan
-        → FitAt start n old (set (set now c.count v) (depths_at + c.count) x) e (i + 1)
+    pub fit-joined : (e : Clock) (v x : Float) → r ≡ Joined e → v ≡ num e.last → x ≡ get_or deep i nan → FitAt start ds hs (set now c.count v) (set deep c.count x) e (i + 1)
     unfolding fit_from points_from depths_from astray after added kept
     fit-joined e v x q w y =
         let p : e.count ≡ c.count + 1 = (joined-point c e (get_or now i nan) (sym t ∙ q)).more in
         let few = f.few in
-        let front : take n (set (set now c.count v) (depths_at + c.count) x) ≡ take n (set now c.count v) = take-set-le n (set now c.count v) (depths_at + c.count) x (omega arith) in
-        let s : slice (i + 1) n (set (set now c.count v) (depths_at + c.count) x) ≡ slice (suc i) n now =
-        ap (drop (i + 1)) front ∙ behind i n c.count now v few h in
-        let first : take e.count (set (set now c.count v) (depths_at + c.count) x) ≡ take c.count now ++ (v ∷ []) =
-        take-set-le e.count (set now c.count v) (depths_at + c.count) x (omega arith) ∙ rw (p, add-one c.count) (take-suc-set now c.count v (omega arith)) in
-        let half : drop depths_at (set (set now c.count v) (depths_at + c.count) x) ≡ set (drop depths_at now) c.count x =
-        drop-set-add depths_at (set now c.count v) c.count x ∙ ap (λ (l : List Float). set l c.count x) (drop-set-lt depths_at now c.count v (omega arith)) in
-        let deep : take e.count (set (drop depths_at now) c.count x) ≡ take c.count (drop depths_at now) ++ (x ∷ []) =
-        rw (p, add-one c.count) (take-suc-set (drop depths_at now) c.count x (omega (arith, length-drop depths_at now))) in
+        let first : take e.count (set now c.count v) ≡ take c.count now ++ (v ∷ []) = rw (p, add-one c.count) (take-suc-set now c.count v (omega arith)) in
+        let last : take e.count (set deep c.count x) ≡ take c.count deep ++ (x ∷ []) = rw (p, add-one c.count) (take-suc-set deep c.count x (omega arith)) in
         record {
           few = omega arith;
-          size = length-set (set now c.count v) (depths_at + c.count) x ∙ length-set now c.count v ∙ f.size;
-          fits = f.fits ∙ rw (cut, sym t ∙ q, s);
-          points = f.points ∙ rw (cut, sym t ∙ q, s, first, append_assoc, w);
-          depths = f.depths ∙ rw (cut, cut-depths, sym t ∙ q, s, half, behind i n c.count (drop depths_at now) x few h, deep, append_assoc, y);
+          fits = f.fits ∙ rw (cut, sym t ∙ q, behind i c.count now v few);
+          points = f.points ∙ rw (cut, sym t ∙ q, behind i c.count now v few, first, append_assoc, w);
+          depths = f.depths ∙ rw (cut, cut-depths, sym t ∙ q, behind i c.count now v few, behind i c.count deep x few, last, append_assoc, y);
         }

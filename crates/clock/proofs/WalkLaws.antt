@@ -6,27 +6,24 @@ use Rattle.clock.specs.Walk.{has_place, bits_from, heads, walked, places, Rising
 
 -- ---- the places in a slice
 
-places-cons : (l : List Float) (n p : ℕ) → p < n → n ≤ length l → drop p (places l n) ≡ to_unsigned 64 (get_or l p nan) ∷ drop (suc p) (places l n)
-places-cons l zero p h k = absurd (omega arith)
-places-cons [] (suc n) p h k = absurd (omega arith)
-places-cons (x ∷ l) (suc n) zero h k = refl
-places-cons (x ∷ l) (suc n) (suc p) h k = places-cons l n p (omega arith) (omega arith)
+places-cons : (l : List Float) (p : ℕ) → p < length l → drop p (places l) ≡ to_unsigned 64 (get_or l p nan) ∷ drop (suc p) (places l)
+places-cons [] p h = absurd (omega arith)
+places-cons (x ∷ l) zero h = refl
+places-cons (x ∷ l) (suc p) h = places-cons l p (omega arith)
 
-places_none : (l : List Float) (n p : ℕ) → n ≤ p → drop p (places l n) ≡ []
-places_none l zero zero h = refl
-places_none l zero (suc p) h = refl
-places_none [] (suc n) zero h = absurd (omega arith)
-places_none [] (suc n) (suc p) h = refl
-places_none (x ∷ l) (suc n) zero h = absurd (omega arith)
-places_none (x ∷ l) (suc n) (suc p) h = places_none l n p (omega arith)
+places_none : (l : List Float) (p : ℕ) → length l ≤ p → drop p (places l) ≡ []
+places_none [] zero h = refl
+places_none [] (suc p) h = refl
+places_none (x ∷ l) zero h = absurd (omega arith)
+places_none (x ∷ l) (suc p) h = places_none l p (omega arith)
 
-pub heads_here : (k : ℕ) (l : List Float) (n p r : ℕ) → p < n → n ≤ length l → r ≡ to_unsigned 64 (get_or l p nan) → eqb k r ≡ heads k (drop p (places l n))
+pub heads_here : (k : ℕ) (l : List Float) (p r : ℕ) → p < length l → r ≡ to_unsigned 64 (get_or l p nan) → eqb k r ≡ heads k (drop p (places l))
 unfolding heads
-heads_here k l n p r h g e = rw (places-cons l n p h g, e)
+heads_here k l p r h e = rw (places-cons l p h, e)
 
-pub heads_past : (k : ℕ) (l : List Float) (n p : ℕ) → n ≤ p → false ≡ heads k (drop p (places l n))
+pub heads_past : (k : ℕ) (l : List Float) (p : ℕ) → length l ≤ p → false ≡ heads k (drop p (places l))
 unfolding heads
-heads_past k l n p h = rw (places_none l n p h)
+heads_past k l p h = rw (places_none l p h)
 
 -- ---- the loop that writes them: j bits stand, p points are passed
 

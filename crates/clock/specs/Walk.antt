@@ -1,5 +1,5 @@
 -- Scaffolding. The bits between points, given by their places (bit index + 2^31): by membership, and point by point, where the points rise, as `write_bits` writes them.
-use Rattle.std.specs.Prelude.{ℕ, zero, suc, ◌+◌, ◌-◌, ◌*◌, ◌<◌, ◌≤◌, Bool, false, cond, ◌||◌, List, [], ◌∷◌, map, take, drop, ◌==◌, Float}
+use Rattle.std.specs.Prelude.{ℕ, zero, suc, ◌+◌, ◌-◌, ◌*◌, ◌<◌, ◌≤◌, Bool, false, cond, ◌||◌, List, [], ◌∷◌, map, drop, ◌==◌, Float}
 use Rattle.std.specs.Float.Ieee.{to_unsigned}
 use Rattle.clock.specs.Numbers.{farthest_bit}
 use Rattle.clock.specs.declared.Clock.{Clock}
@@ -30,9 +30,9 @@ unfolding heads
 walked points k zero = []
 walked points k (suc n) = cond (heads k points) (0 ∷ walked (drop 1 points) (suc k) n) (1 ∷ walked points (suc k) n)
 
--- the places in the front of a slice of floats
-abbrev pub places : List Float → ℕ → List ℕ
-places l n = map (to_unsigned 64) (take n l)
+-- the places of points, which stand as floats
+abbrev pub places : List Float → List ℕ
+places l = map (to_unsigned 64) l
 
 -- points that rise, from k on
 pub data Rising : ℕ → List ℕ → Type 0 where

@@ -1,7 +1,7 @@
 // The bit clock, recovered from the dips of a burst, and the bits between them (demod.rs `burst_bits`).
 #![tactic(auto)]
 
-ghost use Rattle.std.specs.Prelude.{◌≡◌, ◌-◌, ◌*◌, ◌/◌, ◌<◌, ◌≤◌, true, false, ◌∷◌, ◌++◌, length, take, drop, slice_index_or, IfOk};
+ghost use Rattle.std.specs.Prelude.{◌≡◌, ◌-◌, ◌*◌, ◌/◌, ◌<◌, ◌≤◌, true, false, ◌∷◌, ◌++◌, length, take, drop, slice_index_or, IfOk, MatchOption};
 ghost use Rattle.std.specs.Float.{nan, binary64};
 ghost use Rattle.std.specs.Float.Ieee.{lt, to_unsigned};
 ghost use Rattle.order.specs.Order.{kth, Numbers};
@@ -85,16 +85,16 @@ fn angle_of(nominal: f64, d0: f64, d: f64) -> f64
 }
 
 // The grid, anchored on the mean phase of the first dips (circular mean modulo one bit).
-pub fn anchor_of(dips: &[f64], n: usize, nominal: f64) -> f64
-    requires { (0 < n) × (n ≤ length dips.now) }
-    ensures { result ≡ anchor nominal (slice_index_or dips.now 0 nan) (take n dips.now) }
+pub fn anchor_of(dips: &[f64], nominal: f64) -> f64
+    requires { 0 < length dips.now }
+    ensures { result ≡ anchor nominal (slice_index_or dips.now 0 nan) dips.now }
 {
     let d0 = dips[0];
-    let end = n.min(ANCHORS);
+    let end = dips.len().min(ANCHORS);
     let mut s = 0.0;
     let mut c = 0.0;
-    for i in 0..end {
-        let a = angle_of(nominal, d0, dips[i]);
+    for d in &dips[..end] {
+        let a = angle_of(nominal, d0, *d);
         s += floats::sin64(a);
         c += floats::cos64(a);
     }
@@ -107,105 +107,133 @@ fn size_of(k: f64) -> usize
     floats::to_usize_saturating(floats::abs64(k))
 }
 
-// Whether a bit index is not a number or beyond 2^31 either way.
-fn is_lost(k: f64) -> bool
-    ensures { result ≡ lost k }
-{
-    let none = k != k;
-    let beyond = size_of(k) > FARTHEST_BIT;
-    none | beyond
+// A bit index: a number, and not beyond 2^31 either way.
+#[derive(Clone, Copy)]
+struct BitIndex {
+    k: f64,
+    ghost kept: { lost k ≡ false },
 }
 
-// k + 2^31
-fn place_of(k: f64) -> usize
-    requires { lost k ≡ false }
-    ensures { (result ≡ place k) × (result ≤ 2 * farthest_bit) }
-{
-    let size = size_of(k);
-    if k < 0.0 {
-        FARTHEST_BIT - size
-    } else {
-        FARTHEST_BIT + size
+impl BitIndex {
+    fn new(k: f64) -> Option<Self>
+        ensures { MatchOption result (lost k ≡ true) (λ i. i.k ≡ k) }
+    {
+        let none = k.is_nan();
+        let beyond = size_of(k) > FARTHEST_BIT;
+        if none | beyond {
+            return None;
+        }
+        Some(Self { k })
+    }
+
+    // k + 2^31
+    fn place(self) -> usize
+        ensures { (result ≡ place self.k) × (result ≤ 2 * farthest_bit) }
+    {
+        let size = size_of(self.k);
+        if self.k < 0.0 {
+            FARTHEST_BIT - size
+        } else {
+            FARTHEST_BIT + size
+        }
     }
 }
 
-pub fn index_at(c: Clock, d: f64) -> f64
-    ensures { result ≡ index_at c d }
-{
-    floats::round_half_up((d - c.phase) / c.period)
-}
-
-// Whether a dip is too far from its place, or not after the last point.
-fn is_skipped(c: Clock, d: f64, k: f64) -> bool
-    requires { lost k ≡ false }
-    ensures { result ≡ skips c d k }
-{
-    let predicted = c.phase + k * c.period;
-    let off = floats::abs64(d - predicted) > OFF_GRID * c.period;
-    let some = 0 < c.count;
-    let behind = place_of(k) <= c.last;
-    off | (some & behind)
-}
-
-fn det_of(c: Clock) -> f64
-    requires { c.count ≤ scratch64 }
-    ensures { result ≡ det c }
-{
-    floats::count_as_f64(c.count) * c.skk - c.sk * c.sk
-}
-
-// Period and phase by least squares.
-fn refit_clock(c: Clock) -> Clock
-    requires { c.count ≤ scratch64 }
-    ensures { result ≡ refit c }
-{
-    if c.count < REFITS {
-        return c;
+impl Clock {
+    // Before the first dip.
+    pub fn new(nominal: f64, phase: f64) -> Self
+        ensures { (result ≡ start_clock nominal phase) × (result.count ≡ 0) }
+    {
+        Self {
+            period: nominal,
+            phase,
+            sk: 0.0,
+            sd: 0.0,
+            skk: 0.0,
+            skd: 0.0,
+            count: 0,
+            first: 0,
+            last: 0,
+        }
     }
-    let d = det_of(c);
-    if d > 0.0 {
-        let n = floats::count_as_f64(c.count);
-        let period = (n * c.skd - c.sk * c.sd) / d;
-        return Clock {
-            period,
-            phase: (c.sd - period * c.sk) / n,
-            ..c
+
+    pub fn index_at(self, d: f64) -> f64
+        ensures { result ≡ index_at self d }
+    {
+        floats::round_half_up((d - self.phase) / self.period)
+    }
+
+    // Whether a dip is too far from its place, or not after the last point.
+    fn skips(self, d: f64, index: BitIndex) -> bool
+        ensures { result ≡ skips self d index.k }
+    {
+        let predicted = self.phase + index.k * self.period;
+        let off = floats::abs64(d - predicted) > OFF_GRID * self.period;
+        let some = 0 < self.count;
+        let behind = index.place() <= self.last;
+        off | (some & behind)
+    }
+
+    fn det(self) -> f64
+        requires { self.count ≤ scratch64 }
+        ensures { result ≡ det self }
+    {
+        floats::count_as_f64(self.count) * self.skk - self.sk * self.sk
+    }
+
+    // Period and phase by least squares.
+    fn refit(self) -> Self
+        requires { self.count ≤ scratch64 }
+        ensures { result ≡ refit self }
+    {
+        if self.count < REFITS {
+            return self;
+        }
+        let d = self.det();
+        if d > 0.0 {
+            let n = floats::count_as_f64(self.count);
+            let period = (n * self.skd - self.sk * self.sd) / d;
+            return Self {
+                period,
+                phase: (self.sd - period * self.sk) / n,
+                ..self
+            };
+        }
+        self
+    }
+
+    // A point more.
+    fn summed(self, d: f64, index: BitIndex) -> Self
+        requires { self.count < scratch64 }
+        ensures { result ≡ summed self d index.k }
+    {
+        let k = index.k;
+        let p = index.place();
+        Self {
+            sk: self.sk + k,
+            sd: self.sd + d,
+            skk: self.skk + k * k,
+            skd: self.skd + k * d,
+            count: self.count + 1,
+            first: whole::pick(self.count == 0, p, self.first),
+            last: p,
+            ..self
+        }
+    }
+
+    // Tracking dip by dip keeps a 1 % clock error from slipping a whole bit over a frame.
+    pub fn track(self, d: f64) -> Step
+        requires { self.count < scratch64 }
+        ensures { result ≡ step self d }
+    {
+        let Some(index) = BitIndex::new(self.index_at(d)) else {
+            return Step::Lost;
         };
+        if self.skips(d, index) {
+            return Step::Skipped;
+        }
+        Step::Joined(self.summed(d, index).refit())
     }
-    c
-}
-
-// A point more.
-fn sum_point(c: Clock, d: f64, k: f64) -> Clock
-    requires { (c.count < scratch64) × (lost k ≡ false) }
-    ensures { result ≡ summed c d k }
-{
-    let p = place_of(k);
-    Clock {
-        sk: c.sk + k,
-        sd: c.sd + d,
-        skk: c.skk + k * k,
-        skd: c.skd + k * d,
-        count: c.count + 1,
-        first: whole::pick(c.count == 0, p, c.first),
-        last: p,
-        ..c
-    }
-}
-
-// Tracking dip by dip keeps a 1 % clock error from slipping a whole bit over a frame.
-pub fn track(c: Clock, d: f64) -> Step
-    requires { c.count < scratch64 }
-    ensures { result ≡ step c d }
-{
-    let k = index_at(c, d);
-    if is_lost(k) {
-        return Step::Lost;
-    }
-    if is_skipped(c, d, k) {
-        return Step::Skipped;
-    }
-    Step::Joined(refit_clock(sum_point(c, d, k)))
 }
 
 // What is answered beside the bits.
@@ -229,14 +257,14 @@ fn place_back(x: f64) -> usize
     floats::to_usize_saturating(x)
 }
 
-// The clock after all of the first n dips, none where a bit index is lost; the places of the points overwrite the dips from the front, and their depths those of all dips.
-fn fit_clock(dips: &mut [f64], n: usize, start: Clock) -> Option<Clock>
-    requires { (scratch64 ≤ length dips.old) × (n ≤ depths_at) × (start.count ≡ 0) }
-    ensures { Tracked start (take n dips.old) (take n (drop depths_at dips.old)) result dips.new }
+// The clock after all dips, none where a bit index is lost; the places of the points overwrite the dips from the front, and their depths those of all dips.
+fn fit_clock(dips: &mut [f64], depths: &mut [f64], start: Clock) -> Option<Clock>
+    requires { (length depths.old ≡ length dips.old) × (length dips.old ≤ depths_at) × (start.count ≡ 0) }
+    ensures { Tracked start dips.old depths.old result dips.new depths.new }
 {
     let mut clock = start;
-    for i in 0..n {
-        match track(clock, dips[i]) {
+    for i in 0..dips.len() {
+        match clock.track(dips[i]) {
             Step::Lost => {
                 return None;
             }
@@ -245,9 +273,8 @@ fn fit_clock(dips: &mut [f64], n: usize, start: Clock) -> Option<Clock>
             }
             Step::Joined(next) => {
                 let at = clock.count;
-                let depth = dips[dips::DEPTHS + i];
                 dips[at] = floats::count_as_f64(next.last);
-                dips[dips::DEPTHS + at] = depth;
+                depths[at] = depths[i];
                 clock = next;
             }
         }
@@ -256,25 +283,24 @@ fn fit_clock(dips: &mut [f64], n: usize, start: Clock) -> Option<Clock>
 }
 
 // Whether place k has a point, the one at p.
-fn on_point(points: &[f64], n: usize, p: usize, k: usize) -> bool
-    requires { n ≤ length points.now }
-    ensures { result ≡ heads k (drop p (places points.now n)) }
+fn on_point(points: &[f64], p: usize, k: usize) -> bool
+    ensures { result ≡ heads k (drop p (places points.now)) }
 {
-    if p < n {
+    if p < points.len() {
         return k == place_back(points[p]);
     }
     false
 }
 
-// A 1, and the bits from the first of n points on, `len` in all.
-fn write_bits(points: &[f64], n: usize, first: usize, len: usize, bits: &mut [u8])
-    requires { (n ≤ length points.now) × (1 ≤ len) × (len ≤ most_bits) × (len ≤ length bits.old) × (first ≤ 2 * farthest_bit) }
-    ensures { bits.new ≡ (1 ∷ walked (places points.now n) first (len - 1)) ++ drop len bits.old }
+// A 1, and the bits from the first point on.
+fn write_bits(points: &[f64], first: usize, bits: &mut [u8])
+    requires { (0 < length bits.old) × (length bits.old ≤ most_bits) × (first ≤ 2 * farthest_bit) }
+    ensures { bits.new ≡ 1 ∷ walked (places points.now) first (length bits.old - 1) }
 {
     bits[0] = 1;
     let mut p: usize = 0;
-    for j in 1..len {
-        if on_point(points, n, p, first + (j - 1)) {
+    for j in 1..bits.len() {
+        if on_point(points, p, first + (j - 1)) {
             bits[j] = 0;
             p += 1;
         } else {
@@ -285,8 +311,7 @@ fn write_bits(points: &[f64], n: usize, first: usize, len: usize, bits: &mut [u8
 
 // The last sample that is not under the limit, 0 where there is none.
 fn last_high(seg: &[f32], limit: f64) -> usize
-    requires { 0 < length seg.now }
-    ensures { (result ≡ last_high limit seg.now (length seg.now - 1)) × (result < length seg.now) }
+    ensures { (result ≡ last_high limit seg.now (length seg.now - 1)) × (result ≤ length seg.now) }
 {
     for i in (1..seg.len()).rev() {
         if !under(seg[i], limit) {
@@ -303,11 +328,10 @@ fn under(x: f32, limit: f64) -> bool
 }
 
 // The bit index of the signal's end.
-fn end_index(seg: &[f32], level: f32, c: Clock) -> f64
-    requires { (0 < length seg.now) × (length seg.now ≤ most_samples) }
-    ensures { result ≡ end_index level seg.now c.period c.phase }
+fn end_index(samples: Samples, level: f32, c: Clock) -> f64
+    ensures { result ≡ end_index level samples.entry.dbm.now c.period c.phase }
 {
-    let high = last_high(seg, std::num::f32_to_f64_with_nan(level) - END_DB);
+    let high = last_high(samples.dbm, std::num::f32_to_f64_with_nan(level) - END_DB);
     floats::floor64((floats::count_as_f64(high) - c.phase) / c.period)
 }
 
@@ -325,65 +349,37 @@ pub fn level_of(seg: &[f32]) -> f32
     order::select(seg, LEVEL_TENTHS * seg.len() / 10)
 }
 
-// The median of the depths of n points' dips: index n / 2 of their order (02, request 05).
-fn median_depth(points: &[f64], n: usize) -> f64
-    requires { (0 < n) × (n ≤ depths_at) × (scratch64 ≤ length points.now) × Numbers (take n (drop depths_at points.now)) }
-    ensures { result ≡ kth binary64 (take n (drop depths_at points.now)) (n / 2) }
-{
-    let depths = &points[dips::DEPTHS..dips::DEPTHS + n];
-    order::select(depths, n / 2)
-}
-
-// The bits up to where the signal ends: those after the last dip are 1s (no reversal).
+// The bits up to where the signal ends: those after the last dip are 1s (no reversal). With them the median of the points' depths, index n / 2
+// of their order (02, request 05).
 fn clocked_bits(
-    seg: &[f32],
-    rate: u32,
+    samples: Samples,
     level: f32,
     c: Clock,
     points: &[f64],
+    depths: &[f64],
     bits: &mut [u8],
 ) -> Option<BurstBits>
-    requires { (0 < length seg.now) × (length seg.now ≤ most_samples) × (c.count ≤ depths_at) × (most_bits ≤ length bits.old) × Ready c (places points.now c.count) × (scratch64 ≤ length points.now) × Numbers (take c.count (drop depths_at points.now)) }
-    ensures { (result ≡ values_of (clocked seg.now rate level (places points.now c.count) (take c.count (drop depths_at points.now)) (Some c)))
-        × (bits.new ≡ handed (clocked seg.now rate level (places points.now c.count) (take c.count (drop depths_at points.now)) (Some c)) bits.old) }
+    requires { (c.count ≡ length depths.now) × (most_bits ≤ length bits.old) × Ready c (places points.now) × Numbers depths.now }
+    ensures { (result ≡ values_of (clocked samples.entry.dbm.now samples.entry.rate level (places points.now) depths.now (Some c)))
+        × (bits.new ≡ handed (clocked samples.entry.dbm.now samples.entry.rate level (places points.now) depths.now (Some c)) bits.old) }
 {
-    let n = c.count;
-    if n < ENOUGH_POINTS {
+    if c.count < ENOUGH_POINTS {
         return None;
     }
-    let k = end_index(seg, level, c);
-    if is_lost(k) {
-        return None;
-    }
+    let index = BitIndex::new(end_index(samples, level, c))?;
     let first = c.first;
-    let end = c.last.max(place_of(k));
+    let end = c.last.max(index.place());
     let count = end - first + 2;
     let len = count.min(limits::MOST_BITS);
-    write_bits(points, n, first, len, bits);
+    write_bits(points, first, &mut bits[..len]);
     Some(BurstBits {
         count,
         period: c.period,
-        clock_error_ppm: ppm_of(c.period, nominal_of(rate)),
+        clock_error_ppm: ppm_of(c.period, nominal_of(samples.rate)),
         level,
-        points: n,
-        depth: median_depth(points, n),
+        points: c.count,
+        depth: order::select(depths, c.count / 2),
     })
-}
-
-pub fn start_clock(nominal: f64, phase: f64) -> Clock
-    ensures { (result ≡ start_clock nominal phase) × (result.count ≡ 0) }
-{
-    Clock {
-        period: nominal,
-        phase,
-        sk: 0.0,
-        sd: 0.0,
-        skk: 0.0,
-        skd: 0.0,
-        count: 0,
-        first: 0,
-        last: 0,
-    }
 }
 
 // The bits of a burst.
@@ -402,9 +398,19 @@ pub fn bits_of(samples: Samples, bits: &mut [u8], scratch: &mut [f64]) -> Option
         return None;
     }
     let nominal = nominal_of(samples.rate);
-    let start = start_clock(nominal, anchor_of(scratch, n, nominal));
-    let c = fit_clock(scratch, n, start)?;
-    clocked_bits(seg, samples.rate, level, c, scratch, bits)
+    let (front, back) = scratch.split_at_mut(dips::DEPTHS);
+    let (points, _) = front.split_at_mut(n);
+    let (depths, _) = back.split_at_mut(n);
+    let start = Clock::new(nominal, anchor_of(points, nominal));
+    let c = fit_clock(points, depths, start)?;
+    clocked_bits(
+        samples,
+        level,
+        c,
+        &points[..c.count],
+        &depths[..c.count],
+        bits,
+    )
 }
 
 // The samples, or the first cause that applies to `burst_bits`, with room for so many bits, f32 and f64.
@@ -419,9 +425,7 @@ fn check<'a>(
     ensures cause { cause_of result ≡ bits_cause seg.now rate bits s32 s64 }
     ensures ok { IfOk result (λ s. (s.dbm.now ≡ seg.now) × (s.rate ≡ rate) × (most_bits ≤ bits) × (scratch64 ≤ s64)) }
 {
-    if !limits::rate_ok(rate) {
-        return Err(Refusal::BadRate);
-    }
+    limits::check_rate(rate)?;
     let narrow = s32 < limits::BUFFER_S * (rate as usize);
     if bits < limits::MOST_BITS || narrow || s64 < limits::SCRATCH64 {
         return Err(Refusal::Short);

@@ -43,10 +43,6 @@ pub bit-lt : (b : Bool) → bit_of b < 2
 bit-lt true = omega arith
 bit-lt false = omega arith
 
-pub either_lt : (first : Bool) (a b r : ℕ) → r ≡ cond first a b → a < 2 → b < 2 → r < 2
-either_lt true a b r e h k = omega arith
-either_lt false a b r e h k = omega arith
-
 pub plus-false : (a : Bool) → plus a false ≡ a
 plus-false true = refl
 plus-false false = refl

@@ -3,14 +3,14 @@ use mathlib.Core.Path.{◌≡◌, refl, sym, ap, ap₂, ◌∙◌}
 use mathlib.Core.Bool.{Bool, true, false, cond}
 use mathlib.Core.List.{List, [], ◌∷◌, ◌++◌, map}
 use Prim.Native.Nat.{ℕ, zero, suc, ◌+◌, ◌*◌, ◌/◌, ◌%◌, ◌≤◌, ◌<◌}
-use native.Mathlib.Nat.{mod-eq_of_lt, le_antisymm}
+use native.Mathlib.Nat.{le_antisymm}
 use native.Mathlib.Omega.{arith}
 use native.Mathlib.Numerals.{add-one}
 use lib.ListN.{length, take, drop, get_or, set, drop_of_length-le, take-append-drop}
 use lib.Seq.{drop-cons, take-suc-set, drop-set-lt, append_snoc}
 use Rattle.coding.specs.Bits.{plus, odd, bit_of}
-use Rattle.coding.specs.Convolution.{State, coded, tap, shift, state_of, state_after, numbered, convolved, deconvolved, through, taken}
-use Rattle.coding.proofs.BitLaws.{odd-sum, bit-odd, odd-bit, plus-false, plus-twice}
+use Rattle.coding.specs.Convolution.{State, coded, tap, shift, state_of, state_after, numbered, convolved, deconvolved}
+use Rattle.coding.proofs.BitLaws.{odd-bit, plus-twice}
 
 -- every generator has the coefficient 1: a product's bit is the input and what the state adds
 pub coded_is : (r : ℕ) (s : State) (a : Bool) → coded r s a ≡ plus a (tap r s)
@@ -90,29 +90,14 @@ unfolding state_after
 state-append s [] b = refl
 state-append s (x ∷ a) b = state-append (shift s x) a b
 
--- ---- one bit, as the code adds
-
-module _ (r b p q : ℕ) where
-  pub two_taps : r ≡ 1 → (b + (p + q)) % 2 ≡ bit_of (plus (odd b) (tap r (state_of p q)))
-  two_taps e =
-      sym (bit-odd (b + (p + q))) ∙ ap bit_of (odd-sum b (p + q) ∙ ap (plus (odd b)) (odd-sum p q ∙ ap (plus (odd p)) (sym (plus-false (odd q)))))
-      ∙ ap (λ (k : ℕ). bit_of (plus (odd b) (tap k (state_of p q)))) (sym e)
-
-  pub one_tap : r ≡ 2 → (b + q) % 2 ≡ bit_of (plus (odd b) (tap r (state_of p q)))
-  one_tap e =
-      sym (bit-odd (b + q)) ∙ ap bit_of (odd-sum b q ∙ ap (plus (odd b)) (sym (plus-false (odd q))))
-      ∙ ap (λ (k : ℕ). bit_of (plus (odd b) (tap k (state_of p q)))) (sym e)
-
-no_sum : (b : ℕ) → b < 2 → b ≡ bit_of (plus (odd b) false)
-no_sum b l = sym (mod-eq_of_lt l) ∙ sym (bit-odd b) ∙ ap bit_of (sym (plus-false (odd b)))
-
-pub no_tap : (r b : ℕ) (s : State) → b < 2 → (r ≡ 1 → ⊥) → (r ≡ 2 → ⊥) → b ≡ bit_of (plus (odd b) (tap r s))
-no_tap zero b s l h k = no_sum b l
-no_tap (suc zero) b s l h k = absurd (h refl)
-no_tap (suc (suc zero)) b s l h k = absurd (k refl)
-no_tap (suc (suc (suc r))) b s l h k = no_sum b l
-
 -- ---- either direction: the next bit, and the state after it
+
+abbrev pub through : Bool → ℕ → State → List Bool → List Bool
+through undo r s l = cond undo (deconvolved r s l) (convolved r s l)
+
+-- and the inputs that the state takes up
+abbrev pub taken : Bool → ℕ → State → List Bool → List Bool
+taken undo r s l = cond undo (deconvolved r s l) l
 
 through-cons : (undo : Bool) (r : ℕ) (s : State) (b : Bool) (l : List Bool)
     → through undo r s (b ∷ l) ≡ plus b (tap r s) ∷ through undo r (shift s (cond undo (plus b (tap r s)) b)) l

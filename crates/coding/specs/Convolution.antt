@@ -1,6 +1,6 @@
 -- The convolutional codes of the repetitions (Sigfox radio specifications; frame.rs CONV_OUT, CONV_NEXT). A list of bits is a power series over GF(2) in
 -- the delay D, its first bit the constant term; a repetition is sent as its product with the rank's generator. Assumes nothing.
-use Rattle.std.specs.Prelude.{ℕ, zero, suc, ◌+◌, ◌*◌, ◌/◌, ◌%◌, Bool, true, false, cond, ◌&&◌, List, [], ◌∷◌}
+use Rattle.std.specs.Prelude.{ℕ, zero, suc, ◌+◌, ◌*◌, ◌/◌, ◌%◌, Bool, true, false, ◌&&◌, List, [], ◌∷◌}
 use Rattle.coding.specs.Bits.{plus, odd, bit_of}
 
 -- the coefficients of 1, D, D²: rank 1 is sent with 1 + D + D², rank 2 with 1 + D², the first transmission as it is
@@ -61,10 +61,3 @@ state_number s = 2 * bit_of s.last + bit_of s.second
 
 abbrev pub numbered : ℕ → State
 numbered n = state_of (n / 2) (n % 2)
-
--- either direction, as one loop has them, and the inputs that the state takes up
-abbrev pub through : Bool → ℕ → State → List Bool → List Bool
-through undo r s l = cond undo (deconvolved r s l) (convolved r s l)
-
-abbrev pub taken : Bool → ℕ → State → List Bool → List Bool
-taken undo r s l = cond undo (deconvolved r s l) l

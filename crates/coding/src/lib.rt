@@ -5,7 +5,7 @@ ghost use Rattle.std.specs.Prelude.{◌≡◌, true, ◌++◌, map, ◌<◌, ◌
 ghost use Rattle.coding.specs.Bits.{odd, bit_of, plus, digits, are_bits};
 ghost use Rattle.coding.specs.Crc.{crc_of};
 ghost use Rattle.coding.specs.Register.{run};
-ghost use Rattle.coding.specs.Convolution.{tap, fresh, state_of, numbered, state_after, convolved, deconvolved, through, taken};
+ghost use Rattle.coding.specs.Convolution.{tap, state_of, numbered, state_after, convolved, deconvolved};
 ghost use Rattle.limits.specs.Answer.{said, cause_of};
 ghost use Rattle.coding.specs.Answers.{coding_cause, coding_answer, convolve_out, deconvolve_out};
 
@@ -24,16 +24,9 @@ pub fn crc_byte(c: u16, b: u8) -> u16
     ensures { result ≡ run c (digits 8 b) }
 {
     let x = ((c / 256) as u8) ^ b;
-    let y = wide(x ^ (x / 16));
+    let y = u16::from(x ^ (x / 16));
     let low = (c % 256) * 256;
     low ^ (((y % 16) * X12) ^ (y * X5) ^ y)
-}
-
-// A byte as a wider number.
-pub fn wide(x: u8) -> u16
-    ensures { (result ≡ x) × (result < 256) }
-{
-    x as u16
 }
 
 // The CRC of bytes (frame.rs crc16).
@@ -88,33 +81,45 @@ fn check(bits: &[u8], rank: u8, room: usize) -> Result<(), Refusal>
     Ok(())
 }
 
-// The bits' product, or with `undo` the inputs of which they are the product, from a state on, into the first places of `out`; the state after them.
-// A state is frame.rs's number: the last input counts 2, the one before it 1.
-pub fn code_from(bits: &[u8], rank: u8, undo: bool, state: u8, out: &mut [u8]) -> u8
+// The two inputs of a state, which is frame.rs's number: the last one counts 2, the one before it 1.
+fn inputs_of(state: u8) -> (u8, u8)
+    requires { state < 4 }
+    ensures { (numbered state ≡ state_of result.0 result.1) × (result.0 < 2) × (result.1 < 2) }
+{
+    (state / 2, state % 2)
+}
+
+// The bits' product, from a state on, into the first places of `out`; the state after them.
+pub fn convolve_from(bits: &[u8], rank: u8, state: u8, out: &mut [u8]) -> u8
     requires { (are_bits bits.now ≡ true) × (length bits.now ≤ length out.old) × (state < 4) }
-    ensures { (out.new
-        ≡ map bit_of (through undo rank (numbered state) (map odd bits.now)) ++ drop (length bits.now) out.old)
-        × (numbered result ≡ state_after (numbered state) (taken undo rank (numbered state) (map odd bits.now)))
+    ensures { (out.new ≡ map bit_of (convolved rank (numbered state) (map odd bits.now)) ++ drop (length bits.now) out.old)
+        × (numbered result ≡ state_after (numbered state) (map odd bits.now))
         × (result < 4) }
 {
-    let mut p = state / 2;
-    let mut q = state % 2;
+    let (mut p, mut q) = inputs_of(state);
     for (i, b) in bits.iter().enumerate() {
-        let a = coded_bit(*b, rank, p, q);
-        out[i] = a;
+        out[i] = coded_bit(*b, rank, p, q);
         q = p;
-        p = whole::pick(undo, a, *b);
+        p = *b;
     }
     2 * p + q
 }
 
-// The same from zeros.
-pub fn code_into(bits: &[u8], rank: u8, undo: bool, out: &mut [u8])
-    requires { (are_bits bits.now ≡ true) × (length bits.now ≤ length out.old) }
-    ensures { out.new
-        ≡ map bit_of (through undo rank fresh (map odd bits.now)) ++ drop (length bits.now) out.old }
+// The inputs of which the bits are the product, from a state on, into the first places of `out`; the state after them.
+pub fn deconvolve_from(bits: &[u8], rank: u8, state: u8, out: &mut [u8]) -> u8
+    requires { (are_bits bits.now ≡ true) × (length bits.now ≤ length out.old) × (state < 4) }
+    ensures { (out.new ≡ map bit_of (deconvolved rank (numbered state) (map odd bits.now)) ++ drop (length bits.now) out.old)
+        × (numbered result ≡ state_after (numbered state) (deconvolved rank (numbered state) (map odd bits.now)))
+        × (result < 4) }
 {
-    code_from(bits, rank, undo, 0, out);
+    let (mut p, mut q) = inputs_of(state);
+    for (i, b) in bits.iter().enumerate() {
+        let a = coded_bit(*b, rank, p, q);
+        out[i] = a;
+        q = p;
+        p = a;
+    }
+    2 * p + q
 }
 
 // The bits as a repetition sends them (frame.rs convolve).
@@ -123,7 +128,7 @@ pub fn convolve(bits: &[u8], rank: u8, out: &mut [u8]) -> Result<usize, Refusal>
         × (out.new ≡ convolve_out bits.now rank out.old) }
 {
     check(bits, rank, out.len())?;
-    code_into(bits, rank, false, out);
+    convolve_from(bits, rank, 0, out);
     Ok(bits.len())
 }
 
@@ -133,6 +138,6 @@ pub fn deconvolve(bits: &[u8], rank: u8, out: &mut [u8]) -> Result<usize, Refusa
         × (out.new ≡ deconvolve_out bits.now rank out.old) }
 {
     check(bits, rank, out.len())?;
-    code_into(bits, rank, true, out);
+    deconvolve_from(bits, rank, 0, out);
     Ok(bits.len())
 }

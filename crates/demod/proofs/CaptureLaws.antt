@@ -1,11 +1,12 @@
 -- The loop over the bursts of a capture, which writes a record for each frame. Assumes nothing.
-use Rattle.std.proofs.Common.{Option, None, Some}
+use Rattle.std.proofs.Common.{Option, None, Some, take_all}
 use mathlib.Core.Path.{◌≡◌, refl, sym, ap, ◌∙◌}
 use mathlib.Core.List.{List, [], ◌∷◌, ◌++◌, append_assoc, append-nil}
-use Prim.Native.Nat.{ℕ, ◌+◌, ◌*◌, ◌≤◌, ◌<◌}
+use Prim.Native.Nat.{ℕ, ◌+◌, ◌-◌, ◌*◌, ◌≤◌, ◌<◌}
 use native.Mathlib.Omega.{arith}
-use lib.ListN.{length, take, drop, length-append, length-take, take-append-drop}
-use lib.Seq.{sets, sets-eq, length-sets, take_at, drop_at, drop-drop}
+use lib.ListN.{length, take, drop, length-append, length-drop, length-take, take-append-drop}
+use lib.Seq.{sets, sets-eq, length-sets, take_at, drop_at, drop-drop, drop-length}
+use borrow.Rule.Slice.PartMut.{put_mid}
 use lib.Ieee.{Float}
 use Rattle.limits.specs.Limits.{lowest_rate, highest_rate, buffer_s, record_size}
 use Rattle.record.specs.Record.{frame_record}
@@ -27,6 +28,14 @@ pub joined-append : (a b : List (List ℕ)) → joined (a ++ b) ≡ joined a ++ 
 unfolding joined
 joined-append [] b = refl
 joined-append (r ∷ a) b = ap (λ (l : List ℕ). r ++ l) (joined-append a b) ∙ sym (append_assoc r (joined a) (joined b))
+
+-- what is written in front of what is left of a list is written at its place
+put_is : (l v : List ℕ) (k : ℕ) → k + length v ≤ length l → put_mid k (length l - k) l (sets (drop k l) 0 v) ≡ sets l k v
+put_is l v k h =
+    let zero : 0 + length v ≡ length v = omega arith in
+    let front : sets (drop k l) 0 v ≡ v ++ drop (k + length v) l = sets-eq v (drop k l) 0 (omega (arith, length-drop k l)) ∙ rw (zero, drop-drop (length v) k l) refl in
+    let none : drop (length l - k) (drop k l) ≡ [] = drop-drop (length l - k) k l ∙ ap (λ (n : ℕ). drop n l) (omega arith) ∙ drop-length l in
+    rw (front, none, append-nil (v ++ drop (k + length v) l)) (sym (append_assoc (take k l) v (drop (k + length v) l)) ∙ sym (sets-eq v l k h))
 
 -- a record is 120 bytes
 sized_if : (o : Option DecodedFrame) (start : ℕ) → ((d : DecodedFrame) → o ≡ Some d → Lawful d.frame) → length (joined (record_if o start)) ≡ record_size * length (record_if o start)
@@ -55,27 +64,35 @@ module _ (dbm : List Float) (rate : ℕ) (t0 : Float) where
     abbrev pub Adds : ℕ → List ℕ → Type 0
     Adds m next = (m ≡ n + length (record_of dbm rate t0 b)) × (next ≡ sets now (record_size * n) (joined (record_of dbm rate t0 b)))
 
-    pub adds_none : None ≡ decode_burst dbm rate b t0 → Adds n now
-    unfolding record_of record_if joined
-    adds_none e = rw (← e) (omega arith, refl)
+    pub adds : (d : Option DecodedFrame) (r : ℕ) (part : List ℕ) → d ≡ decode_burst dbm rate b t0 → record_size * (n + 1) ≤ length now → r ≡ length (record_if d b.start)
+        → part ≡ sets (take (length now - record_size * n) (drop (record_size * n) now)) 0 (joined (record_if d b.start)) → Adds (n + r) (put_mid (record_size * n) (length now - record_size * n) now part)
+    unfolding record_of
+    adds d r part e place rc pc =
+        let rest : take (length now - record_size * n) (drop (record_size * n) now) ≡ drop (record_size * n) now = take_all (length now - record_size * n) (drop (record_size * n) now) (omega (arith, length-drop (record_size * n) now)) in
+        let whole : part ≡ sets (drop (record_size * n) now) 0 (joined (record_if d b.start)) = rw rest at pc in
+        let rec : record_if d b.start ≡ record_of dbm rate t0 b = ap (λ (o : Option DecodedFrame). record_if o b.start) e in (
+          ap (λ (k : ℕ). n + k) (rc ∙ ap length rec),
+          ap (put_mid (record_size * n) (length now - record_size * n) now) (whole ∙ ap (λ (q : List (List ℕ)). sets (drop (record_size * n) now) 0 (joined q)) rec)
+              ∙ put_is now (joined (record_of dbm rate t0 b)) (record_size * n) (omega (arith, sized b, one b)),
+        )
 
-    pub adds_one : (d : DecodedFrame) (next : List ℕ) → Some d ≡ decode_burst dbm rate b t0 → next ≡ sets now (record_size * n) (frame_record d.frame (reception_of d b.start)) → Adds (n + 1) next
-    unfolding record_of record_if joined
-    adds_one d next e w = rw (← e, append-nil (frame_record d.frame (reception_of d b.start))) (omega arith, w)
+    -- one record at most
+    pub few_adds : (d : Option DecodedFrame) (r : ℕ) → r ≡ length (record_if d b.start) → r ≤ 1
+    few_adds d r rc = omega (arith, rc, one_if_lem d b.start)
 
   module _ (floor : Float) where
     -- the records of the bursts that are left at an index
-    abbrev pub recordsLeft : ℕ → List (List ℕ)
-    recordsLeft at = records_of dbm rate t0 (bursts_from dbm rate default_options floor at)
+    abbrev pub records_left : ℕ → List (List ℕ)
+    records_left at = records_of dbm rate t0 (bursts_from dbm rate default_options floor at)
 
     -- n records are written, and the search goes on at an index
     pub record CaptureAt (old : List ℕ) (at n : ℕ) (now : List ℕ) : Type 0 where
       pub inside : at ≤ length dbm
       pub few : n + length (bursts_from dbm rate default_options floor at) ≤ most_bursts
       pub size : length now ≡ length old
-      pub count : n + length (recordsLeft at) ≡ length (captured dbm rate t0 floor)
+      pub count : n + length (records_left at) ≡ length (captured dbm rate t0 floor)
       pub past : drop (record_size * n) now ≡ drop (record_size * n) old
-      pub here : take (record_size * n) now ++ joined (recordsLeft at) ≡ joined (captured dbm rate t0 floor)
+      pub here : take (record_size * n) now ++ joined (records_left at) ≡ joined (captured dbm rate t0 floor)
 
     pub capture-start : (old : List ℕ) → lowest_rate ≤ rate → rate ≤ highest_rate → length dbm ≤ buffer_s * rate → CaptureAt old 0 0 old
     unfolding captured
@@ -110,7 +127,7 @@ module _ (dbm : List Float) (rate : ℕ) (t0 : Float) where
 
       -- it found a burst
       module _ (b : Burst) (f : Next dbm rate default_options floor at b) where
-        left : recordsLeft at ≡ record_of dbm rate t0 b ++ recordsLeft b.end
+        left : records_left at ≡ record_of dbm rate t0 b ++ records_left b.end
         unfolding records_of
         left = ap (records_of dbm rate t0) f.list
 
@@ -141,12 +158,12 @@ module _ (dbm : List Float) (rate : ℕ) (t0 : Float) where
                 inside = f.inside;
                 few = omega (arith, fewer, one b);
                 size = ap length w ∙ length-sets now (record_size * n) bytes ∙ c.size;
-                count = omega (arith, c.count, ap length left, length-append (record_of dbm rate t0 b) (recordsLeft b.end));
+                count = omega (arith, c.count, ap length left, length-append (record_of dbm rate t0 b) (records_left b.end));
                 past =
                     ap (drop (record_size * m)) parts ∙ drop_at (take (record_size * n) now ++ bytes) (drop (record_size * m) now) (record_size * m) front
                     ∙ rw (← long) (sym (drop-drop (length bytes) (record_size * n) now) ∙ ap (drop (length bytes)) c.past ∙ drop-drop (length bytes) (record_size * n) old);
                 here =
-                    ap (λ (l : List ℕ). l ++ joined (recordsLeft b.end)) (ap (take (record_size * m)) parts ∙ take_at (take (record_size * n) now ++ bytes) (drop (record_size * m) now) (record_size * m) front)
-                    ∙ append_assoc (take (record_size * n) now) bytes (joined (recordsLeft b.end))
-                    ∙ ap (λ (l : List ℕ). take (record_size * n) now ++ l) (sym (joined-append (record_of dbm rate t0 b) (recordsLeft b.end)) ∙ ap joined (sym left)) ∙ c.here;
+                    ap (λ (l : List ℕ). l ++ joined (records_left b.end)) (ap (take (record_size * m)) parts ∙ take_at (take (record_size * n) now ++ bytes) (drop (record_size * m) now) (record_size * m) front)
+                    ∙ append_assoc (take (record_size * n) now) bytes (joined (records_left b.end))
+                    ∙ ap (λ (l : List ℕ). take (record_size * n) now ++ l) (sym (joined-append (record_of dbm rate t0 b) (records_left b.end)) ∙ ap joined (sym left)) ∙ c.here;
               }

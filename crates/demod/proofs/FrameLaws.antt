@@ -3,7 +3,7 @@ use Rattle.std.proofs.Common.{Option, None, Some}
 use mathlib.Core.Path.{◌≡◌, refl, sym, ap, ap₂, ◌∙◌, subst}
 use mathlib.Core.Bool.{Bool, true, false, cond, ◌&&◌}
 use mathlib.Core.List.{List, [], ◌∷◌, map}
-use Prim.Native.Nat.{ℕ, zero, suc, ◌+◌, ◌-◌, ◌≤◌, min, max}
+use Prim.Native.Nat.{ℕ, zero, suc, ◌≤◌, min}
 use lib.IntN.{ℤ}
 use native.Mathlib.Omega.{arith}
 use lib.Dec.{T, leb, ltb, lit≤}
@@ -16,13 +16,12 @@ use mir.ValLaws.{to_z-of_z}
 use Rattle.limits.specs.Limits.{most_bits}
 use Rattle.limits.proofs.Samples.{and_left, and_right}
 use Rattle.rates.specs.Numbers.{level_quantile}
-use Rattle.rates.specs.Rates.{nominal_of, pad_of}
+use Rattle.rates.specs.Rates.{nominal_of}
 use Rattle.coding.specs.Bits.{odd, are_bits}
 use Rattle.frame.specs.Decode.{decode_uplink}
 use Rattle.frame.specs.declared.UplinkFrame.{UplinkFrame}
 use Rattle.frame.proofs.PrefixLaws.{decode_prefix}
 use Rattle.bursts.specs.Levels.{quantile}
-use Rattle.bursts.specs.declared.Burst.{Burst}
 use Rattle.dips.specs.Dips.{Dip, positions_of, found_in}
 use Rattle.clock.specs.Numbers.{enough_dips, enough_points}
 use Rattle.clock.specs.Clock.{anchor, lost, as_index, Point, BitClock, first_index, last_index, start_clock, track}
@@ -30,7 +29,7 @@ use Rattle.clock.specs.Bits.{end_index, larger, indexes, on_grid, bit_at, all_bi
 use Rattle.clock.specs.declared.BurstBits.{BurstBits}
 use Rattle.clock.proofs.BitLaws.{ppm-fits}
 use Rattle.demod.specs.declared.DecodedFrame.{DecodedFrame}
-use Rattle.demod.specs.Decode.{from_of, to_of, segment_of, time_at, depth_byte, with_burst, heard_in, decode_burst}
+use Rattle.demod.specs.Decode.{depth_byte, with_burst, heard_in}
 
 -- ---- every outcome's bits are bits, and its ppm is an i32
 
@@ -145,11 +144,3 @@ module _ (seg : List Float) (rate : ℕ) (v : BurstBits) (q : Some v ≡ values_
       let g : to_z w32 (of_z w32 m) ≡ m = to_z-of_z w32 m (subst (λ (z : ℤ). SFits w32 z) (sym s.ppm) clean.1) in
       let i : heard_in t end r (outcome seg rate) ≡ with_burst t end r s.read.ppm (depth_byte s.read.depth) (decode_uplink (map odd s.read.bits)) = rw s.is in
       shows ∙ ap₂ (λ (z : ℤ) (c : ℕ). with_burst t end r z c d) (g ∙ s.ppm) (deep ∙ ap depth_byte s.depth) ∙ ap (with_burst t end r s.read.ppm (depth_byte s.read.depth)) (f ∙ same) ∙ sym i
-
--- ---- the segment
-
-pub decode_is : (dbm : List Float) (rate : ℕ) (b : Burst) (t0 : Float) (pad back from end to : ℕ) (t e : Float) (r : Option DecodedFrame) → pad ≡ pad_of rate → back ≡ b.start - pad → from ≡ min back (length dbm)
-    → end ≡ min (b.end + pad) (length dbm) → to ≡ max from end → t ≡ time_at t0 rate b.start → e ≡ time_at t0 rate b.end
-    → r ≡ heard_in t e b.peak_dbm (outcome (take (to - from) (drop from dbm)) rate) → r ≡ decode_burst dbm rate b t0
-unfolding decode_burst segment_of to_of from_of
-decode_is dbm rate b t0 pad back from end to t e r pe be fe ee te tm et q = q ∙ rw (te, ee, fe, be, pe, tm, et)

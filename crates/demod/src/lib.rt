@@ -10,13 +10,14 @@ ghost use Rattle.rates.specs.Rates.{pad_of};
 ghost use Rattle.record.specs.Record.{frame_record};
 ghost use Rattle.bursts.specs.Levels.{noise_floor};
 ghost use Rattle.clock.specs.Bits.{outcome};
-ghost use Rattle.demod.specs.Decode.{widest_pad, time_at, depth_byte, with_burst, heard_in, decode_burst, burst_ok, decode_cause, decode_answer};
-ghost use Rattle.demod.specs.Capture.{floor_of, floor_ok, reception_of, record_of, captured, joined, capture_cause, capture_answer, in_front};
+ghost use Rattle.demod.specs.Decode.{widest_pad, from_of, to_of, segment_of, time_at, depth_byte, decode_burst, burst_ok, decode_cause, decode_answer};
+ghost use Rattle.demod.specs.Capture.{floor_of, floor_ok, reception_of, record_if, captured, joined, capture_cause, capture_answer, in_front};
 
 use bursts::Burst;
 use frame::UplinkFrame;
 use limits::Refusal;
 use limits::rated::Samples;
+use record::Reception;
 
 #[derive(Clone, Copy)]
 pub struct DecodedFrame {
@@ -40,50 +41,20 @@ fn depth_byte(depth: f64) -> u8
     floats::to_usize_saturating(floats::floor64(depth * 2.0)).min(MOST_DEPTH) as u8
 }
 
-// What was decoded, with the burst's times, its level, the clock's error and the dips' depth.
-fn heard(
-    f: Option<UplinkFrame>,
-    time: f64,
-    end: f64,
-    rssi: f32,
-    ppm: i32,
-    depth: u8,
-) -> Option<DecodedFrame>
-    ensures { result ≡ with_burst time end rssi ppm depth f }
-{
-    let frame = f?;
-    Some(DecodedFrame {
-        frame,
-        time,
-        end,
-        rssi,
-        clock_error_ppm: ppm,
-        depth,
-    })
-}
-
-// The frame in a segment. Decoding reads no bit past the 215th, so the first 1,024 serve.
-fn decode_segment(
-    seg: Samples,
-    scratch: &mut [f64],
-    time: f64,
-    end: f64,
-    rssi: f32,
-) -> Option<DecodedFrame>
-    requires { scratch64 ≤ length scratch.old }
-    ensures { result ≡ heard_in time end rssi (outcome seg.entry.dbm.now seg.entry.rate) }
-{
-    let mut bits = [0u8; 1024];
-    let b = clock::bits_of(seg, &mut bits, scratch)?;
-    let len = b.count.min(limits::MOST_BITS);
-    heard(
-        frame::decode_bits(&bits[..len]),
-        time,
-        end,
-        rssi,
-        b.clock_error_ppm,
-        depth_byte(b.depth),
-    )
+impl DecodedFrame {
+    // What its record has besides the frame: the burst starts at a sample.
+    pub fn reception(self, start: u64) -> Reception
+        ensures { result ≡ reception_of self start }
+    {
+        Reception {
+            clock_error_ppm: self.clock_error_ppm,
+            rssi: self.rssi,
+            time: self.time,
+            end: self.end,
+            start,
+            depth: self.depth,
+        }
+    }
 }
 
 // A burst's segment reaches 0.02 s past it on both sides: a fiftieth of a second.
@@ -105,7 +76,37 @@ fn time_at(t0: f64, rate: u32, i: usize) -> f64
     t0 + floats::count_as_f64(i) / (rate as f64)
 }
 
-// The frame in a burst, with its margins, clamped to the samples.
+// The samples of a burst that are looked at: from one place on to another.
+#[derive(Clone, Copy)]
+pub struct Segment {
+    pub from: usize,
+    pub to: usize,
+}
+
+// Those of a burst with its margins, clamped to the samples.
+pub fn looked_at(dbm: &[f32], rate: u32, burst: Burst) -> Segment
+    requires { (lowest_rate ≤ rate) × (rate ≤ highest_rate) × (burst.end ≤ longest_stream) }
+    ensures { (result.from ≡ from_of dbm.now rate burst) × (result.to ≡ to_of dbm.now rate burst) × (result.from ≤ result.to) × (result.to ≤ length dbm.now) }
+{
+    let pad = margin(rate);
+    let from = dips::back(burst.start, pad).min(dbm.len());
+    let to = from.max((burst.end + pad).min(dbm.len()));
+    Segment { from, to }
+}
+
+// Those samples.
+fn burst_samples(samples: Samples, burst: Burst) -> Samples
+    requires { burst.end ≤ longest_stream }
+    ensures { (result.dbm.now ≡ segment_of samples.entry.dbm.now samples.entry.rate burst) × (result.rate ≡ samples.entry.rate) }
+{
+    let seen = looked_at(samples.dbm, samples.rate, burst);
+    Samples {
+        dbm: &samples.dbm[seen.from..seen.to],
+        rate: samples.rate,
+    }
+}
+
+// The frame in a burst. Decoding reads no bit past the 215th, so the first 1,024 serve.
 pub fn decode_within(
     samples: Samples,
     burst: Burst,
@@ -115,18 +116,18 @@ pub fn decode_within(
     requires { (burst.start ≤ longest_stream) × (burst.end ≤ longest_stream) × (scratch64 ≤ length scratch.old) }
     ensures { result ≡ decode_burst samples.entry.dbm.now samples.entry.rate burst t0 }
 {
-    let dbm = samples.dbm;
-    let rate = samples.rate;
-    let pad = margin(rate);
-    let from = dips::back(burst.start, pad).min(dbm.len());
-    let to = from.max((burst.end + pad).min(dbm.len()));
-    let time = time_at(t0, rate, burst.start);
-    let end = time_at(t0, rate, burst.end);
-    let seg = Samples {
-        dbm: &dbm[from..to],
-        rate,
-    };
-    decode_segment(seg, scratch, time, end, burst.peak_dbm)
+    let mut bits = [0u8; 1024];
+    let b = clock::bits_of(burst_samples(samples, burst), &mut bits, scratch)?;
+    let len = b.count.min(limits::MOST_BITS);
+    let frame = frame::decode_bits(&bits[..len])?;
+    Some(DecodedFrame {
+        frame,
+        time: time_at(t0, samples.rate, burst.start),
+        end: time_at(t0, samples.rate, burst.end),
+        rssi: burst.peak_dbm,
+        clock_error_ppm: b.clock_error_ppm,
+        depth: depth_byte(b.depth),
+    })
 }
 
 // Whether cause 9 does not apply.
@@ -137,7 +138,7 @@ fn burst_ok(burst: Burst, t0: f64) -> bool
     let end = (burst.end as u64) <= limits::LONGEST_STREAM;
     let time = limits::time_ok(t0);
     let floor = limits::is_dbm(burst.floor_dbm);
-    let peak = burst.peak_dbm != burst.peak_dbm;
+    let peak = burst.peak_dbm.is_nan();
     start & (end & (time & (floor & !peak)))
 }
 
@@ -154,9 +155,7 @@ fn check_burst<'a>(
     ensures cause { cause_of result ≡ decode_cause dbm.now rate burst t0 s32 s64 }
     ensures ok { IfOk result (λ s. (s.dbm.now ≡ dbm.now) × (s.rate ≡ rate) × (burst.start ≤ longest_stream) × (burst.end ≤ longest_stream) × (scratch64 ≤ s64)) }
 {
-    if !limits::rate_ok(rate) {
-        return Err(Refusal::BadRate);
-    }
+    limits::check_rate(rate)?;
     if s32 < limits::BUFFER_S * (rate as usize) || s64 < limits::SCRATCH64 {
         return Err(Refusal::Short);
     }
@@ -184,45 +183,16 @@ pub fn decode_burst(
     Ok(decode_within(samples, burst, t0, scratch64))
 }
 
-// The record of a decoded frame, at a place of the events.
-fn put_decoded(d: DecodedFrame, start: usize, events: &mut [u8], at: usize)
-    requires { at + record_size ≤ length events.old }
-    ensures { events.new ≡ sets events.old at (frame_record d.frame (reception_of d start)) }
+// The record of a burst that has a frame, in front of what is left of the events; how many records that is.
+fn put_decoded(d: Option<DecodedFrame>, start: usize, events: &mut [u8]) -> usize
+    requires { record_size ≤ length events.old }
+    ensures { (result ≡ length (record_if d start)) × (events.new ≡ sets events.old 0 (joined (record_if d start))) }
 {
-    let f = d.frame;
-    record::put_frame(
-        f,
-        record::Reception {
-            clock_error_ppm: d.clock_error_ppm,
-            rssi: d.rssi,
-            time: d.time,
-            end: d.end,
-            start: start as u64,
-            depth: d.depth,
-        },
-        events,
-        at,
-    );
-}
-
-// The record of a burst that has a frame, after n others; how many there are then.
-fn capture_burst(
-    samples: Samples,
-    burst: Burst,
-    t0: f64,
-    events: &mut [u8],
-    n: usize,
-    scratch: &mut [f64],
-) -> usize
-    requires { (burst.start ≤ longest_stream) × (burst.end ≤ longest_stream) × (scratch64 ≤ length scratch.old) × (record_size * (n + 1) ≤ length events.old) }
-    ensures { (result ≡ n + length (record_of samples.entry.dbm.now samples.entry.rate t0 burst))
-        × (events.new ≡ sets events.old (record_size * n) (joined (record_of samples.entry.dbm.now samples.entry.rate t0 burst))) }
-{
-    match decode_within(samples, burst, t0, scratch) {
-        None => n,
+    match d {
+        None => 0,
         Some(d) => {
-            put_decoded(d, burst.start, events, limits::RECORD * n);
-            n + 1
+            record::put_frame(d.frame, d.reception(start as u64), events, 0);
+            1
         }
     }
 }
@@ -243,7 +213,8 @@ fn capture(samples: Samples, t0: f64, floor: f32, events: &mut [u8], scratch: &m
                 return n;
             }
             Some(b) => {
-                n = capture_burst(samples, b, t0, events, n, scratch);
+                let d = decode_within(samples, b, t0, scratch);
+                n += put_decoded(d, b.start, &mut events[limits::RECORD * n..]);
                 at = b.end;
             }
         }
@@ -286,9 +257,7 @@ fn check_capture<'a>(
     ensures cause { cause_of result ≡ capture_cause dbm.now rate t0 floor room s32 s64 }
     ensures ok { IfOk result (λ s. (s.dbm.now ≡ dbm.now) × (s.rate ≡ rate) × (events_size ≤ room) × (scratch64 ≤ s64)) }
 {
-    if !limits::rate_ok(rate) {
-        return Err(Refusal::BadRate);
-    }
+    limits::check_rate(rate)?;
     let narrow = s32 < limits::BUFFER_S * (rate as usize);
     if room < limits::EVENTS || narrow || s64 < limits::SCRATCH64 {
         return Err(Refusal::Short);

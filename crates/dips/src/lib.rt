@@ -1,7 +1,7 @@
 // The dips of a burst's envelope, at the phase reversals (demod.rs `find_dips`).
 #![tactic(auto)]
 
-ghost use Rattle.std.specs.Prelude.{◌≡◌, ◌+◌, ◌-◌, ◌*◌, ◌<◌, ◌≤◌, true, not, ◌||◌, length, slice_index_or, IfOk};
+ghost use Rattle.std.specs.Prelude.{◌≡◌, ◌+◌, ◌-◌, ◌*◌, ◌/◌, ◌<◌, ◌≤◌, true, not, ◌||◌, length, slice_index_or, IfOk};
 ghost use Rattle.std.proofs.Math.Seq.{slice};
 ghost use Rattle.std.specs.Float.{nan};
 ghost use Rattle.std.specs.Float.Ieee.{lt, le};
@@ -47,45 +47,130 @@ pub fn back(i: usize, n: usize) -> usize
     i.saturating_sub(n)
 }
 
-// A side level of sample i, which passed its neighbours: the highest sample from an index to another, that one not in.
-fn side_level(seg: &[f32], half: usize, i: usize, from: usize, to: usize) -> f32
-    requires { (neighbours half seg.now i ≡ true) × (from ≤ to) × (to ≤ length seg.now) }
-    ensures { result ≡ max_from lowest_side (slice from to seg.now) }
-{
-    floats::highest32(LOWEST_SIDE, &seg[from..to])
+// The samples that are looked at on a side of a dip, and those that its half window reaches to.
+#[derive(Clone, Copy)]
+struct Windows {
+    side: usize,
+    half: usize,
+    ghost narrow_side: { side ≤ widest_side },
+    ghost narrow_half: { half ≤ widest_half },
+    ghost some: { 0 < half },
 }
 
-// Dips are measured against the local envelope on each side (max over 1.5 bits). A real dip has a high level on both sides; this rejects the
-// rising and falling edges of the frame, and copes with the transmit power ramping during the first part of a frame.
-// The depth is what the sample lies under the lower side (02, request 05).
-fn sides_high(seg: &[f32], win: usize, half: usize, level: f64, i: usize) -> Option<f64>
-    requires { (neighbours half seg.now i ≡ true) × (i < length seg.now) × (length seg.now ≤ most_samples) × (win ≤ most_samples) }
-    ensures { result ≡ tested (sides level win seg.now i) (depth_of win seg.now i) }
+// round(rate * parts / unit), as a whole number.
+fn rounded(rate: u32, parts: u32, unit: u32) -> usize
+    requires { (rate ≤ highest_rate) × (parts ≤ 3) × (0 < unit) × (unit ≤ 500) }
+    ensures { result ≡ (parts * rate + unit / 2) / unit }
 {
-    let v = std::num::f32_to_f64_with_nan(seg[i]);
-    let l = side_level(seg, half, i, back(i, win), i);
-    let left = std::num::f32_to_f64_with_nan(l);
-    let r = side_level(seg, half, i, i + 1, (i + 1 + win).min(seg.len()));
-    let right = std::num::f32_to_f64_with_nan(r);
-    let lower = whole::pick(right < left, right, left);
-    let higher = whole::pick(left < right, right, left);
-    let shallow = v >= lower - DIP_DB;
-    let dim = higher < level - DIM_DB;
-    if shallow | dim {
-        return None;
+    ((parts * rate + unit / 2) / unit) as usize
+}
+
+impl Windows {
+    fn new(rate: u32) -> Self
+        requires { (lowest_rate ≤ rate) × (rate ≤ highest_rate) }
+        ensures { (result.side ≡ win_of rate) × (result.half ≡ half_of rate) × (buffer_s * rate ≤ most_dips * (result.half + 1) + 2) }
+    {
+        Self {
+            side: rounded(rate, SIDE_HALVES, SIDE_UNIT),
+            half: rounded(rate, HALF_FIFTHS, HALF_UNIT),
+        }
     }
-    Some(lower - v)
 }
 
-// Whether the samples beside i don't speak against a minimum there: most samples drop out here.
-fn beside_higher(seg: &[f32], i: usize) -> bool
-    requires { (0 < i) × (i + 1 < length seg.now) }
-    ensures { result ≡ not (le (slice_index_or seg.now (i - 1) nan) (slice_index_or seg.now i nan) || lt (slice_index_or seg.now (i + 1) nan) (slice_index_or seg.now i nan)) }
-{
-    let v = seg[i];
-    let left = seg[i - 1] <= v;
-    let right = seg[i + 1] < v;
-    !(left | right)
+// A sample of a burst with one on each side.
+#[derive(Clone, Copy)]
+struct Inner<'a> {
+    seg: &'a [f32],
+    at: usize,
+    ghost before: { 0 < at },
+    ghost after: { at + 1 < length seg.now },
+    ghost short: { length seg.now ≤ most_samples },
+}
+
+impl<'a> Inner<'a> {
+    // A side level of a sample that passed its neighbours: the highest sample from an index to another, that one not in.
+    fn side_level(self, half: usize, from: usize, to: usize) -> f32
+        requires { (neighbours half self.seg.now self.at ≡ true) × (from ≤ to) × (to ≤ length self.seg.now) }
+        ensures { result ≡ max_from lowest_side (slice from to self.entry.seg.now) }
+    {
+        floats::highest32(LOWEST_SIDE, &self.seg[from..to])
+    }
+
+    // Dips are measured against the local envelope on each side (max over 1.5 bits). A real dip has a high level on both sides; this rejects the
+    // rising and falling edges of the frame, and copes with the transmit power ramping during the first part of a frame.
+    // The depth is what the sample lies under the lower side (02, request 05).
+    fn sides_high(self, windows: Windows, level: f64) -> Option<f64>
+        requires { neighbours windows.half self.seg.now self.at ≡ true }
+        ensures { result ≡ tested (sides level windows.side self.entry.seg.now self.entry.at) (depth_of windows.side self.entry.seg.now self.entry.at) }
+    {
+        let i = self.at;
+        let side = windows.side;
+        let v = std::num::f32_to_f64_with_nan(self.seg[i]);
+        let l = self.side_level(windows.half, back(i, side), i);
+        let left = std::num::f32_to_f64_with_nan(l);
+        let r = self.side_level(windows.half, i + 1, (i + 1 + side).min(self.seg.len()));
+        let right = std::num::f32_to_f64_with_nan(r);
+        let lower = whole::pick(right < left, right, left);
+        let higher = whole::pick(left < right, right, left);
+        let shallow = v >= lower - DIP_DB;
+        let dim = higher < level - DIM_DB;
+        if shallow | dim {
+            return None;
+        }
+        Some(lower - v)
+    }
+
+    // Whether the samples beside it don't speak against a minimum there: most samples drop out here.
+    fn beside_higher(self) -> bool
+        ensures { result ≡ not (le (slice_index_or self.entry.seg.now (self.entry.at - 1) nan) (slice_index_or self.entry.seg.now self.entry.at nan) || lt (slice_index_or self.entry.seg.now (self.entry.at + 1) nan) (slice_index_or self.entry.seg.now self.entry.at nan)) }
+    {
+        let i = self.at;
+        let v = self.seg[i];
+        let left = self.seg[i - 1] <= v;
+        let right = self.seg[i + 1] < v;
+        !(left | right)
+    }
+
+    // The lowest of those within the half window, and of equal ones the earliest.
+    fn neighbours_higher(self, half: usize) -> bool
+        requires { half ≤ widest_half }
+        ensures { result ≡ neighbours half self.entry.seg.now self.entry.at }
+    {
+        let seg = self.seg;
+        let i = self.at;
+        let v = seg[i];
+        let end = (i + half + 1).min(seg.len());
+        for k in back(i, half)..end {
+            if speaks_against(v, i, k, seg[k]) {
+                return false;
+            }
+        }
+        true
+    }
+
+    // The depth of a dip, of another sample none. The side levels cost most, so they come last.
+    fn depth(self, windows: Windows, level: f64) -> Option<f64>
+        ensures { result ≡ tested (is_dip level windows.side windows.half self.entry.seg.now self.entry.at) (depth_of windows.side self.entry.seg.now self.entry.at) }
+    {
+        if self.beside_higher() {
+            if self.neighbours_higher(windows.half) {
+                return self.sides_high(windows, level);
+            }
+        }
+        None
+    }
+
+    // The dip's place, refined to sub-sample.
+    fn centre(self) -> f64
+        ensures { result ≡ centre self.entry.seg.now self.entry.at }
+    {
+        let i = self.at;
+        let a = std::num::f32_to_f64_with_nan(self.seg[i - 1]);
+        let v = std::num::f32_to_f64_with_nan(self.seg[i]);
+        let c = std::num::f32_to_f64_with_nan(self.seg[i + 1]);
+        let denom = a - 2.0 * v + c;
+        floats::count_as_f64(i) + whole::pick(denom != 0.0, 0.5 * (a - c) / denom, 0.0)
+    }
 }
 
 // Whether a sample x at index k speaks against a minimum v at i.
@@ -98,82 +183,26 @@ fn speaks_against(v: f32, i: usize, k: usize, x: f32) -> bool
     lower | (same & earlier)
 }
 
-// The lowest of those within the half window, and of equal ones the earliest.
-fn neighbours_higher(seg: &[f32], half: usize, i: usize) -> bool
-    requires { (i < length seg.now) × (length seg.now ≤ most_samples) × (half ≤ most_samples) }
-    ensures { result ≡ neighbours half seg.now i }
-{
-    let v = seg[i];
-    let end = (i + half + 1).min(seg.len());
-    for k in back(i, half)..end {
-        if speaks_against(v, i, k, seg[k]) {
-            return false;
-        }
-    }
-    true
-}
-
-// The depth of a dip, of another sample none. The side levels cost most, so they come last.
-fn dip_depth(seg: &[f32], win: usize, half: usize, level: f64, i: usize) -> Option<f64>
-    requires { (0 < i) × (i + 1 < length seg.now) × (length seg.now ≤ most_samples) × (win ≤ most_samples) × (half ≤ most_samples) × (0 < half) }
-    ensures { result ≡ tested (is_dip level win half seg.now i) (depth_of win seg.now i) }
-{
-    if beside_higher(seg, i) {
-        if neighbours_higher(seg, half, i) {
-            return sides_high(seg, win, half, level, i);
-        }
-    }
-    None
-}
-
-// The dip's place, refined to sub-sample.
-fn dip_centre(seg: &[f32], i: usize) -> f64
-    requires { (0 < i) × (i + 1 < length seg.now) × (length seg.now ≤ most_samples) }
-    ensures { result ≡ centre seg.now i }
-{
-    let a = std::num::f32_to_f64_with_nan(seg[i - 1]);
-    let v = std::num::f32_to_f64_with_nan(seg[i]);
-    let c = std::num::f32_to_f64_with_nan(seg[i + 1]);
-    let denom = a - 2.0 * v + c;
-    floats::count_as_f64(i) + whole::pick(denom != 0.0, 0.5 * (a - c) / denom, 0.0)
-}
-
-// round(nominal * 1.5), as a whole number.
-fn side_window(rate: u32) -> usize
-    requires { (lowest_rate ≤ rate) × (rate ≤ highest_rate) }
-    ensures { (result ≡ win_of rate) × (result ≤ widest_side) }
-{
-    ((SIDE_HALVES * rate + SIDE_UNIT / 2) / SIDE_UNIT) as usize
-}
-
-// round(nominal * 0.4), as a whole number.
-fn half_window(rate: u32) -> usize
-    requires { (lowest_rate ≤ rate) × (rate ≤ highest_rate) }
-    ensures { (result ≡ half_of rate) × (0 < result) × (result ≤ widest_half) × (buffer_s * rate ≤ most_dips * (result + 1) + 2) }
-{
-    ((HALF_FIFTHS * rate + HALF_UNIT / 2) / HALF_UNIT) as usize
-}
-
 // The dips of samples into a slice, their depths from place 3,000 on; a dip leaves no room for another in its half window.
 pub fn dips_into(samples: Samples, level: f64, dips: &mut [f64]) -> usize
     requires { scratch64 ≤ length dips.old }
     ensures { Stored (found_in samples.entry.dbm.now samples.entry.rate level) dips.old result dips.new × (result ≤ most_dips) }
 {
     let seg = samples.dbm;
-    let win = side_window(samples.rate);
-    let half = half_window(samples.rate);
+    let windows = Windows::new(samples.rate);
     let mut n: usize = 0;
     let mut i: usize = 1;
     while i + 1 < seg.len() {
-        match dip_depth(seg, win, half, level, i) {
+        let sample = Inner { seg, at: i };
+        match sample.depth(windows, level) {
             None => {
                 i += 1;
             }
             Some(depth) => {
-                dips[n] = dip_centre(seg, i);
+                dips[n] = sample.centre();
                 dips[DEPTHS + n] = depth;
                 n += 1;
-                i += half + 1;
+                i += windows.half + 1;
             }
         }
     }
@@ -186,9 +215,7 @@ fn check<'a>(seg: &'a [f32], rate: u32, level: f64, room: usize) -> Result<Sampl
     ensures cause { cause_of result ≡ dip_cause seg.now rate level room }
     ensures ok { IfOk result (λ s. (s.dbm.now ≡ seg.now) × (s.rate ≡ rate) × (scratch64 ≤ room)) }
 {
-    if !limits::rate_ok(rate) {
-        return Err(Refusal::BadRate);
-    }
+    limits::check_rate(rate)?;
     if room < limits::SCRATCH64 {
         return Err(Refusal::Short);
     }

@@ -16,7 +16,7 @@ use Rattle.bursts.specs.declared.Burst.{Burst}
 use Rattle.bursts.specs.declared.BurstOptions.{BurstOptions}
 use Rattle.limits.specs.Answer.{accepted}
 use Rattle.cfo.specs.Cfo.{signed, step_hz}
-use Rattle.frequency_lists.specs.Lists.{Reading}
+use Rattle.frequency_lists.specs.declared.Reading.{Reading}
 use Rattle.frequency_measure.specs.Measured.{frame1}
 use Rattle.record.specs.declared.FrameSpan.{FrameSpan}
 

@@ -2,13 +2,13 @@
 use mathlib.Core.Path.{◌≡◌, refl, sym, ap, ◌∙◌}
 use mathlib.Core.Bool.{Bool, true, false, cond, ◌&&◌}
 use mathlib.Core.List.{List, [], ◌∷◌, ◌++◌, Permᴰ}
-use Prim.Native.Nat.{ℕ, zero, suc, ◌+◌, ◌-◌, ◌*◌, ◌%◌, ◌^◌, ◌≤◌, ◌<◌}
+use Prim.Native.Nat.{ℕ, zero, suc, ◌+◌, ◌*◌, ◌%◌, ◌≤◌, ◌<◌}
 use native.Mathlib.Omega.{arith}
 use native.Mathlib.Numerals.{add-one}
 use lib.ListN.{length, get_or, take, drop, length-append, length-drop}
-use lib.Seq.{drop-cons, drop-drop, drop-length, take-append-le, drop-append-le, take-append_seam, drop-append_seam}
-use Rattle.limits.specs.Limits.{record_size, most_record_bytes}
-use Rattle.std.specs.Prelude.{Result, Ok, Err}
+use lib.Seq.{drop-cons, take-append-le, drop-append-le, take-append_seam, drop-append_seam}
+use Rattle.limits.specs.Limits.{record_size}
+use Rattle.std.specs.Prelude.{Ok, Err}
 use Rattle.limits.specs.declared.Refusal.{Refusal}
 use Rattle.limits.proofs.Samples.{and_assoc, and_true}
 use Rattle.event_list.specs.Events.{records_of, wholes, events_of, record_ok, all_ok, list_ok, Reordered}
@@ -19,32 +19,6 @@ pub length-records : (n : ℕ) (l : List ℕ) → length (records_of n l) ≡ n
 unfolding records_of
 length-records zero l = refl
 length-records (suc n) l = ap suc (length-records n (drop record_size l))
-
-pub record_at : (n i : ℕ) (l : List ℕ) → i < n → get_or (records_of n l) i [] ≡ take record_size (drop (record_size * i) l)
-unfolding records_of
-record_at zero i l h = absurd (omega arith)
-record_at (suc n) zero l h = refl
-record_at (suc n) (suc i) l h =
-    record_at n i (drop record_size l) (omega arith)
-    ∙ ap (take record_size) (drop-drop (record_size * i) record_size l ∙ ap (λ (k : ℕ). drop k l) (place i))
-  where
-    place : (i : ℕ) → 120 + 120 * i ≡ 120 * suc i
-    place i = omega arith
-
--- a whole record ends inside the list
-pub inside : (l : List ℕ) (i : ℕ) → i < wholes l → 120 * i + 120 ≤ length l
-inside l i h = omega arith
-
--- the part that the code takes for it
-pub event_part : (l : List ℕ) (i : ℕ) → i < wholes l → take (120 * i + 120 - 120 * i) (drop (120 * i) l) ≡ get_or (events_of l) i []
-event_part l i h = ap (λ (k : ℕ). take k (drop (120 * i) l)) (size i) ∙ sym (record_at (wholes l) i l h)
-  where
-    size : (i : ℕ) → 120 * i + 120 - 120 * i ≡ 120
-    size i = omega arith
-
--- a list that is not refused with 3 has at most a million
-pub events-few : (l : List ℕ) → length l ≤ most_record_bytes → length (events_of l) ≤ 2 ^ 20
-events-few l h = omega (arith, length-records (wholes l) l)
 
 -- ---- a list that goes on
 
@@ -70,24 +44,6 @@ events-append l k h =
     ap (λ (n : ℕ). records_of n (l ++ k)) (omega (arith, h, length-append l k)) ∙ records-append (wholes l) (wholes k) l k (omega (arith, h))
 
 -- ---- the test
-
--- one more record looked at
-pub ok_turn : (ok : Bool) (es : List (List ℕ)) (i : ℕ) (r w : Bool) → i < length es → r ≡ record_ok (get_or es i [])
-    → ok && all_ok (drop i es) ≡ w → (ok && r) && all_ok (drop (i + 1) es) ≡ w
-unfolding all_ok
-ok_turn ok es i r w h e p =
-    ap (λ (t : Bool). (ok && t) && all_ok (drop (i + 1) es)) e
-    ∙ and_assoc ok (record_ok (get_or es i [])) (all_ok (drop (i + 1) es))
-    ∙ ap (λ (j : ℕ). ok && (record_ok (get_or es i []) && all_ok (drop j es))) (add-one i)
-    ∙ ap (λ (d : List (List ℕ)). ok && all_ok d) (sym (drop-cons es i [] h))
-    ∙ p
-
-pub ok_end : (ok : Bool) (es : List (List ℕ)) (i : ℕ) (w : Bool) → i ≡ length es → ok && all_ok (drop i es) ≡ w → ok ≡ w
-unfolding all_ok
-ok_end ok es i w e p =
-    sym (and_true ok)
-    ∙ ap (λ (d : List (List ℕ)). ok && all_ok d) (sym (drop-length es) ∙ ap (λ (j : ℕ). drop j es) (sym e))
-    ∙ p
 
 pub ok_append : (a b : List (List ℕ)) → all_ok (a ++ b) ≡ (all_ok a && all_ok b)
 unfolding all_ok

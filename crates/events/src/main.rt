@@ -2,13 +2,11 @@
 // The stream is that of `listen`; of its records only the samples are read.
 #![tactic(auto)]
 
-ghost use Rattle.std.specs.Prelude.{◌<◌, ◌≤◌, length};
-
 mod arguments; // shifts
 
 use limits::Refusal;
-use receiver::SigfoxReceiver;
-use shifts::Shifts;
+use receiver::{Lent, SigfoxReceiver};
+use shifts::Given;
 
 // Samples per second.
 const RATE: u32 = 1000;
@@ -26,140 +24,88 @@ const MOST_EVENTS: usize = 256;
 // A proved loop has to end, and nothing says that the input does. A read brings a byte at least, and a stream of over 2^41 bytes is refused.
 const MOST_READS: u64 = 0x400_0000_0000;
 
-// Between two reads: the receiver, how many bytes stand in the buffer, whether nothing was refused or failed, and whether there may be more.
+// Why no more is read: a call refused, standard input can't be read, or standard output takes no more.
 #[derive(Clone, Copy)]
-struct Stream {
-    receiver: SigfoxReceiver,
-    filled: usize,
-    going: bool,
-    more: bool,
+enum Stop {
+    Refused(Refusal),
+    Unread,
+    Unwritten,
 }
 
-fn fresh() -> Stream
-    ensures { result.filled < 4096 }
-{
-    let receiver = SigfoxReceiver::new(RATE);
-    Stream {
-        receiver,
-        filled: 0,
-        going: true,
-        more: true,
+impl From<Refusal> for Stop {
+    fn from(refusal: Refusal) -> Stop {
+        Stop::Refused(refusal)
     }
 }
 
-// A line on standard error: the number of a refused call.
-fn print_refusal(rt: &impl Eprint, refusal: Refusal) {
-    let n = u8::from(refusal);
-    let _ = eprintln!(rt; "events: refused with {n}");
-}
-
-fn print_failure(rt: &impl Eprint) {
-    let _ = rt.eprintln("events: standard input can't be read");
+// Its line on standard error.
+fn print_stop(rt: &impl Eprint, stop: Stop) {
+    match stop {
+        Stop::Refused(refusal) => {
+            let n = u8::from(refusal);
+            let _ = eprintln!(rt; "events: refused with {n}");
+        }
+        Stop::Unread => {
+            let _ = rt.eprintln("events: standard input can't be read");
+        }
+        Stop::Unwritten => {}
+    }
 }
 
 fn print_usage(rt: &impl Eprint) {
     let _ = rt.eprintln("events: the arguments are a start second, windows A-B and closed dates");
 }
 
-// A call's records; false after a refusal, and where standard output takes no more.
-fn write_events(rt: &(impl Print + Eprint), answer: Result<usize, Refusal>, events: &[u8]) -> bool {
-    let count = match answer {
-        Ok(count) => count,
-        Err(refusal) => {
-            print_refusal(rt, refusal);
-            return false;
-        }
-    };
+// A call's records.
+fn write_events(rt: &impl Print, count: usize, events: &[u8]) -> Result<(), Stop> {
     if MOST_EVENTS < count {
-        return false;
+        return Err(Stop::Unwritten);
     }
     let end = limits::RECORD * count;
-    if events.len() < end {
-        return false;
+    if events.len() < end || rt.write_all(&events[..end]).is_err() {
+        return Err(Stop::Unwritten);
     }
-    rt.write_all(&events[..end]).is_ok()
+    Ok(())
 }
 
-// The samples of the whole records of the buffer, from one place on to another; nothing after a refusal.
+// The samples of records.
 fn hear(
-    rt: &(impl Print + Eprint),
-    s: Stream,
-    input: &[u8],
-    from: usize,
-    end: usize,
-    shifts: Shifts,
-    closed: &[u32],
-    samples: &mut [f32; 12000],
-    events: &mut [u8; 30720],
-    scratch32: &mut [f32; 12000],
-    scratch64: &mut [f64; limits::SCRATCH64],
-) -> Stream
-    requires { end ≤ length input.now }
-{
-    let mut receiver = s.receiver;
-    let mut going = s.going;
-    let last = end / RECORD;
-    let mut i = from / RECORD;
-    while i < last && going {
-        let at = RECORD * i;
-        let to = at + RAW;
-        i += 1;
-        let r = receiver.push_raw(
-            &input[at..to],
-            shifts,
-            closed,
-            samples,
-            events,
-            scratch32,
-            scratch64,
-        );
-        going = write_events(rt, r, events);
+    rt: &impl Print,
+    receiver: &mut SigfoxReceiver,
+    records: &[u8],
+    given: &Given,
+    lent: &mut Lent,
+) -> Result<(), Stop> {
+    for record in records.chunks_exact(RECORD) {
+        let (raw, _) = record.split_at(RAW);
+        let count = receiver.push_raw(raw, given, lent)?;
+        write_events(rt, count, lent.events)?;
     }
-    let mut m = s;
-    m.receiver = receiver;
-    m.going = going;
-    m
+    Ok(())
 }
 
-// After a read that failed: a line on standard error, and no record more.
-fn fail(rt: &impl Eprint, s: Stream) -> Stream
-    requires { s.filled < 4096 }
-    ensures { result.filled < 4096 }
-{
-    print_failure(rt);
-    let mut m = s;
-    m.going = false;
-    m.more = false;
-    m
-}
-
-// One read, and every record that is whole with it.
-fn turn(
-    rt: &(impl Input + Print + Eprint),
-    s: Stream,
-    input: &mut [u8; 4096],
-    shifts: Shifts,
-    closed: &[u32],
-    samples: &mut [f32; 12000],
-    events: &mut [u8; 30720],
-    scratch32: &mut [f32; 12000],
-    scratch64: &mut [f64; limits::SCRATCH64],
-) -> Stream
-    requires { s.filled < 4096 }
-    ensures { result.filled < 4096 }
-{
-    let from = s.filled;
-    let fetched = reading::fetch(&mut rt.reader(), input, from);
-    let Ok(n) = fetched else {
-        return fail(rt, s);
-    };
-    let end = from + n;
-    let mut m = hear(
-        rt, s, input, from, end, shifts, closed, samples, events, scratch32, scratch64,
-    );
-    m.filled = end % BUFFER;
-    m.more = m.going & (0 < n);
-    m
+// Every record of standard input; how many bytes of the last one there were.
+fn hear_all(
+    rt: &(impl Input + Print),
+    receiver: &mut SigfoxReceiver,
+    given: &Given,
+    lent: &mut Lent,
+) -> Result<usize, Stop> {
+    let mut input = [0u8; BUFFER];
+    let mut filled: usize = 0;
+    for _ in 0..MOST_READS {
+        let Ok(n) = reading::fetch(&mut rt.reader(), &mut input, filled) else {
+            return Err(Stop::Unread);
+        };
+        if n == 0 {
+            break;
+        }
+        let end = filled + n;
+        let from = filled - filled % RECORD;
+        hear(rt, receiver, &input[from..end], given, lent)?;
+        filled = end % BUFFER;
+    }
+    Ok(filled % RECORD)
 }
 
 // A line on standard error where the stream ends inside a record.
@@ -170,67 +116,37 @@ fn print_leftover(rt: &impl Eprint, n: usize) {
     let _ = eprintln!(rt; "events: bytes left over: {n}");
 }
 
-// The last call, and its records; nothing after a refusal.
-fn finish(
-    rt: &(impl Print + Eprint),
-    s: Stream,
-    shifts: Shifts,
-    closed: &[u32],
-    samples: &mut [f32; 12000],
-    events: &mut [u8; 30720],
-    scratch32: &mut [f32; 12000],
-    scratch64: &mut [f64; limits::SCRATCH64],
-) {
-    if s.going {
-        let mut receiver = s.receiver;
-        let r = receiver.flush(shifts, closed, samples, events, scratch32, scratch64);
-        write_events(rt, r, events);
-        print_leftover(rt, s.filled % RECORD);
-    }
-}
-
-// The whole stream.
-fn run(rt: &(impl Input + Print + Eprint), shifts: Shifts, closed: &[u32]) {
-    let mut input = [0u8; 4096];
+// The whole stream, and after its end the last call.
+fn run(rt: &(impl Input + Print + Eprint), given: &Given) -> Result<(), Stop> {
     let mut samples = [0.0f32; 12000];
     let mut events = [0u8; 30720];
     let mut scratch32 = [0.0f32; 12000];
     let mut scratch64 = [0.0f64; limits::SCRATCH64];
-    let mut s = fresh();
-    let mut left = MOST_READS;
-    while left > 0 && s.more {
-        s = turn(
-            rt,
-            s,
-            &mut input,
-            shifts,
-            closed,
-            &mut samples,
-            &mut events,
-            &mut scratch32,
-            &mut scratch64,
-        );
-        left -= 1;
+    let mut lent = Lent {
+        samples: &mut samples,
+        events: &mut events,
+        scratch32: &mut scratch32,
+        scratch64: &mut scratch64,
+    };
+    let mut receiver = SigfoxReceiver::new(RATE);
+    let left = hear_all(rt, &mut receiver, given, &mut lent)?;
+    match receiver.flush(given, &mut lent) {
+        Ok(count) => {
+            let _ = write_events(rt, count, lent.events);
+        }
+        Err(refusal) => print_stop(rt, Stop::Refused(refusal)),
     }
-    finish(
-        rt,
-        s,
-        shifts,
-        closed,
-        &mut samples,
-        &mut events,
-        &mut scratch32,
-        &mut scratch64,
-    );
+    print_leftover(rt, left);
+    Ok(())
 }
 
 fn main(rt: HostRuntime) {
-    if !arguments::are_shifts(&rt) {
+    let mut closed = [0u32; 1000];
+    let Some(given) = arguments::read_given(&rt, &mut closed) else {
         print_usage(&rt);
         return;
+    };
+    if let Err(stop) = run(&rt, &given) {
+        print_stop(&rt, stop);
     }
-    let shifts = arguments::given_shifts(&rt);
-    let mut closed = [0u32; 1000];
-    let n = arguments::closed_dates(&rt, &mut closed);
-    run(&rt, shifts, &closed[..n]);
 }

@@ -4,33 +4,14 @@ ghost use Rattle.std.specs.Prelude.{◌≤◌, length};
 use crate::dips_of::explain_dips;
 use crate::frame_of::{print_frame, print_type};
 use crate::messages::last_of;
-use crate::tally::{Ending, Near, Tally};
+use crate::scans::{Look, Scratch, time_of};
+use crate::tally::{Ending, Near};
 use crate::words::{print_db, print_dbm, print_parts};
 use bursts::Burst;
 use clock::BurstBits;
 use demod::DecodedFrame;
-use explaining::TypeFound;
-use frame::UplinkFrame;
+use frame::{TypeFound, UplinkFrame};
 use limits::Refusal;
-use receiver_waiting::Waiting;
-
-// What is known of a scan: rate, absolute sample of the first one held, how long ago a burst must have ended, the messages that waited before it and the time then.
-#[derive(Clone, Copy)]
-pub struct Scan {
-    pub rate: u32,
-    pub base: u64,
-    pub wait: usize,
-    pub waiting: Waiting,
-    pub time: f64,
-}
-
-// A number of samples in seconds.
-pub fn seconds(rate: u32, n: u64) -> f64 {
-    if limits::LONGEST_STREAM < n {
-        return 0.0;
-    }
-    floats::count_as_f64(n as usize) / (rate as f64)
-}
 
 fn print_over(rt: &impl Print, margin: f64) {
     if margin > 0.0 {
@@ -88,45 +69,11 @@ fn print_ending(rt: &impl Print, how: Ending) {
     }
 }
 
-// The first lines of a block: when, how long, how it ended, and the levels.
-pub fn print_head(rt: &impl Print, n: u64, rate: u32, base: u64, b: Burst, how: Ending) {
-    replay::print(rt, b"burst ");
-    replay::print_number(rt, n);
-    replay::print(rt, b" at ");
-    print_parts(
-        rt,
-        seconds(rate, std::num::wrapping_add_u64(base, b.start as u64)),
-    );
-    replay::print(rt, b" s, ");
-    print_parts(rt, seconds(rate, dips::back(b.end, b.start) as u64));
-    replay::print(rt, b" s long: ");
-    print_ending(rt, how);
-    print_levels(rt, b);
-}
-
-// A burst that was not taken: its first lines, and it is counted.
-pub fn explain_left(rt: &impl Print, t: Tally, scan: Scan, b: Burst, how: Ending) -> Tally {
-    let u = crate::tally::ended(t, how);
-    print_head(rt, u.bursts, scan.rate, scan.base, b, how);
-    u
-}
-
-// How many bits there are; the first 1,024 are handed over.
-fn bits_handed(bits: Option<BurstBits>) -> usize {
-    match bits {
-        None => 0,
-        Some(b) => b.count,
-    }
-}
-
 fn type_of(bits: &[u8]) -> Option<TypeFound> {
-    if limits::MOST_BITS < bits.len() {
+    if limits::MOST_BITS < bits.len() || !coding::are_bits(bits) {
         return None;
     }
-    if !coding::are_bits(bits) {
-        return None;
-    }
-    explaining::find_type(bits)
+    frame::find_type(bits)
 }
 
 fn ending_of(
@@ -155,144 +102,137 @@ fn print_clock(rt: &impl Print, bits: Result<Option<BurstBits>, Refusal>) {
         }
         Ok(Some(b)) => {
             replay::print(rt, b"  clock error ");
-            replay::print_signed(rt, b.clock_error_ppm);
+            replay::print_number(rt, b.clock_error_ppm);
             replay::print(rt, b" ppm, ");
-            replay::print_number(rt, b.points as u64);
+            replay::print_number(rt, b.points);
             replay::print(rt, b" dips on the grid, ");
-            replay::print_number(rt, b.count as u64);
+            replay::print_number(rt, b.count);
             replay::print(rt, b" bits\n");
         }
     }
 }
 
-fn print_bits(rt: &impl Print, bits: &[u8], n: usize) {
-    if 0 < n {
+fn print_bits(rt: &impl Print, bits: &[u8]) {
+    if !bits.is_empty() {
         replay::print(rt, b"  ");
-        replay::print_digits(rt, bits, n);
+        replay::print_digits(rt, bits);
         replay::print_end(rt);
     }
 }
 
-// What a frame with a right CRC does: it joins the message of its device and counter, or opens one.
-fn join(rt: &impl Print, t: Tally, scan: Scan, f: UplinkFrame) -> Tally {
-    let waiting = scan.waiting;
-    let Some(last) = last_of(waiting, f.device_id, f.counter) else {
-        replay::print(rt, b"  it opens a message\n");
-        return t;
-    };
-    let margin = explaining::quiet_margin(scan.time, last);
-    replay::print(rt, b"  it joins the message, which had waited ");
-    print_parts(rt, scan.time - last);
-    replay::print(rt, b" s (");
-    print_parts(rt, margin);
-    replay::print(rt, b" left of 10)\n");
-    crate::tally::joined(t, margin)
-}
+impl<'a> Look<'a> {
+    // The first lines of a block: when, how long, how it ended, and the levels. It is counted.
+    fn print_head(&mut self, rt: &impl Print, b: Burst, how: Ending) {
+        self.tally.add(how);
+        replay::print(rt, b"burst ");
+        replay::print_number(rt, self.tally.bursts);
+        replay::print(rt, b" at ");
+        print_parts(rt, self.second_at(b.start));
+        replay::print(rt, b" s, ");
+        print_parts(rt, self.seconds_between(b.start, b.end));
+        replay::print(rt, b" s long: ");
+        print_ending(rt, how);
+        print_levels(rt, b);
+    }
 
-// The rest of a block behind its dips.
-fn explain_frame(
-    rt: &impl Print,
-    t: Tally,
-    scan: Scan,
-    b: Burst,
-    near: Near,
-    x: Option<DecodedFrame>,
-    how: Ending,
-) -> Tally {
-    match (how, x) {
-        (Ending::Read, Some(d)) => {
-            print_frame(rt, d.frame);
-            let u = crate::tally::read(t, explaining::margin(b), near);
-            join(rt, u, scan, d.frame)
+    // A burst that was not taken.
+    pub fn explain_left(&mut self, rt: &impl Print, b: Burst, how: Ending) {
+        self.print_head(rt, b, how);
+    }
+
+    // What a frame with a right CRC does: it joins the message of its device and counter, or opens one.
+    fn join(&mut self, rt: &impl Print, f: UplinkFrame) {
+        let Some(last) = last_of(&self.before.waiting, f.device_id, f.counter) else {
+            replay::print(rt, b"  it opens a message\n");
+            return;
+        };
+        let time = time_of(self.before);
+        let margin = explaining::quiet_margin(time, last);
+        replay::print(rt, b"  it joins the message, which had waited ");
+        print_parts(rt, time - last);
+        replay::print(rt, b" s (");
+        print_parts(rt, margin);
+        replay::print(rt, b" left of 10)\n");
+        self.tally.add_join(margin);
+    }
+
+    // The rest of a block behind its dips.
+    fn explain_frame(
+        &mut self,
+        rt: &impl Print,
+        b: Burst,
+        near: Near,
+        decoded: Option<DecodedFrame>,
+        how: Ending,
+    ) {
+        match (how, decoded) {
+            (Ending::Read, Some(d)) => {
+                print_frame(rt, d.frame);
+                self.tally.add_margins(explaining::margin(b), near);
+                self.join(rt, d.frame);
+            }
+            (Ending::Wrong, Some(d)) => print_frame(rt, d.frame),
+            _ => {}
         }
-        (Ending::Wrong, Some(d)) => {
-            print_frame(rt, d.frame);
-            t
-        }
-        _ => t,
     }
-}
 
-// A burst with its bits.
-fn explain_bits(
-    rt: &impl Print,
-    seg: &[f32],
-    t: Tally,
-    scan: Scan,
-    b: Burst,
-    from: f64,
-    x: Option<DecodedFrame>,
-    found: Result<Option<BurstBits>, Refusal>,
-    bits: &[u8],
-    scratch: &mut [f64],
-) -> Tally {
-    let known = found.unwrap_or(None);
-    let n = bits_handed(known).min(bits.len());
-    let kind = type_of(&bits[..n]);
-    let how = ending_of(known, kind, x);
-    let u = crate::tally::ended(t, how);
-    print_head(rt, u.bursts, scan.rate, scan.base, b, how);
-    let near = explain_dips(rt, seg, scan.rate, from, scratch);
-    print_clock(rt, found);
-    print_bits(rt, bits, n);
-    if known.is_some() {
-        print_type(rt, kind);
-    }
-    explain_frame(rt, u, scan, b, near, x, how)
-}
-
-// A burst whose samples are looked at, as the receiver did when it took it.
-fn explain_segment(
-    rt: &impl Print,
-    seg: &[f32],
-    t: Tally,
-    scan: Scan,
-    b: Burst,
-    from: f64,
-    x: Option<DecodedFrame>,
-    scratch32: &mut [f32],
-    scratch64: &mut [f64],
-) -> Tally {
-    let mut bits = [0u8; 1024];
-    let found = clock::burst_bits(seg, scan.rate, &mut bits, scratch32, scratch64);
-    explain_bits(rt, seg, t, scan, b, from, x, found, &bits, scratch64)
-}
-
-// A burst that the receiver took.
-pub fn explain_taken(
-    rt: &impl Print,
-    held: &[f32],
-    t: Tally,
-    scan: Scan,
-    b: Burst,
-    scratch32: &mut [f32],
-    scratch64: &mut [f64],
-) -> Tally {
-    let rate = scan.rate;
-    if !limits::rate_ok(rate) || held.len() < b.end || limits::MOST_SAMPLES < held.len() {
-        return t;
-    }
-    let x = demod::decode_burst(
-        held,
-        rate,
-        b,
-        seconds(rate, scan.base),
-        scratch32,
-        scratch64,
-    );
-    let s = explaining::looked_at(held, rate, b);
-    let from = s.from;
-    let to = s.to;
-    let at = seconds(rate, std::num::wrapping_add_u64(scan.base, from as u64));
-    explain_segment(
-        rt,
-        &held[from..to],
-        t,
-        scan,
-        b,
-        at,
-        x.unwrap_or(None),
-        scratch32,
-        scratch64,
+    // A burst whose samples are looked at from one place on to another, as the receiver did when it took it.
+    fn explain_segment(
+        &mut self,
+        rt: &impl Print,
+        b: Burst,
+        from: usize,
+        to: usize,
+        decoded: Option<DecodedFrame>,
+        scratch: &mut Scratch,
     )
+        requires { (from ≤ to) × (to ≤ length self.old.held.now) }
+    {
+        let seg = &self.held[from..to];
+        let mut bits = [0u8; 1024];
+        let found = clock::burst_bits(
+            seg,
+            self.rate(),
+            &mut bits,
+            &mut scratch.f32s,
+            &mut scratch.f64s,
+        );
+        let known = found.unwrap_or(None);
+        let n = known.map_or(0, |b| b.count).min(bits.len());
+        let kind = type_of(&bits[..n]);
+        let how = ending_of(known, kind, decoded);
+        self.print_head(rt, b, how);
+        let near = explain_dips(
+            rt,
+            seg,
+            self.rate(),
+            self.second_at(from),
+            &mut scratch.f64s,
+        );
+        print_clock(rt, found);
+        print_bits(rt, &bits[..n]);
+        if known.is_some() {
+            print_type(rt, kind);
+        }
+        self.explain_frame(rt, b, near, decoded, how);
+    }
+
+    // A burst that the receiver took.
+    pub fn explain_taken(&mut self, rt: &impl Print, b: Burst, scratch: &mut Scratch) {
+        let rate = self.rate();
+        let held = self.held;
+        if !limits::rate_ok(rate) || held.len() < b.end || limits::MOST_SAMPLES < held.len() {
+            return;
+        }
+        let decoded = demod::decode_burst(
+            held,
+            rate,
+            b,
+            self.second_at(0),
+            &mut scratch.f32s,
+            &mut scratch.f64s,
+        );
+        let seen = demod::looked_at(held, rate, b);
+        self.explain_segment(rt, b, seen.from, seen.to, decoded.unwrap_or(None), scratch);
+    }
 }

@@ -1,9 +1,6 @@
 // What a burst's bits say: the frame type, the fields and the CRC.
-ghost use Rattle.std.specs.Prelude.{◌≤◌, length};
-
-use explaining::TypeFound;
 use frame::kinds::FrameKind;
-use frame::{Repair, UplinkFrame};
+use frame::{Repair, TypeFound, UplinkFrame};
 
 fn print_class(rt: &impl Print, class: u8) {
     match class {
@@ -27,9 +24,9 @@ fn print_class(rt: &impl Print, class: u8) {
 
 fn print_kind(rt: &impl Print, start: usize, kind: FrameKind) {
     replay::print(rt, b"  frame type at bit ");
-    replay::print_number(rt, start as u64);
+    replay::print_number(rt, start);
     replay::print(rt, b": rank ");
-    replay::print_number(rt, kind.rank as u64);
+    replay::print_number(rt, kind.rank);
     replay::print(rt, b", ");
     if kind.control {
         replay::print(rt, b"control frame\n");
@@ -55,32 +52,24 @@ fn print_bit(rt: &impl Print, bit: Option<bool>) {
         None => {
             replay::print(rt, b"-");
         }
-        Some(b) => {
-            if b {
-                replay::print(rt, b"bit 1");
-            } else {
-                replay::print(rt, b"bit 0");
-            }
-        }
+        Some(b) => replay::print(rt, if b { b"bit 1" } else { b"bit 0" }),
     }
 }
 
 fn print_payload(rt: &impl Print, f: UplinkFrame) {
-    let n = f.payload_len as usize;
-    let payload = f.payload;
+    let n = usize::from(f.payload_len).min(f.payload.len());
     if n == 0 {
-        let bit = f.bit;
-        print_bit(rt, bit);
+        print_bit(rt, f.bit);
         return;
     }
-    replay::print_bytes(rt, &payload, n);
+    replay::print_bytes(rt, &f.payload[..n]);
 }
 
 fn print_place(rt: &impl Print, text: &[u8], i: usize) {
     replay::print(rt, b"CRC right after a repair: ");
     replay::print(rt, text);
     replay::print(rt, b" at bit ");
-    replay::print_number(rt, i as u64);
+    replay::print_number(rt, i);
     replay::print(rt, b" of the body\n");
 }
 
@@ -90,11 +79,7 @@ fn print_repair(rt: &impl Print, how: Option<Repair>) {
             replay::print(rt, b"CRC right\n");
         }
         Some(Repair::Inserted(b, i)) => {
-            if b {
-                print_place(rt, b"a 1 put in", i);
-            } else {
-                print_place(rt, b"a 0 put in", i);
-            }
+            print_place(rt, if b { b"a 1 put in" } else { b"a 0 put in" }, i);
         }
         Some(Repair::Deleted(i)) => {
             print_place(rt, b"a bit left out", i);
@@ -107,8 +92,7 @@ fn print_repair(rt: &impl Print, how: Option<Repair>) {
 
 fn print_crc(rt: &impl Print, f: UplinkFrame) {
     if f.crc_ok {
-        let how = f.repaired;
-        print_repair(rt, how);
+        print_repair(rt, f.repaired);
         return;
     }
     replay::print(rt, b"CRC wrong, and no repair of one bit makes it right\n");
@@ -117,11 +101,11 @@ fn print_crc(rt: &impl Print, f: UplinkFrame) {
 // Rank, device, counter, payload and CRC.
 pub fn print_frame(rt: &impl Print, f: UplinkFrame) {
     replay::print(rt, b"  device ");
-    replay::print_hex(rt, f.device_id as u64, 8);
+    replay::print_hex(rt, u64::from(f.device_id), 8);
     replay::print(rt, b", counter ");
-    replay::print_number(rt, f.counter as u64);
+    replay::print_number(rt, f.counter);
     replay::print(rt, b", rank ");
-    replay::print_number(rt, f.rank as u64);
+    replay::print_number(rt, f.rank);
     replay::print(rt, b", payload ");
     print_payload(rt, f);
     replay::print(rt, b": ");

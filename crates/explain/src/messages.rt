@@ -1,9 +1,8 @@
 // The messages that a call wrote: their ranks, when they closed and why.
-ghost use Rattle.std.specs.Prelude.{◌≤◌, length};
-
 use crate::words::print_parts;
 use ledger::Pending;
 use receiver_waiting::{OPEN_PLACES, Waiting};
+use record::read::EventRecord;
 
 // No message waited.
 const NEVER: f64 = -1.0;
@@ -11,21 +10,11 @@ const NEVER: f64 = -1.0;
 // A mask of three ranks.
 const ALL_RANKS: u8 = 7;
 
-fn is_of(p: Pending, device: u32, counter: u16) -> bool {
-    let m = p.message;
-    let same = m.device_id == device;
-    let equal = m.counter == counter;
-    same & equal
-}
-
 // When a frame last joined the message of a device and counter that waits, none where none waits.
-pub fn last_of(w: Waiting, device: u32, counter: u16) -> Option<f64> {
-    for p in &w.messages[..w.count.min(OPEN_PLACES)] {
-        if is_of(*p, device, counter) {
-            return Some(p.last);
-        }
-    }
-    None
+pub fn last_of(waiting: &Waiting, device: u32, counter: u16) -> Option<f64> {
+    let held = &waiting.messages[..waiting.count.min(OPEN_PLACES)];
+    let is_of = |p: &&Pending| p.message.device_id == device && p.message.counter == counter;
+    held.iter().find(is_of).map(|p| p.last)
 }
 
 fn print_ranks(rt: &impl Print, mask: u8) {
@@ -40,77 +29,62 @@ fn print_ranks(rt: &impl Print, mask: u8) {
     }
 }
 
-// Why a message closed at a time, of which a frame had last joined at another.
-fn print_reason(rt: &impl Print, mask: u8, ended: bool, time: f64, last: Option<f64>) {
-    if mask == ALL_RANKS {
-        replay::print(rt, b"three ranks\n");
-        return;
-    }
-    if ended {
-        replay::print(rt, b"the recording ended");
-        if let Some(last) = last {
-            replay::print(rt, b", after a silence of ");
-            print_parts(rt, time - last);
-            replay::print(rt, b" s of 10");
+// A call that closes messages: those that waited before it, when it was, and whether it is the last one.
+#[derive(Clone, Copy)]
+pub struct Closing<'a> {
+    pub waiting: &'a Waiting,
+    pub time: f64,
+    pub ended: bool,
+}
+
+impl<'a> Closing<'a> {
+    // Why a message closed, of which a frame had last joined at a time.
+    fn print_reason(&self, rt: &impl Print, mask: u8, last: Option<f64>) {
+        if mask == ALL_RANKS {
+            replay::print(rt, b"three ranks\n");
+            return;
         }
-        replay::print_end(rt);
-        return;
+        if self.ended {
+            replay::print(rt, b"the recording ended");
+            if let Some(last) = last {
+                replay::print(rt, b", after a silence of ");
+                print_parts(rt, self.time - last);
+                replay::print(rt, b" s of 10");
+            }
+            replay::print_end(rt);
+            return;
+        }
+        replay::print(rt, b"a silence of ");
+        print_parts(rt, self.time - last.unwrap_or(NEVER));
+        replay::print(rt, b" s, over 10\n");
     }
-    replay::print(rt, b"a silence of ");
-    print_parts(rt, time - last.unwrap_or(NEVER));
-    replay::print(rt, b" s, over 10\n");
-}
 
-// A message's record.
-fn print_message(rt: &impl Print, r: &[u8], waiting: Waiting, time: f64, ended: bool)
-    requires { 120 ≤ length r.now }
-{
-    let device = record::read::device_of(r);
-    let counter = record::read::counter_of(r);
-    let mask = record::read::rank_of(r);
-    replay::print(rt, b"message of device ");
-    replay::print_hex(rt, device as u64, 8);
-    replay::print(rt, b", counter ");
-    replay::print_number(rt, counter as u64);
-    replay::print(rt, b", first heard at ");
-    print_parts(rt, record::read::time_of(r));
-    replay::print(rt, b" s, ranks");
-    print_ranks(rt, mask);
-    replay::print(rt, b"; closed at ");
-    print_parts(rt, time);
-    replay::print(rt, b" s: ");
-    print_reason(rt, mask, ended, time, last_of(waiting, device, counter));
-}
-
-fn print_record(rt: &impl Print, r: &[u8], waiting: Waiting, time: f64, ended: bool)
-    requires { 120 ≤ length r.now }
-{
-    if record::read::kind_of(r) == record::MESSAGE {
-        print_message(rt, r, waiting, time, ended);
+    // A message's record.
+    fn print_message(&self, rt: &impl Print, r: EventRecord) {
+        let device = r.device();
+        let counter = r.counter();
+        let mask = r.rank();
+        replay::print(rt, b"message of device ");
+        replay::print_hex(rt, u64::from(device), 8);
+        replay::print(rt, b", counter ");
+        replay::print_number(rt, counter);
+        replay::print(rt, b", first heard at ");
+        print_parts(rt, r.time());
+        replay::print(rt, b" s, ranks");
+        print_ranks(rt, mask);
+        replay::print(rt, b"; closed at ");
+        print_parts(rt, self.time);
+        replay::print(rt, b" s: ");
+        self.print_reason(rt, mask, last_of(self.waiting, device, counter));
     }
-}
 
-fn print_one(rt: &impl Print, events: &[u8], i: usize, waiting: Waiting, time: f64, ended: bool)
-    requires { i ≤ 255 }
-{
-    let at = limits::RECORD * i;
-    let to = at + limits::RECORD;
-    if events.len() < to {
-        return;
-    }
-    print_record(rt, &events[at..to], waiting, time, ended);
-}
-
-// Those among the first n records.
-pub fn print_messages(
-    rt: &impl Print,
-    events: &[u8],
-    n: usize,
-    waiting: Waiting,
-    time: f64,
-    ended: bool,
-) {
-    for i in 0..n.min(256) {
-        print_one(rt, events, i, waiting, time, ended);
+    // Those among its records.
+    pub fn print_messages(&self, rt: &impl Print, events: &[u8]) {
+        for r in events.chunks_exact(limits::RECORD) {
+            let r = EventRecord::new(r);
+            if r.kind() == record::MESSAGE {
+                self.print_message(rt, r);
+            }
+        }
     }
 }

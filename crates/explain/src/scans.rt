@@ -1,20 +1,10 @@
 // A scan of the held samples: which bursts the receiver took in it, and which it left.
 ghost use Rattle.std.specs.Prelude.{◌^◌, ◌<◌};
 
-use crate::blocks::{Scan, explain_left, explain_taken, seconds};
 use crate::tally::{Ending, Tally};
 use crate::words::print_parts;
 use bursts::Burst;
-use receiver_starts::Starts;
-
-// The starts that the receiver remembered before a call and after it, each with the absolute sample that they are counted from.
-#[derive(Clone, Copy)]
-pub struct Remembered {
-    pub before: Starts,
-    pub before_base: u64,
-    pub after: Starts,
-    pub after_base: u64,
-}
+use receiver::SigfoxReceiver;
 
 // No list of samples has more bursts.
 const MOST_BURSTS: usize = 48_000;
@@ -25,188 +15,187 @@ const SPIKE_PART: u32 = 20;
 // Places of starts are below this.
 const MOST_PLACE: u64 = 0x8000_0000;
 
+// What the calls of a scan are lent.
+#[derive(Drop)]
+pub struct Scratch {
+    pub f32s: [f32; 48000],
+    pub f64s: [f64; limits::SCRATCH64],
+}
+
+// A call that scanned: the receiver before it and after it, the samples that it looked at, how long ago a burst must have ended, and what was counted.
+#[derive(Clone, Copy)]
+pub struct Look<'a> {
+    pub before: &'a SigfoxReceiver,
+    pub after: &'a SigfoxReceiver,
+    pub held: &'a [f32],
+    pub wait: usize,
+    pub tally: Tally,
+}
+
+// A number of samples in seconds.
+pub fn seconds(rate: u32, n: u64) -> f64 {
+    if limits::LONGEST_STREAM < n {
+        return 0.0;
+    }
+    floats::count_as_f64(n as usize) / f64::from(rate)
+}
+
+// The time of a receiver's newest sample.
+pub fn time_of(r: &SigfoxReceiver) -> f64 {
+    seconds(r.rate, r.base.wrapping_add(r.held as u64))
+}
+
 // The place of an absolute sample, the first one held being `base`.
 fn place_of(base: u64, start: u64) -> usize
     ensures { result < 2 ^ 31 }
 {
-    if start < base {
-        return 0;
-    }
-    if MOST_PLACE <= start - base {
+    if start < base || MOST_PLACE <= start - base {
         return 0;
     }
     (start - base) as usize
 }
 
-// Whether the receiver took the burst that starts at an absolute sample in this call.
-fn took(rate: u32, r: Remembered, start: u64) -> bool {
-    let before = r.before;
-    let after = r.after;
-    if receiver_starts::MOST_STARTS < before.count {
-        return false;
+impl<'a> Look<'a> {
+    pub fn rate(&self) -> u32 {
+        self.after.rate
     }
-    if receiver_starts::MOST_STARTS < after.count {
-        return false;
+
+    // The absolute sample at a place.
+    pub fn at(&self, place: usize) -> u64 {
+        self.after.base.wrapping_add(place as u64)
     }
-    explaining::took(
-        rate,
-        before,
-        place_of(r.before_base, start),
-        after,
-        place_of(r.after_base, start),
-    )
-}
 
-// Whether a burst is one of those that a scan looks at.
-fn is_long(held: &[f32], rate: u32, b: Burst) -> bool {
-    match bursts::find_bursts(held, rate, explaining::scan_options(), b.floor_dbm, b.start) {
-        Err(_) | Ok(None) => false,
-        Ok(Some(c)) => c.start == b.start,
+    // Its second.
+    pub fn second_at(&self, place: usize) -> f64 {
+        seconds(self.rate(), self.at(place))
     }
-}
 
-fn is_spike(rate: u32, b: Burst) -> bool {
-    dips::back(b.end, b.start) < ((rate / SPIKE_PART) as usize)
-}
-
-fn start_of(scan: Scan, b: Burst) -> u64 {
-    std::num::wrapping_add_u64(scan.base, b.start as u64)
-}
-
-fn end_of(scan: Scan, b: Burst) -> u64 {
-    std::num::wrapping_add_u64(scan.base, b.end as u64)
-}
-
-// Where another burst follows a short one within 0.3 s: the gap between them, which was not bridged.
-fn print_gap(rt: &impl Print, held: &[f32], rate: u32, b: Burst) {
-    let found = bursts::find_bursts(held, rate, explaining::any_options(), b.floor_dbm, b.end);
-    let Ok(Some(c)) = found else {
-        return;
-    };
-    let gap = seconds(rate, dips::back(c.start, b.end) as u64);
-    if gap < 0.3 {
-        replay::print(rt, b"  the next loud sample comes ");
-        print_parts(rt, gap);
-        replay::print(rt, b" s later: a gap over 0.04 s is not bridged\n");
+    // How many seconds lie between two places.
+    pub fn seconds_between(&self, from: usize, to: usize) -> f64 {
+        seconds(self.rate(), dips::back(to, from) as u64)
     }
-}
 
-// A burst over the threshold that was not taken, and was not explained before.
-fn left(rt: &impl Print, held: &[f32], t: Tally, scan: Scan, b: Burst) -> Tally {
-    let mut u = t;
-    u.done = end_of(scan, b);
-    if is_long(held, scan.rate, b) {
-        if b.start == 0 {
-            return explain_left(rt, u, scan, b, Ending::Cut);
+    // Whether the receiver took a burst in this call.
+    fn took(&self, b: Burst) -> bool {
+        let before = self.before.starts;
+        let after = self.after.starts;
+        if receiver_starts::MOST_STARTS < before.count
+            || receiver_starts::MOST_STARTS < after.count
+        {
+            return false;
         }
-        return u;
+        let start = self.at(b.start);
+        explaining::took(
+            self.rate(),
+            before,
+            place_of(self.before.base, start),
+            after,
+            place_of(self.after.base, start),
+        )
     }
-    if is_spike(scan.rate, b) {
-        return crate::tally::spike(u);
-    }
-    let v = explain_left(rt, u, scan, b, Ending::Short);
-    print_gap(rt, held, scan.rate, b);
-    v
-}
 
-// Whether a burst ended long enough ago.
-fn has_ended(held: usize, scan: Scan, b: Burst) -> bool {
-    scan.wait <= dips::back(held, b.end)
-}
+    // Whether a burst is one of those that a scan looks at.
+    fn is_long(&self, b: Burst) -> bool {
+        let options = receiver_scan::scan_options();
+        match bursts::find_bursts(self.held, self.rate(), options, b.floor_dbm, b.start) {
+            Err(_) | Ok(None) => false,
+            Ok(Some(c)) => c.start == b.start,
+        }
+    }
 
-// A burst over the threshold.
-fn loud(
-    rt: &impl Print,
-    held: &[f32],
-    t: Tally,
-    scan: Scan,
-    r: Remembered,
-    b: Burst,
-    scratch32: &mut [f32],
-    scratch64: &mut [f64],
-) -> Tally {
-    if took(scan.rate, r, start_of(scan, b)) {
-        let mut u = t;
-        u.done = end_of(scan, b);
-        return explain_taken(rt, held, u, scan, b, scratch32, scratch64);
+    fn is_spike(&self, b: Burst) -> bool {
+        dips::back(b.end, b.start) < ((self.rate() / SPIKE_PART) as usize)
     }
-    if start_of(scan, b) < t.done {
-        return t;
-    }
-    if has_ended(held.len(), scan, b) {
-        return left(rt, held, t, scan, b);
-    }
-    t
-}
 
-// All bursts over the threshold, however short.
-fn all_loud(
-    rt: &impl Print,
-    held: &[f32],
-    floor: f32,
-    t: Tally,
-    scan: Scan,
-    r: Remembered,
-    scratch32: &mut [f32],
-    scratch64: &mut [f64],
-) -> Tally {
-    let options = explaining::any_options();
-    let mut u = t;
-    let mut from: usize = 0;
-    for _ in 0..MOST_BURSTS {
-        let Ok(Some(b)) = bursts::find_bursts(held, scan.rate, options, floor, from) else {
-            return u;
+    // Whether a burst ended long enough ago.
+    fn has_ended(&self, b: Burst) -> bool {
+        self.wait <= dips::back(self.held.len(), b.end)
+    }
+
+    // Where another burst follows a short one within 0.3 s: the gap between them, which was not bridged.
+    fn print_gap(&self, rt: &impl Print, b: Burst) {
+        let options = explaining::any_options();
+        let found = bursts::find_bursts(self.held, self.rate(), options, b.floor_dbm, b.end);
+        let Ok(Some(c)) = found else {
+            return;
         };
-        u = loud(rt, held, u, scan, r, b, scratch32, scratch64);
-        from = b.end;
+        let gap = self.seconds_between(b.end, c.start);
+        if gap < 0.3 {
+            replay::print(rt, b"  the next loud sample comes ");
+            print_parts(rt, gap);
+            replay::print(rt, b" s later: a gap over 0.04 s is not bridged\n");
+        }
     }
-    u
-}
 
-// A burst over the lower threshold: one that no sample of lies over the receiver's, and that was not explained before.
-fn faint(rt: &impl Print, held: usize, t: Tally, scan: Scan, b: Burst) -> Tally {
-    if explaining::margin(b) > 0.0 {
-        return t;
+    // A burst over the threshold that was not taken, and was not explained before.
+    fn left(&mut self, rt: &impl Print, b: Burst) {
+        self.tally.done = self.at(b.end);
+        if self.is_long(b) {
+            if b.start == 0 {
+                self.explain_left(rt, b, Ending::Cut);
+            }
+            return;
+        }
+        if self.is_spike(b) {
+            self.tally.add_spike();
+            return;
+        }
+        self.explain_left(rt, b, Ending::Short);
+        self.print_gap(rt, b);
     }
-    if start_of(scan, b) < t.faint_done {
-        return t;
-    }
-    if has_ended(held, scan, b) {
-        let mut u = t;
-        u.faint_done = end_of(scan, b);
-        return explain_left(rt, u, scan, b, Ending::Faint);
-    }
-    t
-}
 
-// All bursts over the lower threshold.
-fn all_faint(rt: &impl Print, held: &[f32], floor: f32, t: Tally, scan: Scan) -> Tally {
-    let options = explaining::faint_options();
-    let mut u = t;
-    let mut from: usize = 0;
-    for _ in 0..MOST_BURSTS {
-        let Ok(Some(b)) = bursts::find_bursts(held, scan.rate, options, floor, from) else {
-            return u;
-        };
-        u = faint(rt, held.len(), u, scan, b);
-        from = b.end;
+    // A burst over the threshold.
+    fn loud(&mut self, rt: &impl Print, b: Burst, scratch: &mut Scratch) {
+        if self.took(b) {
+            self.tally.done = self.at(b.end);
+            self.explain_taken(rt, b, scratch);
+        } else if self.tally.done <= self.at(b.start) && self.has_ended(b) {
+            self.left(rt, b);
+        }
     }
-    u
-}
 
-// What a scan of the held samples did, and what it left.
-pub fn explain_scan(
-    rt: &impl Print,
-    held: &[f32],
-    t: Tally,
-    scan: Scan,
-    r: Remembered,
-    scratch32: &mut [f32],
-    scratch64: &mut [f64],
-) -> Tally {
-    let Ok(floor) = bursts::noise_floor(held, scratch32) else {
-        return t;
-    };
-    let u = all_faint(rt, held, floor, t, scan);
-    all_loud(rt, held, floor, u, scan, r, scratch32, scratch64)
+    // All bursts over the threshold, however short.
+    fn all_loud(&mut self, rt: &impl Print, floor: f32, scratch: &mut Scratch) {
+        let options = explaining::any_options();
+        let mut from: usize = 0;
+        for _ in 0..MOST_BURSTS {
+            let found = bursts::find_bursts(self.held, self.rate(), options, floor, from);
+            let Ok(Some(b)) = found else {
+                return;
+            };
+            self.loud(rt, b, scratch);
+            from = b.end;
+        }
+    }
+
+    // A burst over the lower threshold: one that no sample of lies over the receiver's, and that was not explained before.
+    fn faint(&mut self, rt: &impl Print, b: Burst) {
+        let is_faint = !(explaining::margin(b) > 0.0);
+        if is_faint && self.tally.faint_done <= self.at(b.start) && self.has_ended(b) {
+            self.tally.faint_done = self.at(b.end);
+            self.explain_left(rt, b, Ending::Faint);
+        }
+    }
+
+    // All bursts over the lower threshold.
+    fn all_faint(&mut self, rt: &impl Print, floor: f32) {
+        let options = explaining::faint_options();
+        let mut from: usize = 0;
+        for _ in 0..MOST_BURSTS {
+            let found = bursts::find_bursts(self.held, self.rate(), options, floor, from);
+            let Ok(Some(b)) = found else {
+                return;
+            };
+            self.faint(rt, b);
+            from = b.end;
+        }
+    }
+
+    // What a scan of the held samples did, and what it left.
+    pub fn explain(&mut self, rt: &impl Print, scratch: &mut Scratch) {
+        if let Ok(floor) = bursts::noise_floor(self.held, &mut scratch.f32s) {
+            self.all_faint(rt, floor);
+            self.all_loud(rt, floor, scratch);
+        }
+    }
 }

@@ -46,131 +46,120 @@ pub struct Tally {
 // More than any margin.
 const FAR: f64 = 1_000_000.0;
 
-pub fn far() -> Near {
-    Near {
-        dip: FAR,
-        grid: FAR,
+impl Near {
+    // Of no dips.
+    pub fn far() -> Near {
+        Near {
+            dip: FAR,
+            grid: FAR,
+        }
+    }
+
+    // With one dip more.
+    pub fn with(self, depth: f64, off: f64) -> Near {
+        Near {
+            dip: explaining::lesser(self.dip, explaining::depth_margin(depth)),
+            grid: explaining::lesser(self.grid, explaining::grid_margin(off)),
+        }
     }
 }
 
-pub fn new() -> Tally {
-    Tally {
-        bursts: 0,
-        faint: 0,
-        short: 0,
-        spikes: 0,
-        cut: 0,
-        clockless: 0,
-        typeless: 0,
-        few: 0,
-        wrong: 0,
-        read: 0,
-        joins: 0,
-        above: FAR,
-        dip: FAR,
-        grid: FAR,
-        quiet: FAR,
-        done: 0,
-        faint_done: 0,
-    }
+fn count(n: &mut u64) {
+    *n = n.wrapping_add(1);
 }
 
-fn more(n: u64) -> u64 {
-    std::num::wrapping_add_u64(n, 1)
-}
-
-// A burst that ended so.
-pub fn ended(t: Tally, how: Ending) -> Tally {
-    let mut u = t;
-    u.bursts = more(t.bursts);
-    match how {
-        Ending::Faint => {
-            u.faint = more(t.faint);
-        }
-        Ending::Short => {
-            u.short = more(t.short);
-        }
-        Ending::Cut => {
-            u.cut = more(t.cut);
-        }
-        Ending::Clockless => {
-            u.clockless = more(t.clockless);
-        }
-        Ending::Typeless => {
-            u.typeless = more(t.typeless);
-        }
-        Ending::Few => {
-            u.few = more(t.few);
-        }
-        Ending::Wrong => {
-            u.wrong = more(t.wrong);
-        }
-        Ending::Read => {
-            u.read = more(t.read);
+impl Tally {
+    pub fn new() -> Tally {
+        Tally {
+            bursts: 0,
+            faint: 0,
+            short: 0,
+            spikes: 0,
+            cut: 0,
+            clockless: 0,
+            typeless: 0,
+            few: 0,
+            wrong: 0,
+            read: 0,
+            joins: 0,
+            above: FAR,
+            dip: FAR,
+            grid: FAR,
+            quiet: FAR,
+            done: 0,
+            faint_done: 0,
         }
     }
-    u
-}
 
-// A cluster of loud samples that is too short to be shown.
-pub fn spike(t: Tally) -> Tally {
-    let mut u = t;
-    u.spikes = more(t.spikes);
-    u
-}
-
-// The margins of a burst that was read.
-pub fn read(t: Tally, above: f64, near: Near) -> Tally {
-    let mut u = t;
-    u.above = explaining::lesser(t.above, above);
-    u.dip = explaining::lesser(t.dip, near.dip);
-    u.grid = explaining::lesser(t.grid, near.grid);
-    u
-}
-
-// The margin of a frame that joined a message.
-pub fn joined(t: Tally, quiet: f64) -> Tally {
-    let mut u = t;
-    u.joins = more(t.joins);
-    u.quiet = explaining::lesser(t.quiet, quiet);
-    u
-}
-
-fn print_endings(rt: &impl Print, t: Tally) {
-    print_count(rt, t.bursts, b" bursts: ");
-    print_count(rt, t.faint, b" under the threshold, ");
-    print_count(rt, t.short, b" too short (and ");
-    print_count(rt, t.spikes, b" under 0.05 s), ");
-    print_count(rt, t.cut, b" cut off, ");
-    print_count(rt, t.clockless, b" without clock, ");
-    print_count(rt, t.typeless, b" without type, ");
-    print_count(rt, t.few, b" with too few bits, ");
-    print_count(rt, t.wrong, b" with a wrong CRC, ");
-    print_count(rt, t.read, b" read");
-}
-
-fn print_quiet(rt: &impl Print, t: Tally) {
-    if t.joins == 0 {
-        replay::print(rt, b"no repetition for 10 s\n");
-        return;
+    // A burst that ended so.
+    pub fn add(&mut self, how: Ending) {
+        count(&mut self.bursts);
+        match how {
+            Ending::Faint => count(&mut self.faint),
+            Ending::Short => count(&mut self.short),
+            Ending::Cut => count(&mut self.cut),
+            Ending::Clockless => count(&mut self.clockless),
+            Ending::Typeless => count(&mut self.typeless),
+            Ending::Few => count(&mut self.few),
+            Ending::Wrong => count(&mut self.wrong),
+            Ending::Read => count(&mut self.read),
+        }
     }
-    print_parts(rt, t.quiet);
-    replay::print(rt, b" s of 10 s\n");
-}
 
-// The last line.
-pub fn print(rt: &impl Print, t: Tally) {
-    print_endings(rt, t);
-    if t.read == 0 {
-        replay::print_end(rt);
-        return;
+    // A cluster of loud samples that is too short to be shown.
+    pub fn add_spike(&mut self) {
+        count(&mut self.spikes);
     }
-    replay::print(rt, b"; smallest margins of those read: ");
-    print_db(rt, t.above);
-    replay::print(rt, b" dB over the 15 dB, ");
-    print_db(rt, t.dip);
-    replay::print(rt, b" dB over the 6 dB, ");
-    print_parts(rt, t.grid);
-    replay::print(rt, b" of a bit under the 0.35, ");
-    print_quiet(rt, t);
+
+    // The margins of a burst that was read.
+    pub fn add_margins(&mut self, above: f64, near: Near) {
+        self.above = explaining::lesser(self.above, above);
+        self.dip = explaining::lesser(self.dip, near.dip);
+        self.grid = explaining::lesser(self.grid, near.grid);
+    }
+
+    // The margin of a frame that joined a message.
+    pub fn add_join(&mut self, quiet: f64) {
+        count(&mut self.joins);
+        self.quiet = explaining::lesser(self.quiet, quiet);
+    }
+
+    fn print_endings(&self, rt: &impl Print) {
+        print_count(rt, self.bursts, b" bursts: ");
+        print_count(rt, self.faint, b" under the threshold, ");
+        print_count(rt, self.short, b" too short (and ");
+        print_count(rt, self.spikes, b" under 0.05 s), ");
+        print_count(rt, self.cut, b" cut off, ");
+        print_count(rt, self.clockless, b" without clock, ");
+        print_count(rt, self.typeless, b" without type, ");
+        print_count(rt, self.few, b" with too few bits, ");
+        print_count(rt, self.wrong, b" with a wrong CRC, ");
+        print_count(rt, self.read, b" read");
+    }
+
+    fn print_quiet(&self, rt: &impl Print) {
+        if self.joins == 0 {
+            replay::print(rt, b"no repetition for 10 s\n");
+            return;
+        }
+        print_parts(rt, self.quiet);
+        replay::print(rt, b" s of 10 s\n");
+    }
+
+    // The last line.
+    pub fn print(&self, rt: &impl Print) {
+        self.print_endings(rt);
+        if self.read == 0 {
+            replay::print_end(rt);
+            return;
+        }
+        replay::print(rt, b"; smallest margins of those read: ");
+        print_db(rt, self.above);
+        replay::print(rt, b" dB over the 15 dB, ");
+        print_db(rt, self.dip);
+        replay::print(rt, b" dB over the 6 dB, ");
+        print_parts(rt, self.grid);
+        replay::print(rt, b" of a bit under the 0.35, ");
+        self.print_quiet(rt);
+    }
 }

@@ -1,43 +1,27 @@
 // Numbers in decimal.
+ghost use Rattle.std.specs.Prelude.{◌≤◌, ◌<◌};
 
-fn print_sign(rt: &impl Print, x: f64, n: u64) {
-    if x < 0.0 {
-        if 0 < n {
-            replay::print(rt, b"-");
-        }
+// A number in units of 1 / scale, so many decimals.
+fn print_decimals(rt: &impl Print, x: f64, scale: usize, decimals: usize)
+    requires { (0 < scale) × (scale ≤ 1000000) }
+{
+    let n = explaining::scaled(x, scale);
+    if x < 0.0 && 0 < n {
+        replay::print(rt, b"-");
     }
-}
-
-fn print_two(rt: &impl Print, n: u64) {
-    if n < 10 {
-        replay::print(rt, b"0");
-    }
-    replay::print_number(rt, n);
-}
-
-fn print_three(rt: &impl Print, n: u64) {
-    if n < 100 {
-        replay::print(rt, b"0");
-    }
-    print_two(rt, n);
+    let whole = n / scale as u64;
+    let part = n % scale as u64;
+    let _ = print!(rt; "{whole}.{part:0decimals$}");
 }
 
 // Decibels, with two decimals.
 pub fn print_db(rt: &impl Print, x: f64) {
-    let n = explaining::scaled(x, 100);
-    print_sign(rt, x, n);
-    replay::print_number(rt, n / 100);
-    replay::print(rt, b".");
-    print_two(rt, n % 100);
+    print_decimals(rt, x, 100, 2);
 }
 
 // Seconds, and parts of a bit, with three.
 pub fn print_parts(rt: &impl Print, x: f64) {
-    let n = explaining::scaled(x, 1000);
-    print_sign(rt, x, n);
-    replay::print_number(rt, n / 1000);
-    replay::print(rt, b".");
-    print_three(rt, n % 1000);
+    print_decimals(rt, x, 1000, 3);
 }
 
 // A number of something, with its text behind it.

@@ -1,3 +1,2 @@
 -- The laws that the proofs of `explaining` cite.
 pub mod VerdictLaws
-pub mod TypeLaws

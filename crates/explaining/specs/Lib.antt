@@ -1,5 +1,4 @@
 -- The definitions that the contracts of `explaining` cite.
 pub mod Margins
 pub mod Verdicts
-pub mod Types
 pub mod Taken

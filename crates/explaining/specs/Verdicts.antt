@@ -5,7 +5,7 @@ use Rattle.std.specs.Float.Ieee.{add, sub, mul, div, lt}
 use Rattle.floats.specs.Trig.{magnitude}
 use Rattle.clock.specs.Numbers.{off_grid}
 use Rattle.clock.specs.Clock.{lost}
-use Rattle.clock.specs.Running.{place, index_at, summed, refit, step, points_from, depths_from}
+use Rattle.clock.specs.Running.{place, index_at, summed, refit, step, points_from}
 use Rattle.clock.specs.declared.Clock.{Clock}
 use Rattle.clock.specs.declared.Step.{Step}
 use Rattle.clock.specs.declared.Step.TheVariants as steps

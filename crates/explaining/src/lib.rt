@@ -1,24 +1,18 @@
 // Why a burst was read or not, and how near each number was: what `explain` prints is worked out here, on the definitions that the receiver is proved against.
 #![tactic(auto)]
 
-ghost use Rattle.std.specs.Prelude.{◌≡◌, ◌^◌, ◌<◌, ◌≤◌, true, map, length};
-ghost use Rattle.coding.specs.Bits.{odd, are_bits};
-ghost use Rattle.limits.specs.Limits.{lowest_rate, highest_rate, longest_stream, most_samples, most_bits, scratch64};
-ghost use Rattle.ledger.specs.Scanning.{scan_options};
+ghost use Rattle.std.specs.Prelude.{◌≡◌, ◌^◌, ◌<◌, ◌≤◌};
+ghost use Rattle.limits.specs.Limits.{scratch64};
 ghost use Rattle.explaining.specs.Margins.{faint_options, any_options, margin_of, depth_margin, grid_margin, quiet_margin, lesser, scaled};
 ghost use Rattle.explaining.specs.Verdicts.{off_by, is_far, skipped_by, judged};
-ghost use Rattle.explaining.specs.Types.{type_in};
-ghost use Rattle.explaining.specs.Taken.{segment_of, took_at};
+ghost use Rattle.explaining.specs.Taken.{took_at};
 ghost use Rattle.receiver_starts.specs.Starts.{distances};
 ghost use Rattle.ledger.specs.Causes.{most_starts};
 
 use bursts::{Burst, BurstOptions};
 use clock::{Clock, Step};
-use frame::kinds::FrameKind;
+use receiver_scan::MIN_MS;
 use receiver_starts::Starts;
-
-// The receiver's own shortest burst.
-pub const MIN_MS: f64 = 300.0;
 
 // What is under the threshold, but not under this many decibels over the floor, is shown as well.
 const FAINT_DB: f64 = 12.0;
@@ -32,18 +26,7 @@ pub const QUIET_S: f64 = 10.0;
 
 // ---- bursts
 
-// How a scan looks for bursts.
-pub fn scan_options() -> BurstOptions
-    ensures { result ≡ scan_options }
-{
-    BurstOptions {
-        above_db: BurstOptions::ABOVE_DB,
-        min_ms: MIN_MS,
-        gap_ms: BurstOptions::GAP_MS,
-    }
-}
-
-// The same without a shortest burst: also those that are too short.
+// A scan's options without a shortest burst: also those that are too short.
 pub fn any_options() -> BurstOptions
     ensures { result ≡ any_options }
 {
@@ -71,23 +54,6 @@ pub fn margin(burst: Burst) -> f64
 {
     std::num::f32_to_f64_with_nan(burst.peak_dbm)
         - (std::num::f32_to_f64_with_nan(burst.floor_dbm) + BurstOptions::ABOVE_DB)
-}
-
-// The samples of a burst that are looked at: from one place on to another.
-#[derive(Clone, Copy)]
-pub struct Segment {
-    pub from: usize,
-    pub to: usize,
-}
-
-pub fn looked_at(dbm: &[f32], rate: u32, burst: Burst) -> Segment
-    requires { (lowest_rate ≤ rate) × (rate ≤ highest_rate) × (burst.end ≤ longest_stream) }
-    ensures { (result ≡ segment_of dbm.now rate burst) × (result.from ≤ result.to) × (result.to ≤ length dbm.now) }
-{
-    let pad = demod::margin(rate);
-    let from = dips::back(burst.start, pad).min(dbm.len());
-    let to = from.max((burst.end + pad).min(dbm.len()));
-    Segment { from, to }
 }
 
 // Whether a call took the burst that starts at place i of the samples held before it, and at place j of those held after it: its start is remembered now, and none
@@ -141,10 +107,10 @@ pub fn judge(c: Clock, d: f64) -> Verdict
     requires { c.count < scratch64 }
     ensures { result ≡ judged c d }
 {
-    let k = clock::index_at(c, d);
+    let k = c.index_at(d);
     let off = off_by(c, d, k);
     let far = is_far(c, d, k);
-    match clock::track(c, d) {
+    match c.track(d) {
         Step::Lost => Verdict::Lost,
         Step::Skipped => skipped_by(far, off),
         Step::Joined(next) => Verdict::Accepted(next, off),
@@ -165,34 +131,7 @@ pub fn grid_margin(off: f64) -> f64
     OFF_GRID - floats::abs64(off)
 }
 
-// ---- frames and messages
-
-// A frame type, and the bit where it starts.
-#[derive(Clone, Copy)]
-pub struct TypeFound {
-    pub start: usize,
-    pub kind: FrameKind,
-}
-
-const FIRST_START: usize = 8;
-
-const LAST_START: usize = 22;
-
-// The frame type of bits, none where there is none: the first that stands at a start from 8 to 22. What is decoded is decoded from there (law `decoded-there`).
-pub fn find_type(bits: &[u8]) -> Option<TypeFound>
-    requires { (are_bits bits.now ≡ true) × (length bits.now ≤ most_bits) }
-    ensures { result ≡ type_in (map odd bits.now) }
-{
-    for start in FIRST_START..LAST_START + 1 {
-        if bits.len() < start + frame::kinds::SYNC {
-            return None;
-        }
-        if let Some(kind) = frame::kinds::find_kind(frame::kinds::word(bits, start)) {
-            return Some(TypeFound { start, kind });
-        }
-    }
-    None
-}
+// ---- messages
 
 // What a message that waits at a time has left of 10 s.
 pub fn quiet_margin(now: f64, last: f64) -> f64

@@ -4,6 +4,7 @@
 ghost use Rattle.std.specs.Prelude.{◌≤◌, length, IfOk};
 ghost use Rattle.fleet_sheet.specs.Tallies.{Tallied};
 
+use fleet_sheet::table::DeviceRow;
 use fleet_sheet::{NUMBERS, Tally};
 use limits::Refusal;
 
@@ -15,42 +16,40 @@ fn print_device(rt: &impl Print, z: i64) {
 }
 
 // A row: the device in 8 hexadecimal digits, then its eight numbers.
-fn print_row(rt: &impl Print, rows: &[i64; 2304], p: usize)
-    requires { p ≤ 255 }
-{
-    print_device(rt, rows[NUMBERS * p]);
-    for j in 1..NUMBERS {
+fn print_row(rt: &impl Print, row: &[i64]) {
+    let Some((device, numbers)) = row.split_first() else {
+        return;
+    };
+    print_device(rt, *device);
+    for x in numbers {
         replay::print(rt, b" ");
-        replay::print_i64(rt, rows[NUMBERS * p + j]);
+        replay::print_number(rt, *x);
     }
     replay::print_end(rt);
-}
-
-fn print_rows(rt: &impl Print, rows: &[i64; 2304], n: usize) {
-    for p in 0..n.min(fleet_sheet::MOST_DEVICES) {
-        print_row(rt, rows, p);
-    }
 }
 
 // The report of what was read.
 fn report(
     tally: Result<Tally, Refusal>,
-    ids: &[u32; 256],
-    sums: &[i64; 1792],
+    table: &[DeviceRow; 256],
     rows: &mut [i64; 2304],
 ) -> Result<usize, Refusal>
-    requires { IfOk tally (λ t. Tallied t ids.now sums.now) }
+    requires { IfOk tally (λ t. Tallied t table.now) }
 {
-    fleet_sheet::report(tally?, ids, sums, rows)
+    fleet_sheet::report(tally?, table, rows)
 }
 
 // Its lines, or that of its refusal.
-fn finish(rt: &impl Print, tally: Result<Tally, Refusal>, ids: &[u32; 256], sums: &[i64; 1792])
-    requires { IfOk tally (λ t. Tallied t ids.now sums.now) }
+fn finish(rt: &impl Print, tally: Result<Tally, Refusal>, table: &[DeviceRow; 256])
+    requires { IfOk tally (λ t. Tallied t table.now) }
 {
     let mut rows = [0i64; 2304];
-    match report(tally, ids, sums, &mut rows) {
-        Ok(n) => print_rows(rt, &rows, n),
+    match report(tally, table, &mut rows) {
+        Ok(n) => {
+            for row in rows.chunks_exact(NUMBERS).take(n) {
+                print_row(rt, row);
+            }
+        }
         Err(refusal) => {
             replay::print_refusal(rt, refusal);
         }
@@ -64,8 +63,7 @@ fn print_failure(rt: &impl Eprint) {
 // The list is read in parts of 512 records, so that it need not stand in memory.
 fn main(rt: HostRuntime) {
     let mut part = [0u8; 61440];
-    let mut ids = [0u32; 256];
-    let mut sums = [0i64; 1792];
+    let mut table = fleet_sheet::no_rows();
     let mut hints = [0u8; 4096];
     let mut tally = Ok(fleet_sheet::no_records());
     let mut bytes: usize = 0;
@@ -76,7 +74,7 @@ fn main(rt: HostRuntime) {
             return;
         };
         if n == 0 {
-            finish(&rt, tally, &ids, &sums);
+            finish(&rt, tally, &table);
             return;
         }
         bytes += n;
@@ -85,7 +83,7 @@ fn main(rt: HostRuntime) {
             return;
         }
         if let Ok(t) = tally {
-            tally = fleet_sheet::read_records(t, &part[..n], &mut ids, &mut sums, &mut hints);
+            tally = fleet_sheet::read_records(t, &part[..n], &mut table, &mut hints);
         }
     }
 }

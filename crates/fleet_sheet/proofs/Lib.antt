@@ -4,7 +4,7 @@ pub mod PlaceLaws
 pub mod TakenLaws
 pub mod RowLaws
 pub mod DeviceLaws
-pub mod FlatLaws
+pub mod GapLaws
 pub mod StandLaws
 pub mod SheetLaws
 pub mod ReportLaws

@@ -110,7 +110,3 @@ sum-le (negsuc a) (negsuc b) = omega arith
 
 pub sum_lt : (h : ℕ) (a b : ℤ) → mag a < 2 ^ h → mag b < 2 ^ h → mag (a +ℤ b) < 2 ^ suc h
 sum_lt h a b p q = omega (arith, sum-le a b, pow-suc 2 h)
-
--- 32 bits are within 64
-pub widened : (z : ℤ) → mag z < 2 ^ 31 → mag z < 2 ^ 63
-widened z h = omega arith

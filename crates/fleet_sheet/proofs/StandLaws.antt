@@ -1,8 +1,8 @@
 -- The rows stand for the messages read so far: kept by every record. Assumes nothing.
-use Rattle.std.proofs.Common.{◌≡◌, ℕ, ◌+◌, ◌*◌, ◌^◌, ◌<◌, ◌≤◌, Bool, true, false, cond, ◌&&◌, eqb, ltb, List, [], ◌∷◌, ◌++◌, map, length, get_or, take, drop, set, ℤ, sym, refl, ap, ◌∙◌, subst, true≢false, append_assoc, append-nil, arith, length-append, length-drop, length-set, length-take-le, get_or-take, ltb-false, ltb-true, eq-eqb, ne_eqb, eqb-true}
+use Rattle.std.proofs.Common.{◌≡◌, ℕ, ◌+◌, ◌^◌, ◌<◌, ◌≤◌, Bool, true, false, cond, eqb, ltb, List, [], ◌∷◌, ◌++◌, map, length, get_or, take, drop, set, sym, refl, ap, ◌∙◌, subst, true≢false, append_assoc, append-nil, arith, length-append, length-drop, length-set, length-take-le, get_or-take, ltb-false, ltb-true, eq-eqb, ne_eqb, eqb-true}
 use mathlib.Core.List.{map-append}
 use lib.ListN.{length-map, get_or-map}
-use lib.Seq.{sets, length-sets}
+use lib.Seq.{take-set-lt}
 use Rattle.limits.proofs.Samples.{and_left, and_right}
 use Rattle.record.specs.Readers.{device_of}
 use Rattle.event_list.specs.Events.{is_message, messages_of}
@@ -10,21 +10,16 @@ use Rattle.event_list.specs.Sums.{those}
 use Rattle.event_list.proofs.SumLaws.{those-append, those_one, those_none, those-le}
 use Rattle.fleet_sheet.specs.declared.rows.Row.{Row}
 use Rattle.fleet_sheet.specs.Fleet.{is_of, row_from, row_of, devices_of}
-use Rattle.fleet_sheet.specs.Table.{single, merge, Small, numbers, flat, row_at, place_of, shifted, at, is_there, is_known, taken_count, taken_ids, taken_table, rows_most, Stands, Gathered}
+use Rattle.fleet_sheet.specs.Table.{single, merge, Small, devices_in, rows_in, row_at, place_of, shifted, at, is_there, is_known, taken_count, taken_ids, taken_rows, rows_most, Stands, Gathered}
+use Rattle.fleet_sheet.specs.declared.table.DeviceRow.{DeviceRow}
 use Rattle.fleet_sheet.specs.declared.Tally.{Tally}
 use Rattle.fleet_sheet.specs.Tallies.{Held}
-use Rattle.fleet_sheet.proofs.PlaceLaws.{length-shifted}
+use Rattle.fleet_sheet.proofs.PlaceLaws.{length-shifted, there_same}
 use Rattle.fleet_sheet.proofs.DeviceLaws.{three, has, devices_more, rising-devices, none_of, some_of, there_is, insert_at, has_at, place-le, insert-le}
 use Rattle.fleet_sheet.proofs.RowLaws.{row_one, row_more, row_small}
-use Rattle.fleet_sheet.proofs.FlatLaws.{flat_append, take-flat, drop-flat, row_read, take_sets, sets_flat, gap-filled, map_same, map_one, map-take, map-drop}
+use Rattle.fleet_sheet.proofs.TableLaws.{map-take, map-drop}
+use Rattle.fleet_sheet.proofs.GapLaws.{row_read, gap-filled, map_same, map_one}
 use Rattle.fleet_sheet.proofs.TakenLaws.{Took}
-
-there_same : (d p n : ℕ) (ids : List ℕ) → n ≤ length ids → is_there d p n ids ≡ is_there d p (length (take n ids)) (take n ids)
-there_same d p n ids h = ap (λ (k : ℕ). ltb p k && eqb (get_or ids p 0) d) (sym (length-take-le n ids h)) ∙ go (ltb p (length (take n ids))) refl
-  where
-    go : (t : Bool) → ltb p (length (take n ids)) ≡ t → ltb p (length (take n ids)) && eqb (get_or ids p 0) d ≡ ltb p (length (take n ids)) && eqb (get_or (take n ids) p 0) d
-    go true e = ap (λ (k : ℕ). ltb p (length (take n ids)) && eqb k d) (sym (get_or-take n ids p 0 (omega (arith, ltb-true p (length (take n ids)) e, length-take-le n ids h))))
-    go false e = rw e refl
 
 -- ---- the rows after one message more
 
@@ -52,7 +47,7 @@ module _ (ms : List (List ℕ)) (m : List ℕ) where
 
 -- ---- the table
 
-module _ (ids : List ℕ) (t : List ℤ) (n : ℕ) (ms : List (List ℕ)) (st : Stands ids t n ms) (m : List ℕ) where
+module _ (ids : List ℕ) (t : List Row) (n : ℕ) (ms : List (List ℕ)) (st : Stands ids t n ms) (m : List ℕ) where
   abbrev ds : List ℕ
   ds = devices_of ms
 
@@ -105,25 +100,24 @@ module _ (ids : List ℕ) (t : List ℤ) (n : ℕ) (ms : List (List ℕ)) (st : 
         (λ e. three j p (λ u. let r = rising-devices ms j p u (omega (arith, inside, st.many)) in omega (arith, r, device-there, e)) h
         (λ u. let r = rising-devices ms p j u b in omega (arith, r, device-there, e)))
 
-    rows-changed : map (row_of (more ms m)) ds ≡ set rs p (merge (row_at t (7 * p)) (single m))
+    rows-changed : map (row_of (more ms m)) ds ≡ set rs p (merge (row_at t p) (single m))
     rows-changed =
         map_one (row_of ms) (row_of (more ms m)) ds p (omega (arith, inside, st.many)) others
         ∙ ap (set rs p)
         (ap (row_of (more ms m)) device-there ∙ known-row ms m (sym known_has ∙ k)
         ∙ ap (λ (r : Row). merge r (single m)) (ap (row_of ms) (sym device-there) ∙ sym (get_or-map (row_of ms) ds p 0) ∙ sym (row_read t n rs p blank st.held inside (omega (arith, inside, rows-many)))))
 
-    pub stands-joined : Stands ids (sets t (7 * p) (numbers (merge (row_at t (7 * p)) (single m)))) n (more ms m)
+    pub stands-joined : Stands ids (set t p (merge (row_at t p) (single m))) n (more ms m)
     stands-joined = record {
       places = st.places;
-      long = length-sets t (7 * p) (numbers (merge (row_at t (7 * p)) (single m))) ∙ st.long;
+      long = length-set t p (merge (row_at t p) (single m)) ∙ st.long;
       many = st.many ∙ ap length (sym devices-kept);
       room = st.room;
       named = st.named ∙ sym devices-kept;
       held =
-          take_sets (numbers (merge (row_at t (7 * p)) (single m))) t (7 * p) (7 * n) (omega (arith, inside))
-          ∙ ap (λ (l : List ℤ). sets l (7 * p) (numbers (merge (row_at t (7 * p)) (single m)))) st.held
-          ∙ sets_flat rs p (merge (row_at t (7 * p)) (single m)) (omega (arith, inside, rows-many))
-          ∙ ap flat (sym rows-changed ∙ ap (map (row_of (more ms m))) (sym devices-kept));
+          take-set-lt n t p (merge (row_at t p) (single m)) inside
+          ∙ ap (λ (l : List Row). set l p (merge (row_at t p) (single m))) st.held
+          ∙ sym rows-changed ∙ ap (map (row_of (more ms m))) (sym devices-kept);
     }
 
   -- ---- a device without one
@@ -155,44 +149,37 @@ module _ (ids : List ℕ) (t : List ℤ) (n : ℕ) (ms : List (List ℕ)) (st : 
         ap (map (row_of (more ms m))) devices-grown ∙ map-append (row_of (more ms m)) (take p ds) (d ∷ drop p ds)
         ∙ cc (map-take (row_of (more ms m)) ds p, map-drop (row_of (more ms m)) ds p, rows-kept, new_row ms m absent)
 
-    pub stands-opened : n < rows_most → Stands (set (shifted 1 p n ids) p d) (sets (shifted 7 (7 * p) (7 * n) t) (7 * p) (numbers (single m))) (n + 1) (more ms m)
-    unfolding flat
+    pub stands-opened : n < rows_most → Stands (set (shifted 1 p n ids) p d) (set (shifted 1 p n t) p (single m)) (n + 1) (more ms m)
     stands-opened h =
         let sizes : n + 1 ≤ length ids = omega (arith, st.places) in
-        let wide : 7 * n + 7 ≤ length t = omega (arith, st.long) in
+        let wide : n + 1 ≤ length t = omega (arith, st.long) in
         let q = place_in in
         record {
           places = length-set (shifted 1 p n ids) p d ∙ length-shifted 1 p n ids q sizes ∙ st.places;
-          long = length-sets (shifted 7 (7 * p) (7 * n) t) (7 * p) (numbers (single m)) ∙ length-shifted 7 (7 * p) (7 * n) t (omega arith) wide ∙ st.long;
+          long = length-set (shifted 1 p n t) p (single m) ∙ length-shifted 1 p n t q wide ∙ st.long;
           many = many-grown;
           room = omega arith;
           named = gap-filled 1 p n ids (d ∷ []) refl q sizes ∙ ap (λ (l : List ℕ). take p l ++ (d ∷ drop p l)) st.named ∙ sym devices-grown;
           held =
-              ap (λ (k : ℕ). take k (sets (shifted 7 (7 * p) (7 * n) t) (7 * p) (numbers (single m)))) (seven-more n)
-              ∙ gap-filled 7 (7 * p) (7 * n) t (numbers (single m)) refl (omega arith) wide
-              ∙ ap (λ (l : List ℤ). take (7 * p) l ++ (numbers (single m) ++ drop (7 * p) l)) st.held
-              ∙ cc (take-flat p rs, drop-flat p rs)
-              ∙ sym (flat_append (take p rs) (single m ∷ drop p rs))
-              ∙ ap flat (sym rows_grown);
+              gap-filled 1 p n t (single m ∷ []) refl q wide
+              ∙ ap (λ (l : List Row). take p l ++ (single m ∷ drop p l)) st.held
+              ∙ sym rows_grown;
         }
-      where
-        seven-more : (n : ℕ) → 7 * (n + 1) ≡ 7 * n + 7
-        seven-more n = omega arith
 
   -- ---- any record
 
-  pub stands-next : (k : ℕ) (ids' : List ℕ) (t' : List ℤ) → Took m n ids t k ids' t' → Gathered ids' t' k (ms ++ messages_of (m ∷ []))
-  unfolding taken_count taken_ids taken_table
+  pub stands-next : (k : ℕ) (ids' : List ℕ) (t' : List Row) → Took m n ids t k ids' t' → Gathered ids' t' k (ms ++ messages_of (m ∷ []))
+  unfolding taken_count taken_ids taken_rows
   stands-next k ids' t' w = message (is_message m) refl
     where
-      moved : (k₀ : ℕ) (i₀ : List ℕ) (t₀ : List ℤ) (l : List (List ℕ)) → taken_count m n ids ≡ k₀ → taken_ids m n ids ≡ i₀ → taken_table m n ids t ≡ t₀
+      moved : (k₀ : ℕ) (i₀ : List ℕ) (t₀ : List Row) (l : List (List ℕ)) → taken_count m n ids ≡ k₀ → taken_ids m n ids ≡ i₀ → taken_rows m n ids t ≡ t₀
           → Gathered i₀ t₀ k₀ l → Gathered ids' t' k l
       moved k₀ i₀ t₀ l a b c g = rw (w.0 ∙ a, w.1 ∙ b, w.2 ∙ c) g
 
       full : is_message m ≡ true → is_known m n ids ≡ false → (b : Bool) → ltb n rows_most ≡ b → Gathered ids' t' k (more ms m)
       full e f true h =
           let u = ltb-true n rows_most h in
-          moved (n + 1) (set (shifted 1 p n ids) p d) (sets (shifted 7 (7 * p) (7 * n) t) (7 * p) (numbers (single m))) (more ms m)
+          moved (n + 1) (set (shifted 1 p n ids) p d) (set (shifted 1 p n t) p (single m)) (more ms m)
           (rw (e, f, h) refl) (rw (e, f, h) refl) (rw (e, f, h) refl)
           (record { under = λ v. stands-opened f u; above = λ v. absurd (omega arith) })
       full e f false h =
@@ -202,7 +189,7 @@ module _ (ids : List ℕ) (t : List ℤ) (n : ℕ) (ms : List (List ℕ)) (st : 
 
       known : is_message m ≡ true → (b : Bool) → is_known m n ids ≡ b → Gathered ids' t' k (more ms m)
       known e true h =
-          moved n ids (sets t (7 * p) (numbers (merge (row_at t (7 * p)) (single m)))) (more ms m) (rw (e, h) refl) (rw (e, h) refl) (rw (e, h) refl)
+          moved n ids (set t p (merge (row_at t p) (single m))) (more ms m) (rw (e, h) refl) (rw (e, h) refl) (rw (e, h) refl)
           (record { under = λ v. stands-joined h; above = λ v. absurd (omega (arith, st.room)) })
       known e false h = full e h (ltb n rows_most) refl
 
@@ -214,21 +201,22 @@ module _ (ids : List ℕ) (t : List ℤ) (n : ℕ) (ms : List (List ℕ)) (st : 
 
   -- ---- what `taken` requires
 
-  pub small-rows : length ms ≤ 2 ^ 20 → (j : ℕ) → j < n → Small (row_at t (7 * j))
+  pub small-rows : length ms ≤ 2 ^ 20 → (j : ℕ) → j < n → Small (row_at t j)
   small-rows h j b =
       subst Small
       (sym (row_read t n rs j blank st.held b (omega (arith, rows-many)) ∙ get_or-map (row_of ms) ds j 0))
       (row_small (those (is_of (get_or ds j 0)) ms) (omega (arith, those-le (is_of (get_or ds j 0)) ms)))
 
 -- the start
-pub stands_none : (ids : List ℕ) (t : List ℤ) → length ids ≡ rows_most → length t ≡ 7 * rows_most → Stands ids t 0 []
-unfolding devices_of flat
+pub stands_none : (ids : List ℕ) (t : List Row) → length ids ≡ rows_most → length t ≡ rows_most → Stands ids t 0 []
+unfolding devices_of
 stands_none ids t a b = record { places = a; long = b; many = refl; room = omega arith; named = refl; held = refl }
 
 -- nothing is read
-pub held_none : (t : Tally) (ids : List ℕ) (sums : List ℤ) → t.devices ≡ 0 → length ids ≡ rows_most → length sums ≡ 7 * rows_most → Held t ids sums []
-held_none t ids sums e a b = record {
-  gathered = subst (λ (n : ℕ). Gathered ids sums n []) (sym e) (record { under = λ u. stands_none ids sums a b; above = λ u. absurd (omega arith) });
+pub held_none : (t : Tally) (table : List DeviceRow) → t.devices ≡ 0 → length table ≡ rows_most → Held t table []
+held_none t table e a = record {
+  gathered = subst (λ (n : ℕ). Gathered (devices_in table) (rows_in table) n []) (sym e)
+      (record { under = λ u. stands_none (devices_in table) (rows_in table) (length-map table (λ r. r.device) ∙ a) (length-map table (λ r. r.row) ∙ a); above = λ u. absurd (omega arith) });
   few = omega arith;
 }
 

@@ -1,11 +1,11 @@
--- Scaffolding. How the rows stand in the code's table while the list is read: seven numbers a row, in the order of the devices. Assumes nothing.
-use Rattle.std.specs.Prelude.{◌≡◌, ℕ, zero, suc, ◌+◌, ◌*◌, ◌^◌, ◌<◌, ◌≤◌, Bool, cond, ◌&&◌, List, [], ◌∷◌, ◌++◌, map, length, take, drop, ℤ, pos, ◌+ℤ◌, ◌==◌, nat_lt, slice_index, slice_index_or, slice_set}
+-- Scaffolding. How the rows stand in the code's table while the list is read: in the order of the devices. Assumes nothing.
+use Rattle.std.specs.Prelude.{◌≡◌, ℕ, zero, suc, ◌+◌, ◌^◌, ◌<◌, ◌≤◌, Bool, cond, ◌&&◌, List, [], ◌∷◌, ◌++◌, map, length, take, drop, ℤ, pos, ◌+ℤ◌, ◌==◌, nat_lt, slice_index, slice_index_or, slice_set}
 use Rattle.std.specs.Int.Signed.{mag}
-use Rattle.std.proofs.lemmas.List.Edits.{sets}
 use Rattle.std.proofs.Math.Seq.{slice}
 use Rattle.record.specs.Readers.{ppm_of, device_of}
 use Rattle.event_list.specs.Events.{is_message}
 use Rattle.fleet_sheet.specs.declared.rows.Row.{Row}
+use Rattle.fleet_sheet.specs.declared.table.DeviceRow.{DeviceRow}
 use Rattle.fleet_sheet.specs.Report.{nine}
 use Rattle.fleet_sheet.specs.Fleet.{min_z, max_z, halves_of, has_ranks, row_of, devices_of}
 
@@ -41,24 +41,19 @@ pub record Small (r : Row) : Type 0 where
   pub three_small : mag r.three < 2 ^ 62
   pub halves_small : mag r.halves < 2 ^ 62
 
-abbrev pub numbers : Row → List ℤ
-numbers r = r.messages ∷ r.one ∷ r.two ∷ r.three ∷ r.lowest ∷ r.highest ∷ r.halves ∷ []
+-- the devices of a table, and their rows
+abbrev pub devices_in : List DeviceRow → List ℕ
+devices_in = map (λ e. e.device)
 
-unfoldable pub flat : List Row → List ℤ
-flat [] = []
-flat (r ∷ rs) = numbers r ++ flat rs
+abbrev pub rows_in : List DeviceRow → List Row
+rows_in = map (λ e. e.row)
 
--- the row whose numbers stand at a place
-abbrev pub row_at : List ℤ → ℕ → Row
-row_at t at = record {
-  messages = slice_index_or t at (pos 0);
-  one = slice_index_or t (at + 1) (pos 0);
-  two = slice_index_or t (at + 2) (pos 0);
-  three = slice_index_or t (at + 3) (pos 0);
-  lowest = slice_index_or t (at + 4) (pos 0);
-  highest = slice_index_or t (at + 5) (pos 0);
-  halves = slice_index_or t (at + 6) (pos 0);
-}
+abbrev pub no_row : Row
+no_row = record { messages = pos 0; one = pos 0; two = pos 0; three = pos 0; lowest = pos 0; highest = pos 0; halves = pos 0 }
+
+-- the row at a place
+abbrev pub row_at : List Row → ℕ → Row
+row_at t p = slice_index_or t p no_row
 
 -- how many at the front of a list are below d
 unfoldable pub place_of : ℕ → List ℕ → ℕ
@@ -77,10 +72,6 @@ shifted w from to l = take (from + w) l ++ (slice from to l ++ drop (to + w) l)
 
 abbrev pub rows_most : ℕ
 rows_most = 256
-
--- places of the hints where a device's row may stand
-abbrev pub hints_most : ℕ
-hints_most = 4096
 
 -- more than the table holds
 abbrev pub overfull : ℕ
@@ -104,30 +95,30 @@ unfolding place_of
 taken_ids m n ids =
     cond (is_message m) (cond (is_known m n ids) ids (cond (nat_lt n rows_most) (slice_set (shifted 1 (at m n ids) n ids) (at m n ids) (device_of m)) ids)) ids
 
-unfoldable pub taken_table : List ℕ → ℕ → List ℕ → List ℤ → List ℤ
+unfoldable pub taken_rows : List ℕ → ℕ → List ℕ → List Row → List Row
 unfolding place_of
-taken_table m n ids t =
+taken_rows m n ids t =
     cond (is_message m)
     (cond (is_known m n ids)
-    (sets t (7 * at m n ids) (numbers (merge (row_at t (7 * at m n ids)) (single m))))
-    (cond (nat_lt n rows_most) (sets (shifted 7 (7 * at m n ids) (7 * n) t) (7 * at m n ids) (numbers (single m))) t))
+    (slice_set t (at m n ids) (merge (row_at t (at m n ids)) (single m)))
+    (cond (nat_lt n rows_most) (slice_set (shifted 1 (at m n ids) n t) (at m n ids) (single m)) t))
     t
 
 -- the first n rows are those of some messages
-pub record Stands (ids : List ℕ) (t : List ℤ) (n : ℕ) (ms : List (List ℕ)) : Type 0 where
+pub record Stands (ids : List ℕ) (t : List Row) (n : ℕ) (ms : List (List ℕ)) : Type 0 where
   pub places : length ids ≡ rows_most
-  pub long : length t ≡ 7 * rows_most
+  pub long : length t ≡ rows_most
   pub many : n ≡ length (devices_of ms)
   pub room : n ≤ rows_most
   pub named : take n ids ≡ devices_of ms
-  pub held : take (7 * n) t ≡ flat (map (row_of ms) (devices_of ms))
+  pub held : take n t ≡ map (row_of ms) (devices_of ms)
 
 -- what reading a list ends with: its rows, or more devices than the table holds
-pub record Gathered (ids : List ℕ) (t : List ℤ) (n : ℕ) (ms : List (List ℕ)) : Type 0 where
+pub record Gathered (ids : List ℕ) (t : List Row) (n : ℕ) (ms : List (List ℕ)) : Type 0 where
   pub under : n ≤ rows_most → Stands ids t n ms
   pub above : rows_most < n → rows_most < length (devices_of ms)
 
 -- the nine numbers of each of the first n rows
-unfoldable pub nines : ℕ → List ℕ → List ℤ → List ℤ
+unfoldable pub nines : ℕ → List ℕ → List Row → List ℤ
 nines zero ids t = []
-nines (suc p) ids t = nines p ids t ++ nine (slice_index ids p) (row_at t (7 * p))
+nines (suc p) ids t = nines p ids t ++ nine (slice_index ids p) (row_at t p)

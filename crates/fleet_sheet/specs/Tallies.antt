@@ -8,31 +8,32 @@ use Rattle.fleet_sheet.specs.declared.Tally.{Tally}
 use Rattle.limits.specs.declared.Refusal.{Refusal}
 use Rattle.fleet_sheet.specs.Fleet.{devices_of}
 use Rattle.fleet_sheet.specs.Report.{sheet, fleet_messages, sheet_cause}
-use Rattle.fleet_sheet.specs.Table.{Gathered}
+use Rattle.fleet_sheet.specs.declared.table.DeviceRow.{DeviceRow}
+use Rattle.fleet_sheet.specs.Table.{devices_in, rows_in, Gathered}
 
 -- the messages of what was read
-pub record Held (t : Tally) (ids : List ℕ) (sums : List ℤ) (ms : List (List ℕ)) : Type 0 where
-  pub gathered : Gathered ids sums t.devices ms
+pub record Held (t : Tally) (table : List DeviceRow) (ms : List (List ℕ)) : Type 0 where
+  pub gathered : Gathered (devices_in table) (rows_in table) t.devices ms
   pub few : length ms ≤ t.«records»
 
 -- some messages are
-pub record Tallied (t : Tally) (ids : List ℕ) (sums : List ℤ) : Type 0 where
+pub record Tallied (t : Tally) (table : List DeviceRow) : Type 0 where
   pub messages : List (List ℕ)
-  pub held : Held t ids sums messages
+  pub held : Held t table messages
 
 -- a part is read behind what was: its messages come behind those
-abbrev pub Adds : List ℕ → Tally → List ℕ → List ℤ → Tally → List ℕ → List ℤ → Type 0
-Adds l t ids sums t' ids' sums' = (ms : List (List ℕ)) → Held t ids sums ms → Held t' ids' sums' (ms ++ fleet_messages l)
+abbrev pub Adds : List ℕ → Tally → List DeviceRow → Tally → List DeviceRow → Type 0
+Adds l t table t' table' = (ms : List (List ℕ)) → Held t table ms → Held t' table' (ms ++ fleet_messages l)
 
 -- and 12 applies where it applies to it
-pub record Reads (l : List ℕ) (t : Tally) (ids : List ℕ) (sums : List ℤ) (r : Result Tally Refusal) (ids' : List ℕ) (sums' : List ℤ) : Type 0 where
+pub record Reads (l : List ℕ) (t : Tally) (table : List DeviceRow) (r : Result Tally Refusal) (table' : List DeviceRow) : Type 0 where
   pub read : Tally
   pub answered : r ≡ cond (list_ok l) (Ok read) (Err BadRecords)
   pub counted : read.«records» ≡ t.«records» + wholes l
-  pub adds : Adds l t ids sums read ids' sums'
+  pub adds : Adds l t table read table'
 
 -- the report of what was read, or refusal 13
-abbrev pub Reported : Tally → List ℕ → List ℤ → Result ℕ Refusal → List ℤ → List ℤ → Type 0
-Reported t ids sums r before after =
-    (ms : List (List ℕ)) → Held t ids sums ms
+abbrev pub Reported : Tally → List DeviceRow → Result ℕ Refusal → List ℤ → List ℤ → Type 0
+Reported t table r before after =
+    (ms : List (List ℕ)) → Held t table ms
     → (said r ≡ answer (sheet_cause true ms) (length (devices_of ms))) × (after ≡ leaves (number (said r)) (sets before 0 (sheet ms)) before)

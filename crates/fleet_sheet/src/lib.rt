@@ -1,21 +1,23 @@
 // The fleet report (02, request 09): for each device that has a message nine numbers, over a list of event records.
 #![tactic(auto)]
 
-mod rows; // a device's row
-mod table; // the rows of the devices met so far
+pub mod rows; // a device's row
+pub mod table; // the rows of the devices met so far
 
-ghost use Rattle.std.specs.Prelude.{◌≡◌, ◌+◌, ◌*◌, ◌≤◌, length};
+ghost use Rattle.std.specs.Prelude.{◌≡◌, ◌+◌, ◌*◌, ◌≤◌, [], length};
 ghost use Rattle.std.proofs.lemmas.List.Edits.{sets};
 ghost use Rattle.limits.specs.Answer.{said, answer, number, leaves};
 ghost use Rattle.event_list.specs.Events.{wholes, most_records};
 ghost use Rattle.fleet_sheet.specs.Fleet.{devices_of};
 ghost use Rattle.fleet_sheet.specs.Report.{nine, sheet, sheet_places, fleet_messages, fleet_cause};
-ghost use Rattle.fleet_sheet.specs.Table.{rows_most, hints_most, nines};
-ghost use Rattle.fleet_sheet.specs.Tallies.{Tallied, Reads, Reported};
+ghost use Rattle.fleet_sheet.specs.Table.{devices_in, rows_in, nines};
+ghost use Rattle.fleet_sheet.specs.declared.Tally.{Tally};
+ghost use Rattle.fleet_sheet.specs.Tallies.{Held, Tallied, Reads, Reported};
 
 use crate::rows::Row;
-use crate::table::{WIDTH, taken};
+use crate::table::{DeviceRow, taken};
 use limits::Refusal;
+use record::read::EventRecord;
 
 // The most devices of a report.
 pub const MOST_DEVICES: usize = 256;
@@ -42,23 +44,39 @@ pub fn no_records() -> Tally
     }
 }
 
+// A table without rows.
+pub fn no_rows() -> [DeviceRow; 256]
+    ensures { (t : Tally) → t.devices ≡ 0 → Held t result [] }
+{
+    let row = Row {
+        messages: 0,
+        one: 0,
+        two: 0,
+        three: 0,
+        lowest: 0,
+        highest: 0,
+        halves: 0,
+    };
+    [DeviceRow { device: 0, row }; 256]
+}
+
 // More records are read into the rows, in one pass; every record is tested for refusal 12, also where there are too many devices.
 pub fn read_records(
     t: Tally,
     records: &[u8],
-    ids: &mut [u32],
-    sums: &mut [i64],
-    hints: &mut [u8],
+    table: &mut [DeviceRow; 256],
+    hints: &mut [u8; 4096],
 ) -> Result<Tally, Refusal>
-    requires { (t.«records» + wholes records.now ≤ most_records) × (length hints.old ≡ hints_most) × Tallied t ids.old sums.old }
-    ensures { (length hints.new ≡ hints_most) × Reads records.now t ids.old sums.old result ids.new sums.new }
+    requires { (t.«records» + wholes records.now ≤ most_records) × Tallied t table.old }
+    ensures { Reads records.now t table.old result table.new }
 {
     let mut ok = records.len() % limits::RECORD == 0;
     let mut n = t.devices;
     for r in records.chunks_exact(limits::RECORD) {
-        ok &= event_list::record_ok(r);
+        let event = EventRecord::new(r);
+        ok &= event_list::record_ok(event);
         if n <= MOST_DEVICES {
-            n = taken(ids, sums, hints, n, r);
+            n = taken(table, hints, n, event);
         }
     }
     if !ok {
@@ -86,27 +104,26 @@ fn put_nine(rows: &mut [i64], at: usize, device: u32, row: Row)
     rows[at + 8] = row.messages;
 }
 
-// The first n rows of the table.
-fn put_sheet(ids: &[u32], sums: &[i64], n: usize, rows: &mut [i64])
-    requires { (n ≤ length ids.now) × (7 * n ≤ length sums.now) × (9 * n ≤ length rows.old) }
-    ensures { rows.new ≡ sets rows.old 0 (nines n ids.now sums.now) }
+// The rows of a table.
+fn put_sheet(table: &[DeviceRow], rows: &mut [i64])
+    requires { 9 * length table.now ≤ length rows.old }
+    ensures { rows.new ≡ sets rows.old 0 (nines (length table.now) (devices_in table.now) (rows_in table.now)) }
 {
-    for p in 0..n {
-        let row = rows::row_at(sums, WIDTH * p);
-        put_nine(rows, NUMBERS * p, ids[p], row);
+    for (p, entry) in table.iter().enumerate() {
+        put_nine(rows, NUMBERS * p, entry.device, entry.row);
     }
 }
 
 // How many rows of nine numbers are written: the report of what was read, or refusal 13, which changes nothing.
-pub fn report(t: Tally, ids: &[u32], sums: &[i64], rows: &mut [i64]) -> Result<usize, Refusal>
-    requires { (sheet_places ≤ length rows.old) × (length ids.now ≡ rows_most) × (length sums.now ≡ 7 * rows_most) × Tallied t ids.now sums.now }
-    ensures { Reported t ids.now sums.now result rows.old rows.new }
+pub fn report(t: Tally, table: &[DeviceRow; 256], rows: &mut [i64]) -> Result<usize, Refusal>
+    requires { (sheet_places ≤ length rows.old) × Tallied t table.now }
+    ensures { Reported t table.now result rows.old rows.new }
 {
     let n = t.devices;
     if MOST_DEVICES < n {
         return Err(Refusal::ManyDevices);
     }
-    put_sheet(ids, sums, n, rows);
+    put_sheet(&table[..n], rows);
     Ok(n)
 }
 
@@ -121,9 +138,8 @@ pub fn fleet_report(records: &[u8], rows: &mut [i64]) -> Result<usize, Refusal>
     if limits::MOST_RECORD_BYTES < records.len() {
         return Err(Refusal::Long);
     }
-    let mut ids = [0u32; 256];
-    let mut sums = [0i64; 1792];
+    let mut table = no_rows();
     let mut hints = [0u8; 4096];
-    let t = read_records(no_records(), records, &mut ids, &mut sums, &mut hints)?;
-    report(t, &ids, &sums, rows)
+    let t = read_records(no_records(), records, &mut table, &mut hints)?;
+    report(t, &table, rows)
 }

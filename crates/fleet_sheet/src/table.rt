@@ -1,85 +1,77 @@
-// The rows of the devices met so far, in rising device number: numbers of devices, and seven numbers a row.
-ghost use Rattle.std.specs.Prelude.{◌≡◌, ℕ, ◌+◌, ◌*◌, ◌<◌, ◌≤◌, length, take};
-ghost use Rattle.limits.specs.Limits.{record_size};
-ghost use Rattle.fleet_sheet.specs.Table.{Small, row_at, place_of, Rising, is_there, taken_count, taken_ids, taken_table, rows_most, hints_most};
+// The rows of the devices met so far, in rising device number.
+ghost use Rattle.std.specs.Prelude.{◌≡◌, ℕ, ◌<◌, ◌≤◌, length, take};
+ghost use Rattle.fleet_sheet.specs.Table.{Small, row_at, place_of, Rising, is_there, devices_in, rows_in, taken_count, taken_ids, taken_rows, rows_most};
 
-use crate::{MOST_DEVICES, rows};
-use record::read;
+use crate::MOST_DEVICES;
+use crate::rows::{self, Row};
+use record::read::EventRecord;
 
-// Numbers of a row in the table.
-pub const WIDTH: usize = 7;
+// A device and its row.
+#[derive(Clone, Copy)]
+pub struct DeviceRow {
+    pub device: u32,
+    pub row: Row,
+}
 
 // Places of hints: a device's is by the last 12 bits of its number.
 const HINTS: usize = 4096;
 
-// How many of the first n numbers are below d; they rise, so the search goes by halves.
-fn find(ids: &[u32], n: usize, d: u32) -> usize
-    requires { (n ≤ length ids.now) × Rising (take n ids.now) }
-    ensures { (result ≡ place_of d (take n ids.now)) × (result ≤ n) }
+// How many of the devices are below d; they rise.
+fn find(table: &[DeviceRow], d: u32) -> usize
+    requires { Rising (devices_in table.now) }
+    ensures { (result ≡ place_of d (devices_in table.now)) × (result ≤ length table.now) }
 {
-    let mut lo: usize = 0;
-    let mut hi = n;
-    while lo < hi {
-        let mid = lo + (hi - lo) / 2;
-        if ids[mid] < d {
-            lo = mid + 1;
-        } else {
-            hi = mid;
-        }
-    }
-    lo
+    table.partition_point(|entry| entry.device < d)
 }
 
-// Whether d stands at place p of the first n.
-fn is_there(ids: &[u32], n: usize, p: usize, d: u32) -> bool
-    requires { n ≤ length ids.now }
-    ensures { result ≡ is_there d p n ids.now }
+// Whether d stands at place p.
+fn is_there(table: &[DeviceRow], p: usize, d: u32) -> bool
+    ensures { result ≡ is_there d p (length table.now) (devices_in table.now) }
 {
-    p < n && ids[p] == d
+    p < table.len() && table[p].device == d
 }
 
-// Where d stands, or belongs, among the first n: where its hint says, or by search, and then that is its hint. A hint may say anything.
-fn place(ids: &[u32], hints: &mut [u8], n: usize, d: u32) -> usize
-    requires { (n ≤ rows_most) × (length ids.now ≡ rows_most) × (length hints.old ≡ hints_most) × Rising (take n ids.now) }
-    ensures { (result ≡ place_of d (take n ids.now)) × (result ≤ n) × (length hints.new ≡ hints_most) }
+// Where d stands, or belongs: where its hint says, or by search, and then that is its hint. A hint may say anything.
+fn place(table: &[DeviceRow], hints: &mut [u8; 4096], d: u32) -> usize
+    requires { Rising (devices_in table.now) }
+    ensures { (result ≡ place_of d (devices_in table.now)) × (result ≤ length table.now) }
 {
     let at = (d as usize) % HINTS;
     let hint = usize::from(hints[at]);
-    if is_there(ids, n, hint, d) {
+    if is_there(table, hint, d) {
         return hint;
     }
-    let p = find(ids, n, d);
+    let p = find(table, d);
     hints[at] = (p % MOST_DEVICES) as u8;
     p
 }
 
 // A record is taken into the first n rows: a message joins its device's row or opens one. The answer is their number then, or one more than the table holds.
-pub fn taken(ids: &mut [u32], table: &mut [i64], hints: &mut [u8], n: usize, r: &[u8]) -> usize
-    requires { (record_size ≤ length r.now) × (length ids.old ≡ rows_most) × (length table.old ≡ 7 * rows_most) × (n ≤ rows_most)
-        × Rising (take n ids.old) × ((p : ℕ) → p < n → Small (row_at table.old (7 * p))) × (length hints.old ≡ hints_most) }
-    ensures { (result ≡ taken_count r.now n ids.old)
-        × (ids.new ≡ taken_ids r.now n ids.old)
-        × (table.new ≡ taken_table r.now n ids.old table.old)
-        × (length hints.new ≡ hints_most) }
+pub fn taken(
+    table: &mut [DeviceRow; 256],
+    hints: &mut [u8; 4096],
+    n: usize,
+    r: EventRecord,
+) -> usize
+    requires { (n ≤ rows_most) × Rising (take n (devices_in table.old)) × ((p : ℕ) → p < n → Small (row_at (rows_in table.old) p)) }
+    ensures { (result ≡ taken_count r.entry.bytes.now n (devices_in table.old))
+        × (devices_in table.new ≡ taken_ids r.entry.bytes.now n (devices_in table.old))
+        × (rows_in table.new ≡ taken_rows r.entry.bytes.now n (devices_in table.old) (rows_in table.old)) }
 {
     if !event_list::is_message(r) {
         return n;
     }
-    let device = read::device_of(r);
-    let p = place(ids, hints, n, device);
-    let at = WIDTH * p;
+    let device = r.device();
+    let p = place(&table[..n], hints, device);
     let m = rows::single(r);
-    if is_there(ids, n, p, device) {
-        let row = rows::merge(rows::row_at(table, at), m);
-        rows::put_row(table, at, row);
+    if is_there(&table[..n], p, device) {
+        table[p].row = rows::merge(table[p].row, m);
         return n;
     }
     if MOST_DEVICES <= n {
         return MOST_DEVICES + 1;
     }
-    ids.copy_within(p..n, p + 1);
-    ids[p] = device;
-    table.copy_within(at..WIDTH * n, at + WIDTH);
-    rows::put_row(table, at, m);
+    table.copy_within(p..n, p + 1);
+    table[p] = DeviceRow { device, row: m };
     n + 1
 }

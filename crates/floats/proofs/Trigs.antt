@@ -1,5 +1,5 @@
 -- The trigonometry: constants by their bit patterns, as compiled code has them, the turns of the loops, and the test of two zeros. Assumes nothing.
-use Rattle.std.proofs.Common.{◌≡◌, ℕ, zero, suc, ◌+◌, ◌-◌, ◌*◌, ◌<◌, ◌≤◌, Bool, true, false, ◌&&◌, pos, sym, refl, ap, ◌∙◌, lt_of_le_of_lt, mul-le-mul, arith}
+use Rattle.std.proofs.Common.{◌≡◌, ℕ, zero, suc, ◌+◌, ◌-◌, ◌*◌, ◌≤◌, Bool, true, false, ◌&&◌, pos, sym, refl, ap, ◌∙◌, arith}
 use lib.Ieee.{Float, binary64, sub, mul, div, eq, of_int, of_bits, round}
 use Rattle.floats.specs.Trig.{pi, tau, series, atan_from}
 use Rattle.floats.specs.Number.{num, near}
@@ -44,13 +44,11 @@ none n e h = absurd (go n e h)
     go : (n : ℕ) → n ≡ 0 → 1 ≤ n → ⊥
     go n e h = omega arith
 
-pub series-turn : (o n : ℕ) (q p : Float) → 1 ≤ n
-    → series o (n - 1) q (sub binary64 (of_bits binary64 0x3ff0_0000_0000_0000) (div binary64 (mul binary64 p q) (of_int binary64 (pos ((2 * n - 1 + o) * (2 * n + o)))))) ≡ series o n q p
+pub series-turn : (o n d : ℕ) (q p : Float) → 1 ≤ n → d ≡ (2 * n - 1 + o) * (2 * n + o)
+    → series o (n - 1) q (sub binary64 (of_bits binary64 0x3ff0_0000_0000_0000) (div binary64 (mul binary64 p q) (of_int binary64 (pos d)))) ≡ series o n q p
 unfolding series
-series-turn o zero q p h = none 0 refl h
-series-turn o (suc m) q p h =
-    ap (λ (k : ℕ). series o k q (sub binary64 (of_bits binary64 0x3ff0_0000_0000_0000) (div binary64 (mul binary64 p q) (num ((2 * suc m - 1 + o) * (2 * suc m + o)))))) (less m)
-    ∙ ap (λ (x : Float). series o m q (sub binary64 x (div binary64 (mul binary64 p q) (num ((2 * suc m - 1 + o) * (2 * suc m + o)))))) one_is
+series-turn o zero d q p h e = none 0 refl h
+series-turn o (suc m) d q p h e = rw (less m, one_is, e) refl
 
 pub atan-turn : (k : ℕ) (u p : Float) → 1 ≤ k
     → atan_from (k - 1) u (sub binary64 (div binary64 (of_bits binary64 0x3ff0_0000_0000_0000) (of_int binary64 (pos (2 * (k - 1) + 1)))) (mul binary64 (mul binary64 u u) p)) ≡ atan_from k u p
@@ -68,10 +66,6 @@ series_end o n q p e = ap (λ (k : ℕ). series o k q p) e
 pub atan_end : (k : ℕ) (u p : Float) → k ≡ 0 → atan_from k u p ≡ p
 unfolding atan_from
 atan_end k u p e = ap (λ (n : ℕ). atan_from n u p) e
-
--- a product of two small numbers fits
-pub product : (a b : ℕ) → a ≤ 30 → b ≤ 30 → a * b < 2147483648
-product a b A B = lt_of_le_of_lt (mul-le-mul A B) (omega arith)
 
 -- ---- the test of two zeros
 

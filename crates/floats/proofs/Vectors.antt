@@ -28,13 +28,13 @@ unfolding to_signed to_unsigned of_int round neg
 casts = (refl, refl, refl, refl, refl, refl)
 
 -- the divisors of 01, (2n−1)×2n and 2n×(2n+1)
-cosine-divisor : (n : ℕ) → (2 * n - 1 + 0) * (2 * n + 0) ≡ (2 * n - 1) * (2 * n)
+pub cosine-divisor : (n : ℕ) → (2 * n - 1 + 0) * (2 * n + 0) ≡ (2 * n - 1) * (2 * n)
 cosine-divisor n = rw (plus (2 * n - 1), plus (2 * n))
   where
     plus : (k : ℕ) → k + 0 ≡ k
     plus k = omega arith
 
-sine-divisor : (n : ℕ) → 1 ≤ n → (2 * n - 1 + 1) * (2 * n + 1) ≡ 2 * n * (2 * n + 1)
+pub sine-divisor : (n : ℕ) → 1 ≤ n → (2 * n - 1 + 1) * (2 * n + 1) ≡ 2 * n * (2 * n + 1)
 sine-divisor n h = ap (λ (k : ℕ). k * (2 * n + 1)) (go n h)
   where
     go : (n : ℕ) → 1 ≤ n → 2 * n - 1 + 1 ≡ 2 * n

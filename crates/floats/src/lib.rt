@@ -1,7 +1,7 @@
 // Floats: floor, rounding, Rust's casts, magnitude and maximum, and 01's sine, cosine and arctangent.
 #![tactic(auto)]
 
-ghost use Rattle.std.specs.Prelude.{◌≡◌, ◌^◌, ◌<◌, ◌≤◌, false, not, T, pos, if◌then◌else◌, is_nan};
+ghost use Rattle.std.specs.Prelude.{◌≡◌, ℕ, ◌+◌, ◌-◌, ◌*◌, ◌^◌, ◌<◌, ◌≤◌, false, not, T, pos, if◌then◌else◌, is_nan};
 ghost use Rattle.std.specs.Float.{binary64};
 ghost use Rattle.std.specs.Float.Ieee.{round, lt, of_int, to_unsigned, to_signed};
 ghost use Rattle.floats.specs.Number.{num};
@@ -72,10 +72,10 @@ pub fn max32(a: f32, b: f32) -> f32
 }
 
 // The highest of a number and those of a list, none of which is a NaN.
-pub fn highest32(least: f32, xs: &[f32]) -> f32
-    ensures { result ≡ max_from least xs.now }
+pub fn highest32(from: f32, xs: &[f32]) -> f32
+    ensures { result ≡ max_from from xs.now }
 {
-    let mut m = least;
+    let mut m = from;
     for x in xs {
         m = max32(m, *x);
     }
@@ -106,16 +106,14 @@ fn reduced(a: f64) -> f64
     a - floor64(a / t + 0.5) * t
 }
 
-// p of the cosine (odd = 0) or of the sine (odd = 1), of q = r * r.
-fn series_of(odd: u32, q: f64) -> f64
-    requires { odd ≤ 1 }
-    ensures { result ≡ series odd terms q (num 1) }
+// p of the series of the cosine (o = 0) or of the sine (o = 1), whose n-th divisor is given, of q = r * r.
+fn series_of<F: Fn(u32) -> u32>(divisor: F, q: f64) -> f64
+    requires { (n : ℕ) → 1 ≤ n → n ≤ terms → F.pre divisor n }
+    ensures { (o : ℕ) → ((n d : ℕ) → 1 ≤ n → F.post divisor n d → d ≡ (2 * n - 1 + o) * (2 * n + o)) → result ≡ series o terms q (num 1) }
 {
     let mut p = 1.0;
-    let mut n = TERMS;
-    while n > 0 {
-        p = 1.0 - (p * q) / (((2 * n - 1 + odd) * (2 * n + odd)) as f64);
-        n -= 1;
+    for n in (1..TERMS + 1).rev() {
+        p = 1.0 - (p * q) / (divisor(n) as f64);
     }
     p
 }
@@ -125,7 +123,7 @@ pub fn cos64(a: f64) -> f64
     ensures { result ≡ cosine a }
 {
     let r = reduced(a);
-    series_of(0, r * r)
+    series_of(|n| (2 * n - 1) * (2 * n), r * r)
 }
 
 // f64::sin of the Rust, by its stand-in.
@@ -133,18 +131,16 @@ pub fn sin64(a: f64) -> f64
     ensures { result ≡ sine a }
 {
     let r = reduced(a);
-    r * series_of(1, r * r)
+    r * series_of(|n| 2 * n * (2 * n + 1), r * r)
 }
 
-// p of the arctangent; k is n + 1.
+// p of the arctangent.
 fn atan_series(u: f64) -> f64
     ensures { result ≡ atan_from atan_terms u (num 0) }
 {
     let mut p = 0.0;
-    let mut k = ATAN_TERMS;
-    while k > 0 {
-        k -= 1;
-        p = 1.0 / ((2 * k + 1) as f64) - (u * u) * p;
+    for n in (0..ATAN_TERMS).rev() {
+        p = 1.0 / ((2 * n + 1) as f64) - (u * u) * p;
     }
     p
 }

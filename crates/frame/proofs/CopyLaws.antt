@@ -20,6 +20,10 @@ part_put at n out ys zs e k h =
 pub part_length : (l : List ℕ) (from n : ℕ) → from + n ≤ length l → length (take n (drop from l)) ≡ n
 part_length l from n h = length-take-le n (drop from l) (omega (arith, length-drop from l))
 
+-- a part of a list, up to where it ends
+pub part_bytes : (from n : ℕ) (l : List ℕ) → take (from + n - from) (drop from l) ≡ take n (drop from l)
+part_bytes from n l = ap (λ (k : ℕ). take k (drop from l)) (let e : from + n - from ≡ n = omega arith in e)
+
 abbrev pub zeros : ℕ → List ℕ
 zeros n = replicate n 0
 

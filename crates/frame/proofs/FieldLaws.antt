@@ -19,15 +19,16 @@ use Rattle.coding.proofs.Codes.{deconvolve-take}
 use Rattle.frame.specs.Sizes.{header_size, most_payload, most_auth, most_bytes, payload_size, auth_size, body_bytes}
 use Rattle.frame.specs.Fields.{byte_at, li, counter_of, device_of, payload_of, auth_of, bit_from, crc_right, padded, frame_from}
 use Rattle.frame.specs.Repairs.{repaired}
-use Rattle.frame.specs.Decode.{is_right, parse_body, passes}
+use Rattle.frame.specs.Decode.{is_right, parse_body, passes, mends}
 use Rattle.frame.specs.Plain.{right_bits}
 use Rattle.frame.specs.Splices.{spliced}
-use Rattle.frame.specs.declared.splices.Splice.{Splice}
+use Rattle.frame.specs.Bodies.{bits_of}
+use Rattle.frame.specs.declared.bodies.Body.{Body}
+use Rattle.frame.specs.declared.splices.Spliced.{Spliced}
 use Rattle.frame.specs.declared.kinds.FrameKind.{FrameKind}
 use Rattle.frame.specs.declared.Repair.{Repair}
 use Rattle.frame.specs.declared.UplinkFrame.{UplinkFrame}
 use Rattle.frame.proofs.SizeLaws.{li_cancels, body_least}
-use Rattle.frame.proofs.SpliceLaws.{Makes}
 
 -- ---- LI is below 4
 
@@ -128,15 +129,6 @@ pub right_short : (rank n : ℕ) (l : List Bool) → length l < 8 * n → false 
 unfolding right_bits
 right_short rank n l h = simp (lt-leb _ _ h)
 
--- from the bytes that the code has, with zeros after them
-pub right_padded : (rank n : ℕ) (l : List Bool) (bytes : List ℕ) → 2 ≤ n → 8 * n ≤ length l → bytes ≡ padded most_bytes (to_bytes n (deconvolved rank fresh l))
-    → crc_right n bytes ≡ right_bits rank n l
-unfolding right_bits
-right_padded rank n l bytes h k e =
-    let b = to_bytes n (deconvolved rank fresh l) in
-    ap (crc_right n) e ∙ crc-front n b (replicate (most_bytes - length b) 0) h (length-bytes n (deconvolved rank fresh l))
-    ∙ ap (λ (t : Bool). t && crc_right n b) (sym (le-leb (8 * n) (length l) k))
-
 -- ---- when a repair passes
 
 module _ (kind : FrameKind) (how : Option Repair) (body : List Bool) where
@@ -166,9 +158,9 @@ module _ (kind : FrameKind) (how : Option Repair) (body : List Bool) where
       ∙ ap (λ (t : Bool). cond t (Some (frame_from kind how b)) None) (sym (le-leb (8 * n) (length l) h))
       ∙ ap (λ (x : List Bool). cond (leb (8 * n) (length x)) (Some (frame_from kind how (to_bytes n (deconvolved kind.rank fresh x)))) None) e
 
--- what the code's test of a splice says of the repair that it makes
-pub tested : (kind : FrameKind) (body : List ℕ) (how : Option Repair) (s : Splice) (n : ℕ) (r : Bool) → n ≡ body_bytes kind.class → Makes how body s
-    → r ≡ right_bits kind.rank n (spliced s (map odd body)) → passes kind (map odd body) how ≡ r
-tested kind body how s n r e m f =
-    passes_is kind how (map odd body)
-    ∙ sym (f ∙ ap₂ (right_bits kind.rank) e m.is)
+-- what the code's test of a body with a splice says of the repair that it makes
+pub tested : (b : Body) (how : Repair) (v : Spliced) (r : Bool) → v.body ≡ b → spliced v.splice (map odd b.bits.now) ≡ repaired (Some how) (map odd b.bits.now)
+    → r ≡ right_bits v.body.kind.rank v.body.size (bits_of v) → mends b.kind (map odd b.bits.now) how ≡ r
+tested b how v r e m f =
+    passes_is b.kind (Some how) (map odd b.bits.now)
+    ∙ sym (f ∙ ap (λ (x : Body). right_bits x.kind.rank x.size (spliced v.splice (map odd x.bits.now))) e ∙ ap₂ (right_bits b.kind.rank) b.whole m)

@@ -1,31 +1,19 @@
 -- Laws of an uplink's header: class and LI by the payload's length, its bytes one part after the other, and the answers. Assumes nothing.
 use mathlib.Core.Path.{◌≡◌, refl, ap, ap₂, ◌∙◌}
 use mathlib.Core.List.{List, [], ◌∷◌, ◌++◌}
-use Prim.Native.Nat.{ℕ, zero, suc, ◌+◌, ◌-◌, ◌*◌, ◌/◌, ◌%◌, ◌≤◌, ◌<◌}
+use Prim.Native.Nat.{ℕ, zero, suc, ◌+◌, ◌*◌, ◌/◌, ◌%◌, ◌≤◌, ◌<◌}
 use native.Mathlib.Omega.{arith}
-use lib.ListN.{length, take, drop, length-append}
-use lib.Seq.{sets, sets-eq, take-length}
+use lib.ListN.{length, drop, length-append}
+use lib.Seq.{sets, sets-eq}
 use borrow.Author.Tests.{lt-ltb, le-ltb}
 use Rattle.limits.specs.Limits.{short, bad_number}
 use Rattle.limits.specs.Answer.{refused, accepted, answer, leaves}
 use Rattle.coding.specs.Bits.{bit_of}
 use Rattle.endian.specs.Bytes.{bytes_of}
 use Rattle.frame.specs.Sizes.{header_size, most_payload, auth_size}
-use Rattle.frame.specs.Header.{size_class, size_li, class_of, li_of, header_bytes, most_header, header_cause, header_answer, header_out}
+use Rattle.frame.specs.Header.{class_of, li_of, header_bytes, most_header, header_cause, header_answer, header_out}
 use Rattle.frame.specs.declared.header.UplinkFields.{UplinkFields}
 use Rattle.frame.proofs.CopyLaws.{sets_then}
-
--- ---- two bytes and more
-
-pub class_more : (n : ℕ) → (n ≡ 0 → ⊥) → (n ≡ 1 → ⊥) → (n - 1) / 4 + 2 ≡ size_class n
-class_more zero h k = absurd (h refl)
-class_more (suc zero) h k = absurd (k refl)
-class_more (suc (suc n)) h k = ap (λ (x : ℕ). x / 4 + 2) (let e : suc (suc n) - 1 ≡ suc n = omega arith in e)
-
-pub li_more : (n : ℕ) → (n ≡ 0 → ⊥) → (n ≡ 1 → ⊥) → 3 - (n - 1) % 4 ≡ size_li n
-li_more zero h k = absurd (h refl)
-li_more (suc zero) h k = absurd (k refl)
-li_more (suc (suc n)) h k = ap (λ (x : ℕ). 3 - x % 4) (let e : suc (suc n) - 1 ≡ suc n = omega arith in e)
 
 -- ---- the bytes
 
@@ -40,7 +28,7 @@ length_header f payload = omega (arith, length-append (bytes_of 4 f.device_id) p
 
 -- header, counter, device and payload one after the other
 pub written : (out a b c d : List ℕ) (f : UplinkFields) (payload : List ℕ) (x y : ℕ) → a ≡ sets out 0 (x ∷ []) → b ≡ sets a 1 (y ∷ []) → c ≡ sets b 2 (bytes_of 4 f.device_id)
-    → d ≡ sets c header_size (take (length payload) (drop 0 payload))
+    → d ≡ sets c header_size payload
     → x ≡ li_of f.bit (length payload) * 64 + bit_of f.downlink * 32 + f.counter / 256 % 16 → y ≡ f.counter % 256
     → d ≡ sets out 0 (header_bytes f payload)
 unfolding header_bytes
@@ -49,7 +37,7 @@ written out a b c d f payload x y ea eb ec ed ex ey =
     let fb : b ≡ sets out 0 (x ∷ y ∷ []) = eb ∙ ap (λ (l : List ℕ). sets l 1 (y ∷ [])) ea in
     let fc : c ≡ sets out 0 (x ∷ y ∷ dev) = ec ∙ ap (λ (l : List ℕ). sets l 2 dev) fb ∙ sets_then out 0 (x ∷ y ∷ []) dev 2 refl in
     let fd : d ≡ sets out 0 (x ∷ y ∷ (dev ++ payload)) =
-    ed ∙ ap₂ (λ (l p : List ℕ). sets l header_size p) fc (take-length payload)
+    ed ∙ ap (λ (l : List ℕ). sets l header_size payload) fc
     ∙ sets_then out 0 (x ∷ y ∷ dev) payload header_size (omega (arith, length-bytes_of 4 f.device_id)) in
     fd ∙ ap₂ (λ (u v : ℕ). sets out 0 (u ∷ v ∷ (dev ++ payload))) ex ey
 

@@ -12,3 +12,4 @@ pub mod HeaderLaws
 pub mod AnswerLaws
 pub mod ControlLaws
 pub mod PassedLaws
+pub mod TypeLaws

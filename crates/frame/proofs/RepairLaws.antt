@@ -2,50 +2,87 @@
 use Rattle.std.proofs.Common.{Option, None, Some}
 use mathlib.Core.Path.{◌≡◌, refl, sym, ap, ap₂, ◌∙◌, subst}
 use mathlib.Core.Bool.{Bool, true, false, cond}
+use mathlib.Core.List.{List, [], ◌∷◌}
 use Prim.Native.Nat.{ℕ, zero, suc, ◌+◌, ◌≤◌, ◌<◌}
 use native.Mathlib.Nat.{suc-add, add-suc}
 use native.Mathlib.Omega.{arith}
 use native.Mathlib.Numerals.{add-one}
 use lib.Dec.{ltb}
+use lib.ListN.{length, drop, get_or, drop_of_length-le}
+use lib.Seq.{drop-cons}
 use borrow.Author.Tests.{lt-ltb}
 use Rattle.frame.specs.Repairs.{repairs, first_of}
-use Rattle.frame.specs.Splices.{placed}
+use Rattle.frame.specs.Splices.{placed, place}
 use Rattle.frame.specs.declared.Repair.{Repair}
 use Rattle.frame.specs.declared.Repair.TheVariants.{Inserted, Deleted, Flipped}
 
 -- ---- the four at a place, in their order
 
+-- one of the four, or what comes after
+abbrev next : Bool → Bool → Bool → Bool → ℕ → Option Repair → Option Repair
+next a b c d i r = cond a (Some (Inserted true i)) (cond b (Some (Inserted false i)) (cond c (Some (Deleted i)) (cond d (Some (Flipped i)) r)))
+
+not_some : (how : Repair) → None ≡ Some how → ⊥
+not_some how e = let z : ◌≡◌ {A = Bool} true false = ap some e in let w : ◌≡◌ {A = ℕ} 0 1 = cc in omega arith
+  where
+    some : Option Repair → Bool
+    some None = true
+    some (Some h) = false
+
+abbrev pub tries : ℕ → List Repair
+tries i = Inserted true i ∷ Inserted false i ∷ Deleted i ∷ Flipped i ∷ []
+
+pub tries_there : (i j : ℕ) (d : Repair) → j < 4 → place (get_or (tries i) j d) ≡ i
+tries_there i zero d h = refl
+tries_there i (suc zero) d h = refl
+tries_there i (suc (suc zero)) d h = refl
+tries_there i (suc (suc (suc zero))) d h = refl
+tries_there i (suc (suc (suc (suc j)))) d h = absurd (omega arith)
+
+-- one of a list by the other
+module _ (ok : Repair → Bool) (l : List Repair) (j : ℕ) (d : Repair) (h : j < length l) where
+  pub first_here : ok (get_or l j d) ≡ true → Some (get_or l j d) ≡ first_of ok (drop j l)
+  unfolding first_of
+  first_here e = let r = first_of ok (drop (suc j) l) in
+      ap (λ (b : Bool). cond b (Some (get_or l j d)) r) (sym e) ∙ sym (ap (first_of ok) (drop-cons l j d h))
+
+  pub first_after : ok (get_or l j d) ≡ false → first_of ok (drop (j + 1) l) ≡ first_of ok (drop j l)
+  unfolding first_of
+  first_after e = let r = first_of ok (drop (suc j) l) in
+      ap (λ (k : ℕ). first_of ok (drop k l)) (add-one j)
+      ∙ ap (λ (b : Bool). cond b (Some (get_or l j d)) r) (sym e) ∙ sym (ap (first_of ok) (drop-cons l j d h))
+
+pub first_past : (ok : Repair → Bool) (l : List Repair) (j : ℕ) → length l ≤ j → None ≡ first_of ok (drop j l)
+unfolding first_of
+first_past ok l j h = sym (ap (first_of ok) (drop_of_length-le l {i = j} h))
+
+-- those at a place, then those at the places after it
 module _ (ok : Repair → Bool) (n i : ℕ) where
-  pub first_true : ok (Inserted true i) ≡ true → Some (Inserted true i) ≡ first_of ok (repairs (suc n) i)
+  pub at_place : (how : Repair) → first_of ok (repairs 1 i) ≡ Some how → Some how ≡ first_of ok (repairs (suc n) i)
   unfolding first_of repairs
-  first_true a = simp a
+  at_place how = go (ok (Inserted true i)) (ok (Inserted false i)) (ok (Deleted i)) (ok (Flipped i))
+    where
+      go : (a b c d : Bool) → next a b c d i None ≡ Some how → Some how ≡ next a b c d i (first_of ok (repairs n (suc i)))
+      go true b c d e = sym e
+      go false true c d e = sym e
+      go false false true d e = sym e
+      go false false false true e = sym e
+      go false false false false e = absurd (not_some how e)
 
-  module _ (a : ok (Inserted true i) ≡ false) where
-    pub first-false : ok (Inserted false i) ≡ true → Some (Inserted false i) ≡ first_of ok (repairs (suc n) i)
-    unfolding first_of repairs
-    first-false b = simp (a, b)
-
-    module _ (b : ok (Inserted false i) ≡ false) where
-      pub first-deleted : ok (Deleted i) ≡ true → Some (Deleted i) ≡ first_of ok (repairs (suc n) i)
-      unfolding first_of repairs
-      first-deleted c = simp (a, b, c)
-
-      module _ (c : ok (Deleted i) ≡ false) where
-        pub first-flipped : ok (Flipped i) ≡ true → Some (Flipped i) ≡ first_of ok (repairs (suc n) i)
-        unfolding first_of repairs
-        first-flipped d = simp (a, b, c, d)
-
-        pub first-later : ok (Flipped i) ≡ false → first_of ok (repairs n (i + 1)) ≡ first_of ok (repairs (suc n) i)
-        unfolding first_of repairs
-        first-later d = simp (a, b, c, d) (ap (λ (j : ℕ). first_of ok (repairs n j)) (add-one i))
+  pub past_place : first_of ok (repairs 1 i) ≡ None → first_of ok (repairs n (i + 1)) ≡ first_of ok (repairs (suc n) i)
+  unfolding first_of repairs
+  past_place e = ap (λ (j : ℕ). first_of ok (repairs n j)) (add-one i) ∙ go (ok (Inserted true i)) (ok (Inserted false i)) (ok (Deleted i)) (ok (Flipped i)) e
+    where
+      go : (a b c d : Bool) → next a b c d i None ≡ None → first_of ok (repairs n (suc i)) ≡ next a b c d i (first_of ok (repairs n (suc i)))
+      go true b c d e = absurd (not_some (Inserted true i) (sym e))
+      go false true c d e = absurd (not_some (Inserted false i) (sym e))
+      go false false true d e = absurd (not_some (Deleted i) (sym e))
+      go false false false true e = absurd (not_some (Flipped i) (sym e))
+      go false false false false e = refl
 
 pub first_none : (ok : Repair → Bool) (n i : ℕ) → n ≡ 0 → None ≡ first_of ok (repairs n i)
 unfolding first_of repairs
 first_none ok n i e = sym (ap (λ (k : ℕ). first_of ok (repairs k i)) e)
-
--- one of the four, or what comes after
-abbrev next : Bool → Bool → Bool → Bool → ℕ → Option Repair → Option Repair
-next a b c d i r = cond a (Some (Inserted true i)) (cond b (Some (Inserted false i)) (cond c (Some (Deleted i)) (cond d (Some (Flipped i)) r)))
 
 -- ---- where it lies
 

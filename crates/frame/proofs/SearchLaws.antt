@@ -8,7 +8,7 @@ use native.Mathlib.Omega.{arith}
 use native.Mathlib.Numerals.{add-one}
 use lib.ListN.{length, take, drop, length-drop}
 use lib.Seq.{take_all}
-use borrow.Author.Tests.{le-leb, lt-leb, lt-ltb, le-ltb}
+use borrow.Author.Tests.{le-leb, lt-ltb, le-ltb}
 use Rattle.limits.specs.Limits.{most_bits, long, bad_number}
 use Rattle.limits.specs.Answer.{refused, accepted}
 use Rattle.coding.specs.Bits.{odd, value, are_bits}
@@ -42,13 +42,6 @@ repair-placed kind body how e =
 -- ---- the starts
 
 module _ (n start : ℕ) (l : List Bool) where
-  pub search_short : length l < start + sync_size → None ≡ search_from n start l
-  search_short h = go n
-    where
-      go : (m : ℕ) → None ≡ search_from m start l
-      go zero = unfold search_from in refl
-      go (suc m) = unfold search_from in simp (lt-leb _ _ h)
-
   module _ (h : start + sync_size ≤ length l) (x : Option FrameKind) (e : x ≡ kind_of (value (take sync_size (drop start l))) kinds) where
     decided : decide_at x (drop (start + sync_size) l) (search_from n (suc start) l) ≡ search_from (suc n) start l
     unfolding search_from
@@ -64,10 +57,6 @@ module _ (n start : ℕ) (l : List Bool) where
     search-later f =
         ap (λ (k : ℕ). search_from n k l) (add-one start)
         ∙ ap (λ (y : Option FrameKind). decide_at y (drop (start + sync_size) l) (search_from n (suc start) l)) (sym f) ∙ decided
-
-pub search_none : (n start : ℕ) (l : List Bool) → n ≡ 0 → None ≡ search_from n start l
-unfolding search_from
-search_none n start l e = ap (λ (k : ℕ). search_from k start l) (sym e)
 
 -- ---- a part from n on
 

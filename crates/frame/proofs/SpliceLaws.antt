@@ -1,20 +1,23 @@
 -- The bits of a body with a splice, by index, and the splice of each repair. Assumes nothing.
-use Rattle.std.proofs.Common.{Option, None, Some}
-use mathlib.Core.Path.{◌≡◌, refl, sym, ap, ◌∙◌, subst}
+use Rattle.std.proofs.Common.{Some}
+use mathlib.Core.Path.{◌≡◌, refl, sym, ap, ◌∙◌}
 use mathlib.Core.Bool.{Bool, true, false, not}
 use mathlib.Core.List.{List, [], ◌∷◌, ◌++◌, map}
 use Prim.Native.Nat.{ℕ, zero, suc, ◌+◌, ◌-◌, ◌≤◌, ◌<◌}
 use native.Mathlib.Omega.{arith}
 use lib.ListN.{length, take, drop, get_or, replicate, length-append, length-drop, length-replicate, get_or-replicate, get_or-append, get_or-map}
 use lib.Seq.{length-take-le, get_or-append-add, get_or-drop, get_or-take, take-take, take-append-le, drop-append-add, drop-drop}
-use borrow.Author.Tests.{ltb-true}
+use borrow.Author.Tests.{ltb-true, lt-ltb}
 use Rattle.coding.specs.Bits.{odd, bit_of, are_bits}
-use Rattle.coding.proofs.BitLaws.{odd-bit, bit_at, bit-lt, length-map-odd}
+use Rattle.coding.proofs.BitLaws.{odd-bit, bit_at, length-map-odd}
 use Rattle.frame.specs.Repairs.{replaced, repaired}
-use Rattle.frame.specs.Splices.{spliced, SpliceOk, placed, keeping, inserting, deleting, flipping}
+use Rattle.frame.specs.Splices.{spliced, placed, place, keeping}
+use Rattle.frame.specs.Bodies.{bits_of}
+use Rattle.frame.specs.declared.bodies.Body.{Body}
 use Rattle.frame.specs.declared.Repair.{Repair}
 use Rattle.frame.specs.declared.Repair.TheVariants.{Inserted, Deleted, Flipped}
 use Rattle.frame.specs.declared.splices.Splice.{Splice}
+use Rattle.frame.specs.declared.splices.Spliced.{Spliced}
 
 -- ---- a list in which `middle` replaces `skip` bits at `at`
 
@@ -67,46 +70,52 @@ module _ (at : ℕ) (middle : List Bool) (skip : ℕ) (l : List Bool) (h : at + 
       ∙ drop-append-add (take at l) (middle ++ drop (at + skip) l) (length middle + m) ∙ drop-append-add middle (drop (at + skip) l) m
       ∙ drop-drop m (at + skip) l ∙ ap (λ (i : ℕ). drop i l) (let z : at + skip + m ≡ n - length middle + skip = omega arith in z)
 
--- ---- a splice of bit bytes
+-- ---- a body with a splice
 
-module _ (s : Splice) (body : List ℕ) (ok : SpliceOk s (length body)) where
-  inside : s.at + s.skip ≤ length (map odd body)
-  inside = omega (arith, ok.inside, length-map-odd body)
+module _ (v : Spliced) where
+  abbrev bits : List ℕ
+  bits = v.body.bits.now
+
+  abbrev s : Splice
+  s = v.splice
+
+  in_bits : s.at + s.skip ≤ length (map odd bits)
+  in_bits = omega (arith, v.inside, length-map-odd bits)
 
   abbrev middle : List Bool
   middle = replicate s.put (odd s.bit)
 
-  pub length-spliced : length (spliced s (map odd body)) ≡ length body + s.put - s.skip
+  pub length-spliced : length (bits_of v) ≡ length bits + s.put - s.skip
   unfolding spliced
   length-spliced =
-      omega (arith, length-replaced s.at middle s.skip (map odd body) inside, length-map-odd body, length-replicate s.put (odd s.bit))
+      omega (arith, length-replaced s.at middle s.skip (map odd bits) in_bits, length-map-odd bits, length-replicate s.put (odd s.bit))
 
-  pub spliced_before : (j : ℕ) → j < s.at → get_or (spliced s (map odd body)) j false ≡ get_or (map odd body) j false
+  pub spliced_before : (j : ℕ) → j < s.at → get_or (bits_of v) j false ≡ get_or (map odd bits) j false
   unfolding spliced
-  spliced_before = replaced_before s.at middle s.skip (map odd body) inside
+  spliced_before = replaced_before s.at middle s.skip (map odd bits) in_bits
 
-  pub spliced_in : (j : ℕ) → s.at ≤ j → j < s.at + s.put → get_or (spliced s (map odd body)) j false ≡ odd s.bit
+  pub spliced_in : (j : ℕ) → s.at ≤ j → j < s.at + s.put → get_or (bits_of v) j false ≡ odd s.bit
   unfolding spliced
   spliced_in j h k =
-      replaced_in s.at middle s.skip (map odd body) inside j h (omega (arith, length-replicate s.put (odd s.bit)))
+      replaced_in s.at middle s.skip (map odd bits) in_bits j h (omega (arith, length-replicate s.put (odd s.bit)))
       ∙ get_or-replicate s.put (j - s.at) (odd s.bit) false (omega arith)
 
-  pub spliced_after : (j : ℕ) → s.at + s.put ≤ j → get_or (spliced s (map odd body)) j false ≡ get_or (map odd body) (j - s.put + s.skip) false
+  pub spliced_after : (j : ℕ) → s.at + s.put ≤ j → get_or (bits_of v) j false ≡ get_or (map odd bits) (j - s.put + s.skip) false
   unfolding spliced
   spliced_after j h =
-      replaced_after s.at middle s.skip (map odd body) inside j (omega (arith, length-replicate s.put (odd s.bit)))
-      ∙ ap (λ (n : ℕ). get_or (map odd body) (j - n + s.skip) false) (length-replicate s.put (odd s.bit))
+      replaced_after s.at middle s.skip (map odd bits) in_bits j (omega (arith, length-replicate s.put (odd s.bit)))
+      ∙ ap (λ (n : ℕ). get_or (map odd bits) (j - n + s.skip) false) (length-replicate s.put (odd s.bit))
 
   -- what lies before a splice, and what after it
-  pub take-spliced : (n : ℕ) → n ≤ s.at → take n (spliced s (map odd body)) ≡ take n (map odd body)
+  pub take-spliced : (n : ℕ) → n ≤ s.at → take n (bits_of v) ≡ take n (map odd bits)
   unfolding spliced
-  take-spliced = take-replaced s.at middle s.skip (map odd body) inside
+  take-spliced = take-replaced s.at middle s.skip (map odd bits) in_bits
 
-  pub drop-spliced : (n : ℕ) → s.at + s.put ≤ n → drop n (spliced s (map odd body)) ≡ drop (n - s.put + s.skip) (map odd body)
+  pub drop-spliced : (n : ℕ) → s.at + s.put ≤ n → drop n (bits_of v) ≡ drop (n - s.put + s.skip) (map odd bits)
   unfolding spliced
   drop-spliced n h =
       let e = length-replicate s.put (odd s.bit) in
-      drop-replaced s.at middle s.skip (map odd body) inside n (omega (arith, e)) ∙ ap (λ (k : ℕ). drop (n - k + s.skip) (map odd body)) e
+      drop-replaced s.at middle s.skip (map odd bits) in_bits n (omega (arith, e)) ∙ ap (λ (k : ℕ). drop (n - k + s.skip) (map odd bits)) e
 
 -- ---- the splice of a repair
 
@@ -115,60 +124,41 @@ odd_not zero h = refl
 odd_not (suc zero) h = refl
 odd_not (suc (suc b)) h = absurd (omega arith)
 
-module _ (how : Option Repair) (n : ℕ) (h : placed how n ≡ true) where
-  pub inserted_in : (b : Bool) (i : ℕ) → how ≡ Some (Inserted b i) → i < n
-  unfolding placed
-  inserted_in b i e = ltb-true i n (ap (λ (x : Option Repair). placed x n) (sym e) ∙ h)
+pub placed_in : (how : Repair) (n : ℕ) → placed (Some how) n ≡ true → place how < n
+unfolding placed
+placed_in (Inserted b i) n h = ltb-true i n h
+placed_in (Deleted i) n h = ltb-true i n h
+placed_in (Flipped i) n h = ltb-true i n h
 
-  pub deleted_in : (i : ℕ) → how ≡ Some (Deleted i) → i < n
-  unfolding placed
-  deleted_in i e = ltb-true i n (ap (λ (x : Option Repair). placed x n) (sym e) ∙ h)
+pub in_placed : (how : Repair) (n : ℕ) → place how < n → placed (Some how) n ≡ true
+unfolding placed
+in_placed (Inserted b i) n h = lt-ltb i n h
+in_placed (Deleted i) n h = lt-ltb i n h
+in_placed (Flipped i) n h = lt-ltb i n h
 
-  pub flipped_in : (i : ℕ) → how ≡ Some (Flipped i) → i < n
-  unfolding placed
-  flipped_in i e = ltb-true i n (ap (λ (x : Option Repair). placed x n) (sym e) ∙ h)
+pub kept : (l : List Bool) → spliced keeping l ≡ l
+unfolding spliced replaced
+kept l = refl
 
--- a splice that makes a repair
-pub record Makes (how : Option Repair) (body : List ℕ) (s : Splice) : Type 0 where
-  pub ok : SpliceOk s (length body)
-  pub is : spliced s (map odd body) ≡ repaired how (map odd body)
+-- the bits of a body with a splice, from the body itself
+module _ (b : Body) (v : Spliced) (e : v.body ≡ b) where
+  pub bits_are : (l : List Bool) → spliced v.splice (map odd b.bits.now) ≡ l → bits_of v ≡ l
+  bits_are l m = ap (λ (x : Body). spliced v.splice (map odd x.bits.now)) e ∙ m
 
-pub unchanged_makes : (body : List ℕ) (s : Splice) → s ≡ keeping → Makes None body s
-unfolding spliced replaced repaired
-unchanged_makes body s e =
-    subst (Makes None body) (sym e)
-    (record { ok = record { bit = omega arith; put = omega arith; skip = omega arith; inside = omega arith }; is = refl })
+  pub bits_kept : v.splice ≡ keeping → bits_of v ≡ map odd b.bits.now
+  bits_kept m = bits_are (map odd b.bits.now) (ap (λ (s : Splice). spliced s (map odd b.bits.now)) m ∙ kept (map odd b.bits.now))
 
-pub kept : (body : List ℕ) (s : Splice) → s ≡ keeping → spliced s (map odd body) ≡ map odd body
-unfolding repaired
-kept body s e = (unchanged_makes body s e).is
+pub inserts : (l : List Bool) (i : ℕ) (b : Bool) (r : ℕ) → r ≡ bit_of b
+    → spliced (record { at = i; put = 1; bit = r; skip = 0 }) l ≡ repaired (Some (Inserted b i)) l
+unfolding spliced repaired
+inserts l i b r f = ap (λ (x : Bool). replaced i (x ∷ []) 0 l) (ap odd f ∙ odd-bit b)
 
-module _ (body : List ℕ) (i : ℕ) (h : i < length body) (s : Splice) where
-  pub insert_makes : (b : Bool) (r : ℕ) → r ≡ bit_of b → s ≡ inserting i r → Makes (Some (Inserted b i)) body s
-  unfolding spliced repaired
-  insert_makes b r f e =
-      subst (Makes (Some (Inserted b i)) body) (sym e)
-      (record {
-        ok = record { bit = omega (arith, f, bit-lt b); put = omega arith; skip = omega arith; inside = omega arith };
-        is = ap (λ (x : Bool). replaced i (x ∷ []) 0 (map odd body)) (ap odd f ∙ odd-bit b);
-      })
+pub deletes : (l : List Bool) (i : ℕ) → spliced (record { at = i; put = 0; bit = 0; skip = 1 }) l ≡ repaired (Some (Deleted i)) l
+unfolding spliced repaired
+deletes l i = refl
 
-  pub delete_makes : s ≡ deleting i → Makes (Some (Deleted i)) body s
-  unfolding spliced repaired
-  delete_makes e =
-      subst (Makes (Some (Deleted i)) body) (sym e)
-      (record { ok = record { bit = omega arith; put = omega arith; skip = omega arith; inside = omega arith }; is = refl })
-
-  pub flip_makes : are_bits body ≡ true → s ≡ flipping i (get_or body i 0) → Makes (Some (Flipped i)) body s
-  unfolding spliced repaired
-  flip_makes b e =
-      subst (Makes (Some (Flipped i)) body) (sym e)
-      (record {
-        ok = record { bit = omega arith; put = omega arith; skip = omega arith; inside = omega arith };
-        is = ap (λ (x : Bool). replaced i (x ∷ []) 1 (map odd body)) (odd_not (get_or body i 0) (bit_at body i b) ∙ ap not (sym (get_or-map odd body i 0)));
-      })
-
--- the same, of a repair that is known to be that one
-pub makes_it : (how : Option Repair) (body : List ℕ) (s : Splice) (known : Option Repair) → how ≡ known → Makes known body s
-    → SpliceOk s (length body) × (spliced s (map odd body) ≡ repaired how (map odd body))
-makes_it how body s known e m = (m.ok, m.is ∙ ap (λ (h : Option Repair). repaired h (map odd body)) (sym e))
+pub flips : (body : List ℕ) (i : ℕ) → are_bits body ≡ true
+    → spliced (record { at = i; put = 1; bit = 1 - get_or body i 0; skip = 1 }) (map odd body) ≡ repaired (Some (Flipped i)) (map odd body)
+unfolding spliced repaired
+flips body i b =
+    ap (λ (x : Bool). replaced i (x ∷ []) 1 (map odd body)) (odd_not (get_or body i 0) (bit_at body i b) ∙ ap not (sym (get_or-map odd body i 0)))

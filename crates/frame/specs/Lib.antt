@@ -8,3 +8,5 @@ pub mod Splices
 pub mod Plain
 pub mod Header
 pub mod Control
+pub mod Bodies
+pub mod Types

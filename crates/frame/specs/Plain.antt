@@ -4,7 +4,7 @@ use Rattle.coding.specs.Bits.{value, to_bytes}
 use Rattle.coding.specs.Register.{run}
 use Rattle.coding.specs.Convolution.{State, fresh, state_of, state_after, deconvolved}
 use Rattle.frame.specs.Fields.{crc_right}
-use Rattle.frame.specs.declared.bodies.Prefix.{Prefix}
+use Rattle.frame.specs.declared.plain.Prefix.{Prefix}
 
 -- the two inputs that end a byte
 abbrev pub ending : ℕ → State

@@ -3,8 +3,6 @@ ghost use Rattle.std.specs.Prelude.{◌≡◌, true, map, ◌+◌, ◌*◌, ◌�
 ghost use Rattle.coding.specs.Bits.{odd, value, are_bits};
 ghost use Rattle.frame.specs.Kinds.{kinds, blank_kind, kind_of, sync_size};
 
-use coding::wide;
-
 // What a frame type says of a frame.
 #[derive(Clone, Copy)]
 pub struct FrameKind {
@@ -65,8 +63,8 @@ pub fn word(bits: &[u8], at: usize) -> u16
     ensures { result ≡ value (take sync_size (drop at (map odd bits.now))) }
 {
     let mut v: u16 = 0;
-    for j in 0..SYNC {
-        v = (v % 32768) * 2 + wide(bits[at + j]);
+    for b in &bits[at..at + SYNC] {
+        v = (v % 32768) * 2 + u16::from(*b);
     }
     v
 }

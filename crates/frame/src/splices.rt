@@ -1,10 +1,16 @@
-// Repairs as the code tries them: a view of a body in which some bits at one place are replaced (frame.rs repairs).
-ghost use Rattle.std.specs.Prelude.{◌≡◌, true, false, map, ◌+◌, ◌<◌, length, get_or};
-ghost use Rattle.coding.specs.Bits.{odd, bit_of, are_bits};
+// Repairs as the code tries them: a view of a body in which some bits at one place are replaced (frame.rs repairs), and its plain bytes.
+ghost use Rattle.std.specs.Prelude.{◌≡◌, true, false, map, Some, ◌+◌, ◌*◌, ◌<◌, ◌≤◌, length, drop, get_or};
+ghost use Rattle.coding.specs.Bits.{odd, bit_of, to_bytes};
+ghost use Rattle.coding.specs.Convolution.{fresh, deconvolved};
+ghost use Rattle.frame.specs.Sizes.{most_bytes};
+ghost use Rattle.frame.specs.Fields.{padded, crc_right};
 ghost use Rattle.frame.specs.Repairs.{repaired};
-ghost use Rattle.frame.specs.Splices.{spliced, SpliceOk, placed, keeping, inserting, deleting, flipping};
+ghost use Rattle.frame.specs.Plain.{NextByte, Passed, right_bits};
+ghost use Rattle.frame.specs.Splices.{placed, place, keeping, spliced};
 
 use crate::Repair;
+use crate::bodies::Body;
+use crate::plain::{Plaintext, Prefix};
 
 // `skip` bits at `at` are replaced by `put` bits `bit`.
 #[derive(Clone, Copy)]
@@ -15,80 +21,190 @@ pub struct Splice {
     pub skip: usize,
 }
 
-// Bit `j` of a body so changed.
-pub fn spliced_bit(body: &[u8], s: Splice, j: usize) -> u8
-    requires { (are_bits body.now ≡ true) × SpliceOk s (length body.now) × (j + s.skip < length body.now + s.put) }
-    ensures { result ≡ bit_of (get_or (spliced s (map odd body.now)) j false) }
-{
-    if j < s.at {
-        return body[j];
-    }
-    if j < s.at + s.put {
-        return s.bit;
-    }
-    body[j - s.put + s.skip]
+// A body with a splice in it. What reads it is inlined: else each call copies it, and decoding takes a quarter more.
+#[derive(Clone, Copy)]
+pub struct Spliced<'a> {
+    pub body: Body<'a>,
+    pub splice: Splice,
+    pub ghost bit: { splice.bit < 2 },
+    pub ghost put: { splice.put ≤ 1 },
+    pub ghost skip: { splice.skip ≤ 1 },
+    pub ghost inside: { splice.at + splice.skip ≤ length body.bits.now },
 }
 
-// The splice that changes nothing, and those of an insertion, a deletion and a flip of a bit.
-pub fn unchanged() -> Splice
-    ensures { result ≡ keeping }
-{
-    Splice {
-        at: 0,
-        put: 0,
-        bit: 0,
-        skip: 0,
+impl<'a> Body<'a> {
+    #[inline(always)]
+    fn spliced(self, splice: Splice) -> Spliced<'a>
+        requires { (splice.bit < 2) × (splice.put ≤ 1) × (splice.skip ≤ 1) × (splice.at + splice.skip ≤ length self.bits.now) }
+        ensures { (result.body ≡ self.entry) × (result.splice ≡ splice) }
+    {
+        Spliced { body: self, splice }
+    }
+
+    // With the splice that changes nothing.
+    pub fn unchanged(self) -> Spliced<'a>
+        ensures { (result.body ≡ self.entry) × (result.splice ≡ keeping) }
+    {
+        self.spliced(Splice {
+            at: 0,
+            put: 0,
+            bit: 0,
+            skip: 0,
+        })
+    }
+
+    // With what a repair replaces, and by what.
+    pub fn with(self, how: Repair) -> Spliced<'a>
+        requires { placed (Some how) (length self.bits.now) ≡ true }
+        ensures { (result.body ≡ self.entry) × (result.splice.at ≡ place how)
+            × (spliced result.splice (map odd self.entry.bits.now) ≡ repaired (Some how) (map odd self.entry.bits.now)) }
+    {
+        match how {
+            Repair::Inserted(b, at) => self.spliced(Splice {
+                at,
+                put: 1,
+                bit: u8::from(b),
+                skip: 0,
+            }),
+            Repair::Deleted(at) => self.spliced(Splice {
+                at,
+                put: 0,
+                bit: 0,
+                skip: 1,
+            }),
+            Repair::Flipped(at) => self.spliced(Splice {
+                at,
+                put: 1,
+                bit: 1 - self.bits[at],
+                skip: 1,
+            }),
+        }
+    }
+
+    pub fn repaired(self, how: Option<Repair>) -> Spliced<'a>
+        requires { placed how (length self.bits.now) ≡ true }
+        ensures { (result.body ≡ self.entry) × (spliced result.splice (map odd self.entry.bits.now) ≡ repaired how (map odd self.entry.bits.now)) }
+    {
+        match how {
+            None => self.unchanged(),
+            Some(repair) => self.with(repair),
+        }
     }
 }
 
-// A bit put in before bit i.
-pub fn insert(i: usize, bit: u8) -> Splice
-    ensures { result ≡ inserting i bit }
-{
-    Splice {
-        at: i,
-        put: 1,
-        bit: bit,
-        skip: 0,
-    }
-}
+impl<'a> Spliced<'a> {
+    ghost use Rattle.frame.specs.Bodies.{bits_of};
 
-// Bit i left out.
-pub fn delete(i: usize) -> Splice
-    ensures { result ≡ deleting i }
-{
-    Splice {
-        at: i,
-        put: 0,
-        bit: 0,
-        skip: 1,
+    #[inline(always)]
+    pub fn len(self) -> usize
+        ensures { result ≡ length (bits_of self.entry) }
+    {
+        self.body.bits.len() + self.splice.put - self.splice.skip
     }
-}
 
-// Bit i, which has this value, turned over.
-pub fn flip(i: usize, bit: u8) -> Splice
-    requires { bit < 2 }
-    ensures { result ≡ flipping i bit }
-{
-    Splice {
-        at: i,
-        put: 1,
-        bit: 1 - bit,
-        skip: 1,
+    #[inline(always)]
+    fn bit(self, j: usize) -> u8
+        requires { j < length (bits_of self) }
+        ensures { result ≡ bit_of (get_or (bits_of self.entry) j false) }
+    {
+        let s = self.splice;
+        if j < s.at {
+            return self.body.bits[j];
+        }
+        if j < s.at + s.put {
+            return s.bit;
+        }
+        self.body.bits[j - s.put + s.skip]
     }
-}
 
-// A repair as what it replaces, and by what.
-pub fn splice_of(body: &[u8], how: Option<Repair>) -> Splice
-    requires { (are_bits body.now ≡ true) × (placed how (length body.now) ≡ true) }
-    ensures { SpliceOk result (length body.now) × (spliced result (map odd body.now) ≡ repaired how (map odd body.now)) }
-{
-    let Some(repair) = how else {
-        return unchanged();
-    };
-    match repair {
-        Repair::Inserted(b, i) => insert(i, u8::from(b)),
-        Repair::Deleted(i) => delete(i),
-        Repair::Flipped(i) => flip(i, body[i]),
+    // Eight bits, the convolution undone. The inputs before them end the byte before, `last`.
+    fn spliced_byte(self, from: usize, last: u8) -> u8
+        requires { (from + 8 ≤ length (bits_of self)) × (from < 1024) }
+        ensures { NextByte self.entry.body.kind.rank (drop from (bits_of self.entry)) last result }
+    {
+        let mut v: u8 = 0;
+        let mut a = last % 2;
+        let mut b = last / 2 % 2;
+        for j in 0..8 {
+            let x = coding::coded_bit(self.bit(from + j), self.body.kind.rank, a, b);
+            v = (v % 128) * 2 + x;
+            b = a;
+            a = x;
+        }
+        v
+    }
+
+    // The same: past the splice the bits are the body's, and nothing is asked of each.
+    #[inline(always)]
+    fn byte(self, from: usize, last: u8) -> u8
+        requires { (from + 8 ≤ length (bits_of self)) × (from < 1024) }
+        ensures { NextByte self.entry.body.kind.rank (drop from (bits_of self.entry)) last result }
+    {
+        let s = self.splice;
+        if s.at + s.put <= from {
+            return self.body.byte(from - s.put + s.skip, last);
+        }
+        self.spliced_byte(from, last)
+    }
+
+    // The plain bytes, the last two their CRC.
+    #[inline(always)]
+    pub fn plain_bytes(self) -> Plaintext
+        requires { 8 * self.body.size ≤ length (bits_of self) }
+        ensures { (result.bytes ≡ padded most_bytes (to_bytes self.entry.body.size (deconvolved self.entry.body.kind.rank fresh (bits_of self.entry))))
+            × (result.crc_ok ≡ crc_right self.entry.body.size result.bytes) }
+    {
+        let end = self.body.size - 2;
+        let mut bytes = [0u8; 22];
+        let mut crc: u16 = 0;
+        let mut last: u8 = 0;
+        for i in 0..end {
+            last = self.byte(8 * i, last);
+            bytes[i] = last;
+            crc = coding::crc_byte(crc, last);
+        }
+        let high = self.byte(8 * end, last);
+        let low = self.byte(8 * end + 8, high);
+        bytes[end] = high;
+        bytes[end + 1] = low;
+        Plaintext {
+            bytes,
+            crc_ok: 65535 - crc == u16::from(high) * 256 + u16::from(low),
+        }
+    }
+
+    // A byte more of the front.
+    #[inline(always)]
+    pub fn further(self, front: Prefix) -> Prefix
+        requires { Passed self.body.kind.rank (bits_of self) front
+            × (8 * front.bytes + 8 ≤ length (bits_of self)) × (front.bytes < most_bytes) }
+        ensures { Passed self.entry.body.kind.rank (bits_of self.entry) result × (result.bytes ≡ front.bytes + 1) }
+    {
+        let next = self.byte(8 * front.bytes, front.last);
+        Prefix {
+            bytes: front.bytes + 1,
+            crc: coding::crc_byte(front.crc, next),
+            last: next,
+        }
+    }
+
+    // Whether it parses as a frame with a right CRC; `front` has bytes from before the splice.
+    #[inline(always)]
+    pub fn is_right(self, front: Prefix) -> bool
+        requires { Passed self.body.kind.rank (map odd self.body.bits.now) front
+            × (8 * front.bytes ≤ self.splice.at) × (front.bytes + 2 ≤ self.body.size) }
+        ensures { result ≡ right_bits self.entry.body.kind.rank self.entry.body.size (bits_of self.entry) }
+    {
+        if self.len() < 8 * self.body.size {
+            return false;
+        }
+        let end = self.body.size - 2;
+        let mut f = front;
+        for _ in front.bytes..end {
+            f = self.further(f);
+        }
+        let high = self.byte(8 * end, f.last);
+        let low = self.byte(8 * end + 8, high);
+        65535 - f.crc == u16::from(high) * 256 + u16::from(low)
     }
 }

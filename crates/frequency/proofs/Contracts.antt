@@ -45,38 +45,38 @@ NewTells =
 
 abbrev pub FreqTells : Type 0
 FreqTells =
-    (κs : Lfts 3) (a : ArgsD freq-fn.signature κs) (r : ResD freq-fn.signature κs) (s : AtExit (ended_of 3 freq-kinds.ps freq-kinds.r) κs)
-    → freq-reads.Learnt κs a r s → said r ≡ freq_answer a.0.now a.1.0.now a.1.1.0.now
+    (κs : Lfts 2) (a : ArgsD freq-fn.signature κs) (r : ResD freq-fn.signature κs) (s : AtExit (ended_of 2 freq-kinds.ps freq-kinds.r) κs)
+    → freq-reads.Learnt κs a r s → said r ≡ freq_answer a.0.now a.1.0.now
 
 abbrev pub TunedTells : Type 0
 TunedTells =
-    (κs : Lfts 3) (a : ArgsD tuned-fn.signature κs) (r : ResD tuned-fn.signature κs) (s : AtExit (ended_of 3 tuned-kinds.ps tuned-kinds.r) κs)
-    → tuned-reads.Learnt κs a r s → TunedEnd a.0.now a.1.0 a.1.1.0.now a.1.1.1.0.now (cause_of r) s.0.now s.1.1.0.now s.1.1.1.0.now
+    (κs : Lfts 2) (a : ArgsD tuned-fn.signature κs) (r : ResD tuned-fn.signature κs) (s : AtExit (ended_of 2 tuned-kinds.ps tuned-kinds.r) κs)
+    → tuned-reads.Learnt κs a r s → TunedEnd a.0.now a.1.0 a.1.1.0.now (cause_of r) s.0.now s.1.1.0.now
 
 abbrev pub SamplesTells : Type 0
 SamplesTells =
-    (κs : Lfts 7) (a : ArgsD samples-fn.signature κs) (r : ResD samples-fn.signature κs) (s : AtExit (ended_of 7 samples-kinds.ps samples-kinds.r) κs)
-    → samples-reads.Learnt κs a r s → SamplesEnd a.0.now a.1.0.now (lists a.1.1.0.now a.1.1.1.0.now a.1.1.1.1.0.now a.1.1.1.1.1.0.now a.1.1.1.1.1.1.0.now) (cause_of r) s.0.now (lists s.1.1.0.now s.1.1.1.0.now s.1.1.1.1.0.now s.1.1.1.1.1.0.now s.1.1.1.1.1.1.0.now)
+    (κs : Lfts 4) (a : ArgsD samples-fn.signature κs) (r : ResD samples-fn.signature κs) (s : AtExit (ended_of 4 samples-kinds.ps samples-kinds.r) κs)
+    → samples-reads.Learnt κs a r s → SamplesEnd a.0.now a.1.0.now (lists a.1.1.0.now a.1.1.1.0.now) (cause_of r) s.0.now (lists s.1.1.0.now s.1.1.1.0.now)
 
 abbrev pub CfoTells : Type 0
 CfoTells =
-    (κs : Lfts 7) (a : ArgsD cfo-fn.signature κs) (r : ResD cfo-fn.signature κs) (s : AtExit (ended_of 7 cfo-kinds.ps cfo-kinds.r) κs)
-    → cfo-reads.Learnt κs a r s → CfoEnd a.0.now a.1.0.now (lists a.1.1.0.now a.1.1.1.0.now a.1.1.1.1.0.now a.1.1.1.1.1.0.now a.1.1.1.1.1.1.0.now) (cause_of r) s.0.now (lists s.1.1.0.now s.1.1.1.0.now s.1.1.1.1.0.now a.1.1.1.1.1.0.now a.1.1.1.1.1.1.0.now)
+    (κs : Lfts 4) (a : ArgsD cfo-fn.signature κs) (r : ResD cfo-fn.signature κs) (s : AtExit (ended_of 4 cfo-kinds.ps cfo-kinds.r) κs)
+    → cfo-reads.Learnt κs a r s → CfoEnd a.0.now a.1.0.now (lists a.1.1.0.now a.1.1.1.0.now) (cause_of r) s.0.now (lists s.1.1.0.now a.1.1.1.0.now)
 
 abbrev pub NextTuningTells : Type 0
 NextTuningTells =
-    (κs : Lfts 7) (a : ArgsD next-fn.signature κs) (r : ResD next-fn.signature κs) (s : AtExit (ended_of 7 next-kinds.ps next-kinds.r) κs)
-    → next-reads.Learnt κs a r s → NextEnd a.0.now (lists a.1.0.now a.1.1.0.now a.1.1.1.0.now a.1.1.1.1.0.now a.1.1.1.1.1.0.now) a.1.1.1.1.1.1.0.now (cause_of r) s.0.now (tune_of r) s.1.1.1.1.1.1.0.now
+    (κs : Lfts 4) (a : ArgsD next-fn.signature κs) (r : ResD next-fn.signature κs) (s : AtExit (ended_of 4 next-kinds.ps next-kinds.r) κs)
+    → next-reads.Learnt κs a r s → NextEnd a.0.now (lists a.1.0.now a.1.1.0.now) a.1.1.1.0.now (cause_of r) s.0.now (tune_of r) s.1.1.1.0.now
 
 abbrev pub FrameFrequencyTells : Type 0
 FrameFrequencyTells =
-    (κs : Lfts 5) (a : ArgsD frame-fn.signature κs) (r : ResD frame-fn.signature κs) (s : AtExit (ended_of 5 frame-kinds.ps frame-kinds.r) κs)
-    → frame-reads.Learnt κs a r s → FrameEnd a.0.now a.1.0 a.1.1.0.now a.1.1.1.0.now a.1.1.1.1.0.now a.1.1.1.1.1.0.now r s.1.1.1.1.1.0.now
+    (κs : Lfts 3) (a : ArgsD frame-fn.signature κs) (r : ResD frame-fn.signature κs) (s : AtExit (ended_of 3 frame-kinds.ps frame-kinds.r) κs)
+    → frame-reads.Learnt κs a r s → FrameEnd a.0.now a.1.0 a.1.1.0.now a.1.1.1.0.now r s.1.1.1.0.now
 
 abbrev pub Frame1Tells : Type 0
 Frame1Tells =
-    (κs : Lfts 5) (a : ArgsD first-fn.signature κs) (r : ResD first-fn.signature κs) (s : AtExit (ended_of 5 first-kinds.ps first-kinds.r) κs)
-    → first_reads.Learnt κs a r s → Frame1End a.0.now a.1.0 a.1.1.0 a.1.1.1.0.now a.1.1.1.1.0.now a.1.1.1.1.1.0.now a.1.1.1.1.1.1.0.now r s.1.1.1.1.1.1.0.now
+    (κs : Lfts 3) (a : ArgsD first-fn.signature κs) (r : ResD first-fn.signature κs) (s : AtExit (ended_of 3 first-kinds.ps first-kinds.r) κs)
+    → first_reads.Learnt κs a r s → Frame1End a.0.now a.1.0 a.1.1.0 a.1.1.1.0.now a.1.1.1.1.0.now r s.1.1.1.1.0.now
 
 -- ---- the statement, and its proof: what is learnt is that itself
 
@@ -90,13 +90,13 @@ pub record Contracts : Type 0 where
   pub frame_frequency_tells : FrameFrequencyTells
   pub frame1-tells : Frame1Tells
   pub new_asks-nothing : (κs : Lfts 0) (a : ArgsD new-fn.signature κs) → new-reads.Asked κs a
-  pub freq-asks-nothing : (κs : Lfts 3) (a : ArgsD freq-fn.signature κs) → freq-reads.Asked κs a
-  pub tuned-asks-nothing : (κs : Lfts 3) (a : ArgsD tuned-fn.signature κs) → tuned-reads.Asked κs a
-  pub samples-asks-nothing : (κs : Lfts 7) (a : ArgsD samples-fn.signature κs) → samples-reads.Asked κs a
-  pub cfo-asks-nothing : (κs : Lfts 7) (a : ArgsD cfo-fn.signature κs) → cfo-reads.Asked κs a
-  pub next_tuning_asks-nothing : (κs : Lfts 7) (a : ArgsD next-fn.signature κs) → next-reads.Asked κs a
-  pub frame_frequency_asks-nothing : (κs : Lfts 5) (a : ArgsD frame-fn.signature κs) → frame-reads.Asked κs a
-  pub frame1-asks-nothing : (κs : Lfts 5) (a : ArgsD first-fn.signature κs) → first_reads.Asked κs a
+  pub freq-asks-nothing : (κs : Lfts 2) (a : ArgsD freq-fn.signature κs) → freq-reads.Asked κs a
+  pub tuned-asks-nothing : (κs : Lfts 2) (a : ArgsD tuned-fn.signature κs) → tuned-reads.Asked κs a
+  pub samples-asks-nothing : (κs : Lfts 4) (a : ArgsD samples-fn.signature κs) → samples-reads.Asked κs a
+  pub cfo-asks-nothing : (κs : Lfts 4) (a : ArgsD cfo-fn.signature κs) → cfo-reads.Asked κs a
+  pub next_tuning_asks-nothing : (κs : Lfts 4) (a : ArgsD next-fn.signature κs) → next-reads.Asked κs a
+  pub frame_frequency_asks-nothing : (κs : Lfts 3) (a : ArgsD frame-fn.signature κs) → frame-reads.Asked κs a
+  pub frame1-asks-nothing : (κs : Lfts 3) (a : ArgsD first-fn.signature κs) → first_reads.Asked κs a
 
 pub contracts : Contracts
 contracts =

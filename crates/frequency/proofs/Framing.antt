@@ -3,16 +3,19 @@ use Rattle.std.proofs.Common.{Option}
 use mathlib.Core.Path.{◌≡◌, refl, sym, ap, ◌∙◌}
 use mathlib.Core.Bool.{Bool, true, false, not, ◌&&◌}
 use mathlib.Core.List.{List, [], ◌∷◌}
-use Prim.Native.Nat.{ℕ, zero, suc}
+use Prim.Native.Nat.{ℕ, zero, suc, ◌≤◌}
 use native.Mathlib.Omega.{arith}
 use borrow.Author.Tests.{ltb-false, not-false}
 use lib.Dec.{ltb}
 use lib.ListN.{length, take, get_or}
+use lib.Seq.{length-take-le}
 use lib.Ieee.{Float, nan}
 use Rattle.limits.specs.Samples.{rate_ok}
 use Rattle.limits.specs.Answer as lent
 use Rattle.limits.proofs.Samples.{and_left, and_right}
-use Rattle.frequency_lists.specs.Lists.{Reading, no_nan}
+use Rattle.frequency_lists.specs.declared.Reading.{Reading}
+use Rattle.frequency_lists.specs.declared.Tuning.{Tuning}
+use Rattle.frequency_lists.specs.Lists.{all_numbers}
 use Rattle.record.specs.declared.FrameSpan.{FrameSpan}
 use Rattle.frequency_measure.specs.declared.FrameFrequency.{FrameFrequency}
 use Rattle.frequency_measure.specs.Gathered.{Free}
@@ -22,25 +25,32 @@ use Rattle.frequency.specs.Order.{tunings_in_order, readings_in_order, floats_ok
 use Rattle.frequency.proofs.Choices.{not_refused}
 use Rattle.frequency.proofs.Ordered.{OrderedT, ordered-t, ordered-r}
 
-pub free_of : (s : FrequencyTracker) (at lo : List ℕ) (hz out : List Float) (ok : Bool) → cause_frame s at lo hz (length out) ok ≡ 0 → Free s.readings at lo hz out
+-- what an accepted call has
+pub record Held (s : FrequencyTracker) (rs : List Reading) (out : List Float) : Type 0 where
+  pub places : s.readings ≤ length rs
+  pub free : Free (take s.readings rs) out
+
+pub held_of : (s : FrequencyTracker) (rs : List Reading) (out : List Float) (ok : Bool) → cause_frame s rs (length out) ok ≡ 0 → Held s rs out
 unfolding cause_frame numbers_ok
-free_of s at lo hz out ok e =
+held_of s rs out ok e =
     let a = not_refused 0 _ (not (rate_ok s.rate)) e in
     let b = not_refused 1 _ (ltb (length out) s.readings) a.1 in
-    let c = not_refused 4 _ (not (readings_in_order s at lo hz)) b.1 in
-    let d = not_refused 8 _ (not (numbers_ok s hz && ok)) c.1 in
-    let o = ordered-r s at lo hz (not-false (readings_in_order s at lo hz) c.0) in
+    let c = not_refused 4 _ (not (readings_in_order s rs)) b.1 in
+    let d = not_refused 8 _ (not (numbers_ok s rs && ok)) c.1 in
+    let o = ordered-r s rs (not-false (readings_in_order s rs) c.0) in
+    let n = length-take-le s.readings rs o.places in
+    let r = ltb-false (length out) s.readings b.0 in
     record {
-      rows = record { ats = o.places.ats; los = o.places.los; hzs = o.places.hzs; outs = ltb-false (length out) s.readings b.0 };
-      numbers = and_right (floats_ok s) (no_nan (take s.readings hz)) (and_left (numbers_ok s hz) ok (not-false (numbers_ok s hz && ok) d.0));
+      places = o.places;
+      free = record { room = omega arith; numbers = and_right (floats_ok s) (all_numbers (take s.readings rs)) (and_left (numbers_ok s rs) ok (not-false (numbers_ok s rs && ok) d.0)) };
     }
 
-pub freq-ordered : (s : FrequencyTracker) (tun fre : List ℕ) → cause_freq s tun fre ≡ 0 → OrderedT s tun fre
+pub freq-ordered : (s : FrequencyTracker) (ts : List Tuning) → cause_freq s ts ≡ 0 → OrderedT s ts
 unfolding cause_freq
-freq-ordered s tun fre e =
+freq-ordered s ts e =
     let a = not_refused 0 _ (not (rate_ok s.rate)) e in
-    let b = not_refused 4 _ (not (tunings_in_order s tun fre)) a.1 in
-    ordered-t s tun fre (not-false (tunings_in_order s tun fre) b.0)
+    let b = not_refused 4 _ (not (tunings_in_order s ts)) a.1 in
+    ordered-t s ts (not-false (tunings_in_order s ts) b.0)
 
 -- scratch of an accepted call
 pub freed : (k : ℕ) (old now : List Float) → 0 ≡ k → lent.Free k old now
@@ -70,10 +80,8 @@ module _ (rate : ℕ) (rs : List Reading) (spans : List FrameSpan) (d : Bool) (f
   mid_is e f2 f3 r B C R = rw (e, sym B, sym C) (R ∙ ap (middle f2 f3) direct_is)
 
 -- other scratch of the same length serves as well
-pub free_again : (n : ℕ) (at lo : List ℕ) (hz out out' : List Float) → Free n at lo hz out → length out' ≡ length out → Free n at lo hz out'
-free_again n at lo hz out out' f e =
-    let o = f.rows.outs in
-    record { rows = record { ats = f.rows.ats; los = f.rows.los; hzs = f.rows.hzs; outs = omega arith }; numbers = f.numbers }
+pub free_again : (rs : List Reading) (out out' : List Float) → Free rs out → length out' ≡ length out → Free rs out'
+free_again rs out out' f e = let o = f.room in record { room = omega arith; numbers = f.numbers }
 
 -- what stands at a place that is not there
 abbrev pub blank : FrameSpan

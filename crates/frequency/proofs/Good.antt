@@ -1,5 +1,5 @@
 -- What a tracker grown from `new` always has, on the record with its lists: each call keeps it. Assumes nothing.
-use mathlib.Core.Path.{◌≡◌, refl, sym, subst}
+use mathlib.Core.Path.{◌≡◌, refl, sym, ap, ◌∙◌, subst}
 use mathlib.Core.Bool.{Bool, true, false, not, cond, ◌&&◌}
 use mathlib.Core.List.{List, [], ◌∷◌, ◌++◌, map}
 use Prim.Native.Nat.{ℕ, ◌+◌, ◌*◌, ◌^◌, ◌≤◌, ◌<◌}
@@ -20,14 +20,18 @@ use Rattle.frequency_signal.proofs.Hearing.{heard-n}
 use Rattle.frequency_signal.specs.Order.{floor_ok}
 use Rattle.frequency_signal.proofs.Kept.{heard_last, heard_from}
 use Rattle.frequency_signal.proofs.Ranges.{heard-floor}
-use Rattle.frequency_lists.specs.Lists.{Reading, Tuning, cfo_every, every, up_to, no_nan, last_or, readings_from}
+use Rattle.std.specs.List.{list_all}
+use Rattle.std.proofs.lemmas.List.Folds.{list_all-append}
+use Rattle.frequency_lists.specs.declared.Reading.{Reading}
+use Rattle.frequency_lists.specs.declared.Tuning.{Tuning}
+use Rattle.frequency_lists.specs.Lists.{cfo_every, read_up_to, tuned_up_to, all_numbers, last_or, readings_from}
 use Rattle.frequency_lists.specs.Marks.{retained}
-use Rattle.frequency_lists.proofs.Gather.{map-retained, every-retained}
+use Rattle.frequency_lists.proofs.Every.{last_small}
+use Rattle.frequency_lists.proofs.Gather.{every-retained}
 use Rattle.frequency_retain.specs.Retain.{stays}
 use Rattle.frequency_tuning.specs.Ranges.{step_ok}
 use Rattle.frequency.specs.Order.{ahead}
 use Rattle.frequency.specs.Tracker.{Tracker, freq_of, due, tuned, samples, cfo, after_tuning}
-use Rattle.frequency.proofs.Held.{map-append}
 use Rattle.frequency.proofs.Ordered.{Signals, rate_of}
 
 pub record Good (u : Tracker) : Type 0 where
@@ -36,54 +40,47 @@ pub record Good (u : Tracker) : Type 0 where
   pub base : u.base ≤ 2 ^ 32
   pub signals : Signals u.line u.signal
   pub floors : floor_ok u.signal.floor ≡ true
-  pub tuneds : up_to u.signal.n (map (λ (x : Tuning). x.at) u.tunings) ≡ true
-  pub freqs : up_to (2 ^ 32) (map (λ (x : Tuning). x.freq) u.tunings) ≡ true
-  pub ats : up_to (u.signal.n + ahead) (map (λ (x : Reading). x.at) u.readings) ≡ true
-  pub numbers : no_nan (map (λ (x : Reading). x.hz) u.readings) ≡ true
+  pub tuneds : tuned_up_to u.signal.n u.tunings ≡ true
+  pub freqs : list_all (λ (x : Tuning). leb x.freq (2 ^ 32)) u.tunings ≡ true
+  pub ats : read_up_to (u.signal.n + ahead) u.readings ≡ true
+  pub numbers : all_numbers u.readings ≡ true
 
 -- ---- tests of each element
-every_append : {A : Type 0} (p : A → Bool) (l m : List A) → every p l ≡ true → every p m ≡ true → every p (l ++ m) ≡ true
-unfolding every
-every_append p [] m a b = b
-every_append p (x ∷ l) m a b = rw (and_left (p x) (every p l) a) (every_append p l m (and_right (p x) (every p l) a) b)
+module _ {A : Type 0} (p : A → Bool) where
+  all_append : (l m : List A) → list_all p l ≡ true → list_all p m ≡ true → list_all p (l ++ m) ≡ true
+  all_append l m a b = list_all-append p l m ∙ rw (a, b) refl
 
-up_to_more : (m n : ℕ) (l : List ℕ) → m ≤ n → up_to m l ≡ true → up_to n l ≡ true
-unfolding every
-up_to_more m n [] h e = refl
-up_to_more m n (x ∷ l) h e =
-    let k = leb-true x m (and_left (leb x m) (up_to m l) e) in
-    rw (le-leb x n (omega arith)) (up_to_more m n l h (and_right (leb x m) (up_to m l) e))
+  all_cond : (b : Bool) (l : List A) (x : A) → list_all p l ≡ true → p x ≡ true → list_all p (cond b (l ++ (x ∷ [])) l) ≡ true
+  all_cond true l x e h = all_append l (x ∷ []) e (rw h refl)
+  all_cond false l x e h = e
 
-one_up_to : (n x : ℕ) → x ≤ n → up_to n (x ∷ []) ≡ true
-unfolding every
-one_up_to n x h = rw (le-leb x n h) refl
+  all_but : (b : Bool) (x : A) (rest : List A) → p x ≡ true → list_all p rest ≡ true → list_all p (cond b rest (x ∷ rest)) ≡ true
+  all_but true x rest h e = e
+  all_but false x rest h e = rw h e
 
-retained_up_to : {A : Type 0} (g : A → ℕ) (m n : ℕ) (bs : List Bool) (l : List A) → m ≤ n → up_to m (map g l) ≡ true → up_to n (map g (retained bs l)) ≡ true
-retained_up_to g m n bs l h e = up_to_more m n (map g (retained bs l)) h (subst (λ (z : List ℕ). up_to m z ≡ true) (sym (map-retained g bs l)) (every-retained (λ (a : ℕ). leb a m) bs (map g l) e))
+  all_more : (q : A → Bool) (l : List A) → ((x : A) → p x ≡ true → q x ≡ true) → list_all p l ≡ true → list_all q l ≡ true
+  all_more q [] f e = refl
+  all_more q (x ∷ l) f e = rw (f x (and_left (p x) (list_all p l) e)) (all_more q l f (and_right (p x) (list_all p l) e))
 
-last_up_to : (n d : ℕ) (l : List ℕ) → d ≤ n → up_to n l ≡ true → last_or d l ≤ n
-unfolding last_or every
-last_up_to n d [] h e = h
-last_up_to n d (x ∷ l) h e = last_up_to n x l (leb-true x n (and_left (leb x n) (up_to n l) e)) (and_right (leb x n) (up_to n l) e)
+pub up_to_more : {A : Type 0} (g : A → ℕ) (m n : ℕ) (l : List A) → m ≤ n → list_all (λ (x : A). leb (g x) m) l ≡ true → list_all (λ (x : A). leb (g x) n) l ≡ true
+up_to_more {A} g m n l h e = all_more (λ (x : A). leb (g x) m) (λ (x : A). leb (g x) n) l (λ x k. let z = leb-true (g x) m k in le-leb (g x) n (omega arith)) e
 
 -- ---- tuned
-cond_up_to : (n : ℕ) (b : Bool) (g : Tuning → ℕ) (l : List Tuning) (x : Tuning) → up_to n (map g l) ≡ true → g x ≤ n → up_to n (map g (cond b (l ++ (x ∷ [])) l)) ≡ true
-cond_up_to n true g l x e h = subst (λ (z : List ℕ). up_to n z ≡ true) (sym (map-append g l (x ∷ []))) (every_append (λ (a : ℕ). leb a n) (map g l) (g x ∷ []) e (one_up_to n (g x) h))
-cond_up_to n false g l x e h = e
-
 pub good-tuned : (u : Tracker) (f : ℕ) → f < 2 ^ 32 → Good u → Good (tuned u f)
 unfolding tuned
-good-tuned u f h g = record {
-  rates = g.rates;
-  steps = g.steps;
-  base = g.base;
-  signals = g.signals;
-  floors = g.floors;
-  tuneds = cond_up_to u.signal.n (due u f) (λ (x : Tuning). x.at) u.tunings (record { at = u.signal.n; freq = f }) g.tuneds (omega arith);
-  freqs = cond_up_to (2 ^ 32) (due u f) (λ (x : Tuning). x.freq) u.tunings (record { at = u.signal.n; freq = f }) g.freqs (omega arith);
-  ats = g.ats;
-  numbers = g.numbers;
-}
+good-tuned u f h g =
+    let x : Tuning = record { at = u.signal.n; freq = f } in
+    record {
+      rates = g.rates;
+      steps = g.steps;
+      base = g.base;
+      signals = g.signals;
+      floors = g.floors;
+      tuneds = all_cond (λ (x : Tuning). leb x.at u.signal.n) (due u f) u.tunings x g.tuneds (le-leb u.signal.n u.signal.n (omega arith));
+      freqs = all_cond (λ (x : Tuning). leb x.freq (2 ^ 32)) (due u f) u.tunings x g.freqs (le-leb f (2 ^ 32) (omega arith));
+      ats = g.ats;
+      numbers = g.numbers;
+    }
 
 -- ---- samples
 pub good-samples : (u : Tracker) (dbm : List Float) → u.signal.n + length dbm ≤ longest_stream → all_dbm dbm ≡ true → Good u → Good (samples u dbm)
@@ -91,6 +88,9 @@ unfolding samples
 good-samples u dbm h v g =
     let e = heard-n u.rate u.signal dbm in
     let r = rate_of u.rate g.rates in
+    let n = (heard u.rate u.signal dbm).n in
+    let stay = stays u.rate n (map (λ (x : Tuning). x.at) u.tunings) in
+    let keep = map (kept u.rate n) (map (λ (x : Reading). x.at) u.readings) in
     record {
       rates = g.rates;
       steps = g.steps;
@@ -102,11 +102,10 @@ good-samples u dbm h v g =
         from = heard_from u.rate u.signal dbm g.signals.from;
       };
       floors = heard-floor u.rate (omega arith) (omega arith) u.signal dbm g.floors v;
-      tuneds = retained_up_to (λ (x : Tuning). x.at) u.signal.n (heard u.rate u.signal dbm).n (stays u.rate (heard u.rate u.signal dbm).n (map (λ (x : Tuning). x.at) u.tunings)) u.tunings (omega arith) g.tuneds;
-      freqs = retained_up_to (λ (x : Tuning). x.freq) (2 ^ 32) (2 ^ 32) (stays u.rate (heard u.rate u.signal dbm).n (map (λ (x : Tuning). x.at) u.tunings)) u.tunings (omega arith) g.freqs;
-      ats = retained_up_to (λ (x : Reading). x.at) (u.signal.n + ahead) ((heard u.rate u.signal dbm).n + ahead) (map (kept u.rate (heard u.rate u.signal dbm).n) (map (λ (x : Reading). x.at) u.readings)) u.readings (omega arith) g.ats;
-      numbers = subst (λ (z : List Float). no_nan z ≡ true) (sym (map-retained (λ (x : Reading). x.hz) (map (kept u.rate (heard u.rate u.signal dbm).n) (map (λ (x : Reading). x.at) u.readings)) u.readings))
-          (every-retained (λ (x : Float). not (is_nan x)) (map (kept u.rate (heard u.rate u.signal dbm).n) (map (λ (x : Reading). x.at) u.readings)) (map (λ (x : Reading). x.hz) u.readings) g.numbers);
+      tuneds = up_to_more (λ (x : Tuning). x.at) u.signal.n n (retained stay u.tunings) (omega arith) (every-retained (λ (x : Tuning). leb x.at u.signal.n) stay u.tunings g.tuneds);
+      freqs = every-retained (λ (x : Tuning). leb x.freq (2 ^ 32)) stay u.tunings g.freqs;
+      ats = up_to_more (λ (x : Reading). x.at) (u.signal.n + ahead) (n + ahead) (retained keep u.readings) (omega arith) (every-retained (λ (x : Reading). leb x.at (u.signal.n + ahead)) keep u.readings g.ats);
+      numbers = every-retained (λ (x : Reading). not (is_nan x.hz)) keep u.readings g.numbers;
     }
 
 -- ---- cfo
@@ -121,29 +120,19 @@ step_finite (inf false) e = absurd (never e)
 step_finite (fin s m k) e = refl
 
 module _ (rate : ℕ) (step : Float) (more : Bool) (tuned lo n : ℕ) (L : lo ≤ 2 ^ 32) (S : finite step ≡ true) where
-  chosen_up_to : (b : Bool) (x : Reading) (rest : List Reading) → x.at ≤ n → up_to n (map (λ (y : Reading). y.at) rest) ≡ true → up_to n (map (λ (y : Reading). y.at) (cond b rest (x ∷ rest))) ≡ true
-  unfolding every
-  chosen_up_to true x rest h e = e
-  chosen_up_to false x rest h e = rw (le-leb x.at n h) e
-
-  chosen-number : (b : Bool) (x : Reading) (rest : List Reading) → is_nan x.hz ≡ false → no_nan (map (λ (y : Reading). y.hz) rest) ≡ true → no_nan (map (λ (y : Reading). y.hz) (cond b rest (x ∷ rest))) ≡ true
-  unfolding every
-  chosen-number true x rest h e = e
-  chosen-number false x rest h e = rw h e
-
-  from_up_to : (at : ℕ) (raw : List ℕ) → at + cfo_every * length raw ≤ n + cfo_every → up_to n (map (λ (y : Reading). y.at) (readings_from rate step more tuned lo at raw)) ≡ true
-  unfolding readings_from every
+  from_up_to : (at : ℕ) (raw : List ℕ) → at + cfo_every * length raw ≤ n + cfo_every → read_up_to n (readings_from rate step more tuned lo at raw) ≡ true
+  unfolding readings_from
   from_up_to at [] h = refl
   from_up_to at (v ∷ raw) h =
-      chosen_up_to (settling rate tuned at && more) (record { at = at; lo = lo; hz = reading_hz lo v step }) (readings_from rate step more tuned lo (at + cfo_every) raw) (omega arith)
-      (from_up_to (at + cfo_every) raw (omega arith))
+      all_but (λ (x : Reading). leb x.at n) (settling rate tuned at && more) (record { at = at; lo = lo; hz = reading_hz lo v step }) (readings_from rate step more tuned lo (at + cfo_every) raw)
+      (le-leb at n (omega arith)) (from_up_to (at + cfo_every) raw (omega arith))
 
-  from_number : (at : ℕ) (raw : List ℕ) → no_nan (map (λ (y : Reading). y.hz) (readings_from rate step more tuned lo at raw)) ≡ true
-  unfolding readings_from every
+  from_number : (at : ℕ) (raw : List ℕ) → all_numbers (readings_from rate step more tuned lo at raw) ≡ true
+  unfolding readings_from
   from_number at [] = refl
   from_number at (v ∷ raw) =
-      chosen-number (settling rate tuned at && more) (record { at = at; lo = lo; hz = reading_hz lo v step }) (readings_from rate step more tuned lo (at + cfo_every) raw)
-      (reading-number lo v step (omega arith) S) (from_number (at + cfo_every) raw)
+      all_but (λ (x : Reading). not (is_nan x.hz)) (settling rate tuned at && more) (record { at = at; lo = lo; hz = reading_hz lo v step }) (readings_from rate step more tuned lo (at + cfo_every) raw)
+      (ap not (reading-number lo v step (omega arith) S)) (from_number (at + cfo_every) raw)
 
 pub good-cfo : (u : Tracker) (raw : List ℕ) → length raw ≤ most_readings → Good u → Good (cfo u raw)
 unfolding cfo freq_of
@@ -151,7 +140,7 @@ good-cfo u raw h g =
     let more = ltb 1 (length u.tunings) in
     let at = last_or 0 (map (λ (x : Tuning). x.at) u.tunings) in
     let lo = last_or u.base (map (λ (x : Tuning). x.freq) u.tunings) in
-    let low : lo ≤ 2 ^ 32 = last_up_to (2 ^ 32) u.base (map (λ (x : Tuning). x.freq) u.tunings) g.base g.freqs in
+    let low : lo ≤ 2 ^ 32 = last_small (λ (x : Tuning). x.freq) (2 ^ 32) u.base u.tunings g.base g.freqs in
     let fin' = step_finite u.step g.steps in
     let new = readings_from u.rate u.step more at lo u.line raw in
     let l = g.signals.upto in
@@ -163,12 +152,8 @@ good-cfo u raw h g =
       floors = g.floors;
       tuneds = g.tuneds;
       freqs = g.freqs;
-      ats = subst (λ (z : List ℕ). up_to (u.signal.n + ahead) z ≡ true) (sym (map-append (λ (x : Reading). x.at) u.readings new))
-          (every_append (λ (a : ℕ). leb a (u.signal.n + ahead)) (map (λ (x : Reading). x.at) u.readings) (map (λ (x : Reading). x.at) new) g.ats
-          (from_up_to u.rate u.step more at lo (u.signal.n + ahead) low fin' u.line raw (omega arith)));
-      numbers = subst (λ (z : List Float). no_nan z ≡ true) (sym (map-append (λ (x : Reading). x.hz) u.readings new))
-          (every_append (λ (x : Float). not (is_nan x)) (map (λ (x : Reading). x.hz) u.readings) (map (λ (x : Reading). x.hz) new) g.numbers
-          (from_number u.rate u.step more at lo (u.signal.n + ahead) low fin' u.line raw));
+      ats = all_append (λ (x : Reading). leb x.at (u.signal.n + ahead)) u.readings new g.ats (from_up_to u.rate u.step more at lo (u.signal.n + ahead) low fin' u.line raw (omega arith));
+      numbers = all_append (λ (x : Reading). not (is_nan x.hz)) u.readings new g.numbers (from_number u.rate u.step more at lo (u.signal.n + ahead) low fin' u.line raw);
     }
 
 -- ---- next_tuning

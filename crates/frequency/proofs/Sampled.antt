@@ -1,25 +1,29 @@
 -- `samples` of a state in order, from what the functions that it calls leave. Assumes nothing.
 use mathlib.Core.Path.{◌≡◌, refl, ◌∙◌}
-use mathlib.Core.Bool.{true, not}
-use mathlib.Core.List.{List, map}
+use mathlib.Core.Bool.{Bool, true, not}
+use mathlib.Core.List.{List, ◌++◌, map}
 use Prim.Native.Nat.{ℕ, ◌+◌, ◌*◌, ◌≤◌}
 use borrow.Author.Tests.{ltb-false, not-false}
 use lib.Dec.{ltb}
-use lib.ListN.{length, take, length-map}
+use lib.ListN.{length, take, drop, length-map}
+use lib.Seq.{length-take-le}
 use lib.Ieee.{Float}
 use Rattle.limits.specs.Limits.{buffer_s, longest_stream}
 use Rattle.limits.specs.Samples.{rate_ok, all_dbm}
 use Rattle.frequency_signal.specs.declared.Signal.{Signal}
 use Rattle.frequency_signal.specs.Seconds.{Rate, kept}
 use Rattle.frequency_signal.specs.Heard.{heard}
-use Rattle.frequency_retain.specs.Retain.{stays, Compacted, CompactedTunings}
+use Rattle.frequency_lists.specs.declared.Reading.{Reading}
+use Rattle.frequency_lists.specs.declared.Tuning.{Tuning}
+use Rattle.frequency_lists.specs.Lists.{ats, tuneds}
+use Rattle.frequency_retain.specs.Retain.{stays, Compacted}
 use Rattle.frequency_retain.proofs.Retaining.{length-stays}
 use Rattle.frequency.specs.declared.FrequencyTracker.{FrequencyTracker}
 use Rattle.frequency.specs.Lent.{Lists, lists, tracker, packed, stored}
 use Rattle.frequency.specs.Order.{in_order, cause_samples}
 use Rattle.frequency.specs.Tracker.{samples}
 use Rattle.frequency.proofs.Choices.{not_refused}
-use Rattle.frequency.proofs.Held.{na, nt, ats, tuneds, at-column, lo-column, hz-column, tuned-column, freq-column, reading-count, tuning-count}
+use Rattle.frequency.proofs.Held.{over-retained, retained-count}
 use Rattle.frequency.proofs.Ordered.{Ordered, Counts, rate_of, ordered_of}
 
 -- the state that `samples` makes, of the counts that the retentions leave
@@ -57,29 +61,24 @@ fine s l dbm e =
     }
 
 module _ (s : FrequencyTracker) (l : Lists) (o : Counts s l) (dbm : List Float) where
+  abbrev pub kepts : List Bool
+  kepts = map (kept s.rate (heard s.rate s.signal dbm).n) (ats (take s.readings l.readings))
+
+  abbrev pub staying : List Bool
+  staying = stays s.rate (heard s.rate s.signal dbm).n (tuneds (take s.tunings l.tunings))
+
   -- the whole
-  module _ (r q : ℕ) (at' lo' : List ℕ) (hz' : List Float) (tuned' freq' : List ℕ)
-      (p : Compacted (map (kept s.rate (heard s.rate s.signal dbm).n) (take s.readings l.at)) l.at l.lo l.hz r at' lo' hz')
-      (t : CompactedTunings (stays s.rate (heard s.rate s.signal dbm).n (take s.tunings l.tuned)) l.tuned l.freq q tuned' freq') where
-    rb : length (map (kept s.rate (heard s.rate s.signal dbm).n) (take s.readings l.at)) ≡ s.readings
-    rb = length-map (take s.readings l.at) (kept s.rate (heard s.rate s.signal dbm).n) ∙ na s l o
+  module _ (r q : ℕ) (rs : List Reading) (ts : List Tuning) (p : Compacted kepts (take s.readings l.readings) r rs) (t : Compacted staying (take s.tunings l.tunings) q ts) where
+    rb : length kepts ≡ s.readings
+    rb = length-map (ats (take s.readings l.readings)) (kept s.rate (heard s.rate s.signal dbm).n) ∙ length-map (take s.readings l.readings) (λ (x : Reading). x.at) ∙ length-take-le s.readings l.readings o.readings
 
-    tb : length (stays s.rate (heard s.rate s.signal dbm).n (take s.tunings l.tuned)) ≡ s.tunings
-    tb = length-stays s.rate (heard s.rate s.signal dbm).n (take s.tunings l.tuned) ∙ nt s l o
+    tb : length staying ≡ s.tunings
+    tb = length-stays s.rate (heard s.rate s.signal dbm).n (tuneds (take s.tunings l.tunings)) ∙ length-map (take s.tunings l.tunings) (λ (u : Tuning). u.at) ∙ length-take-le s.tunings l.tunings o.tunings
 
-    pub sampled-lists : lists at' lo' hz' tuned' freq' ≡ stored (samples (tracker s l) dbm) l
+    pub sampled-lists : lists (rs ++ drop s.readings l.readings) (ts ++ drop s.tunings l.tunings) ≡ stored (samples (tracker s l) dbm) l
     unfolding stored samples tracker
-    sampled-lists =
-        let a = at-column s l o _ rb r at' lo' hz' p in
-        let b = lo-column s l o _ rb r at' lo' hz' p in
-        let c = hz-column s l o _ rb r at' lo' hz' p in
-        let d = tuned-column s l o _ tb q tuned' freq' t in
-        let e = freq-column s l o _ tb q tuned' freq' t in
-        rw (a, b, c, d, e, ats s l o, tuneds s l o) refl
+    sampled-lists = rw (over-retained l.readings s.readings o.readings kepts rb r rs p, over-retained l.tunings s.tunings o.tunings staying tb q ts t) refl
 
     pub sampled-state : (u : FrequencyTracker) → u ≡ made s r q (heard s.rate s.signal dbm) → u ≡ packed (samples (tracker s l) dbm)
     unfolding packed samples tracker
-    sampled-state u e =
-        let a = reading-count s l o _ rb r at' lo' hz' p in
-        let b = tuning-count s l o _ tb q tuned' freq' t in
-        e ∙ rw (a, b, ats s l o, tuneds s l o) refl
+    sampled-state u e = e ∙ rw (retained-count l.readings s.readings o.readings kepts rb r rs p, retained-count l.tunings s.tunings o.tunings staying tb q ts t) refl

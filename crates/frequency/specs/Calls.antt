@@ -2,10 +2,12 @@
 use Rattle.std.specs.Prelude.{ℕ, ◌≤◌, ◌≡◌, Bool, false, List, length, take, Float, Option, None, Result, Ok, Err}
 use Rattle.limits.specs.declared.Refusal.{Refusal}
 use Rattle.limits.specs.Answer.{Answer, said, answer, Free}
-use Rattle.frequency_lists.specs.Lists.{Reading, last_or}
+use Rattle.frequency_lists.specs.declared.Reading.{Reading}
+use Rattle.frequency_lists.specs.declared.Tuning.{Tuning}
+use Rattle.frequency_lists.specs.Lists.{freqs, last_or}
 use Rattle.frequency_measure.specs.declared.FrameFrequency.{FrameFrequency}
 use Rattle.record.specs.declared.FrameSpan.{FrameSpan}
-use Rattle.frequency_measure.specs.Measured.{readings_of, frame_frequency, frame1}
+use Rattle.frequency_measure.specs.Measured.{frame_frequency, frame1}
 use Rattle.record.specs.Spans.{span_ok, spans_ok}
 use Rattle.frequency.specs.declared.FrequencyTracker.{FrequencyTracker}
 use Rattle.frequency.specs.Lent.{Lists, lists, tracker, packed, stored}
@@ -26,19 +28,13 @@ SamplesEnd s dbm l r t m = Ends (cause_samples s l dbm) (samples (tracker s l) d
 abbrev pub CfoEnd : FrequencyTracker → List ℕ → Lists → ℕ → FrequencyTracker → Lists → Type 0
 CfoEnd s raw l r t m = Ends (cause_cfo s l raw) (cfo (tracker s l) raw) s l r t m
 
--- the readings that the count names
-pub record Beside (s : FrequencyTracker) (at lo : List ℕ) (hz : List Float) : Type 0 where
-  pub ats : s.readings ≤ length at
-  pub los : s.readings ≤ length lo
-  pub hzs : s.readings ≤ length hz
-
--- tuned has the lists of tunings alone: whatever readings stand beside them, they and the tunings are the definition's
-pub record TunedEnd (s : FrequencyTracker) (f : ℕ) (tun fre : List ℕ) (r : ℕ) (t : FrequencyTracker) (tun' fre' : List ℕ) : Type 0 where
-  pub refusal : r ≡ cause_tuned s tun fre f
-  pub state : r ≡ 0 → (at lo : List ℕ) (hz : List Float) → Beside s at lo hz → t ≡ packed (tuned (tracker s (lists at lo hz tun fre)) f)
-  pub lent : r ≡ 0 → (at lo : List ℕ) (hz : List Float) → Beside s at lo hz → lists at lo hz tun' fre' ≡ stored (tuned (tracker s (lists at lo hz tun fre)) f) (lists at lo hz tun fre)
+-- tuned has the list of tunings alone: whatever readings stand beside it, they and the tunings are the definition's
+pub record TunedEnd (s : FrequencyTracker) (f : ℕ) (ts : List Tuning) (r : ℕ) (t : FrequencyTracker) (ts' : List Tuning) : Type 0 where
+  pub refusal : r ≡ cause_tuned s ts f
+  pub state : r ≡ 0 → (rs : List Reading) → s.readings ≤ length rs → t ≡ packed (tuned (tracker s (lists rs ts)) f)
+  pub lent : r ≡ 0 → (rs : List Reading) → s.readings ≤ length rs → lists rs ts' ≡ stored (tuned (tracker s (lists rs ts)) f) (lists rs ts)
   pub same_state : (r ≡ 0 → ⊥) → t ≡ s
-  pub same_lent : (r ≡ 0 → ⊥) → (tun' ≡ tun) × (fre' ≡ fre)
+  pub same_lent : (r ≡ 0 → ⊥) → ts' ≡ ts
 
 -- next_tuning: the lists are only read, and the scratch is free where the call is accepted
 pub record NextEnd (s : FrequencyTracker) (l : Lists) (out : List Float) (r : ℕ) (t : FrequencyTracker) (tune : (Option ℕ)) (out' : List Float) : Type 0 where
@@ -55,27 +51,27 @@ tune_of (Ok tune) = tune
 tune_of (Err e) = None
 
 -- freq: the receiver frequency
-abbrev pub freq_answer : FrequencyTracker → List ℕ → List ℕ → Answer ℕ
-freq_answer s tun fre = answer (cause_freq s tun fre) (last_or s.base_freq (take s.tunings fre))
+abbrev pub freq_answer : FrequencyTracker → List Tuning → Answer ℕ
+freq_answer s ts = answer (cause_freq s ts) (last_or s.base_freq (freqs (take s.tunings ts)))
 
-abbrev pub held_readings : FrequencyTracker → List ℕ → List ℕ → List Float → List Reading
-held_readings s at lo hz = readings_of (take s.readings at) (take s.readings lo) (take s.readings hz)
+abbrev pub held_readings : FrequencyTracker → List Reading → List Reading
+held_readings s rs = take s.readings rs
 
 -- frame_frequency: the frequency and the receiver's, or none
-abbrev pub frame_answer : FrequencyTracker → List ℕ → List ℕ → List Float → ℕ → FrameSpan → Answer (Option FrameFrequency)
-frame_answer s at lo hz room f = answer (cause_frame s at lo hz room (span_ok f)) (frame_frequency s.rate (held_readings s at lo hz) f.time f.end)
+abbrev pub frame_answer : FrequencyTracker → List Reading → ℕ → FrameSpan → Answer (Option FrameFrequency)
+frame_answer s rs room f = answer (cause_frame s rs room (span_ok f)) (frame_frequency s.rate (held_readings s rs) f.time f.end)
 
-pub record FrameEnd (s : FrequencyTracker) (f : FrameSpan) (at lo : List ℕ) (hz out : List Float) (r : Result (Option FrameFrequency) Refusal) (out' : List Float) : Type 0 where
-  pub says : said r ≡ frame_answer s at lo hz (length out) f
-  pub scratch : Free (cause_frame s at lo hz (length out) (span_ok f)) out out'
+pub record FrameEnd (s : FrequencyTracker) (f : FrameSpan) (rs : List Reading) (out : List Float) (r : Result (Option FrameFrequency) Refusal) (out' : List Float) : Type 0 where
+  pub says : said r ≡ frame_answer s rs (length out) f
+  pub scratch : Free (cause_frame s rs (length out) (span_ok f)) out out'
 
 -- frame1: the frequency, or none
-abbrev pub frame1_answer : FrequencyTracker → List ℕ → List ℕ → List Float → ℕ → List FrameSpan → Bool → Answer (Option ℕ)
-frame1_answer s at lo hz room spans downlink = answer (cause_frame s at lo hz room (spans_ok spans)) (frame1 s.rate (held_readings s at lo hz) spans downlink)
+abbrev pub frame1_answer : FrequencyTracker → List Reading → ℕ → List FrameSpan → Bool → Answer (Option ℕ)
+frame1_answer s rs room spans downlink = answer (cause_frame s rs room (spans_ok spans)) (frame1 s.rate (held_readings s rs) spans downlink)
 
-pub record Frame1End (s : FrequencyTracker) (spans : List FrameSpan) (downlink : Bool) (at lo : List ℕ) (hz out : List Float) (r : Result (Option ℕ) Refusal) (out' : List Float) : Type 0 where
-  pub says : said r ≡ frame1_answer s at lo hz (length out) spans downlink
-  pub scratch : Free (cause_frame s at lo hz (length out) (spans_ok spans)) out out'
+pub record Frame1End (s : FrequencyTracker) (spans : List FrameSpan) (downlink : Bool) (rs : List Reading) (out : List Float) (r : Result (Option ℕ) Refusal) (out' : List Float) : Type 0 where
+  pub says : said r ≡ frame1_answer s rs (length out) spans downlink
+  pub scratch : Free (cause_frame s rs (length out) (spans_ok spans)) out out'
 
 -- a tracker that has heard nothing
 abbrev pub fresh : ℕ → ℕ → Float → FrequencyTracker

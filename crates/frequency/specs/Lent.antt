@@ -1,29 +1,20 @@
--- The tracker as the code has it: a struct with counts, and the lists lent as parallel slices. Assumes nothing.
-use Rattle.std.specs.Prelude.{ℕ, List, [], ◌∷◌, ◌++◌, map, length, take, drop, Float}
-use Rattle.frequency_lists.specs.Lists.{Reading, Tuning}
-use Rattle.frequency_measure.specs.Measured.{readings_of}
+-- The tracker as the code has it: a struct with counts, and the lists lent. Assumes nothing.
+use Rattle.std.specs.Prelude.{List, ◌++◌, length, take, drop}
+use Rattle.frequency_lists.specs.declared.Reading.{Reading}
+use Rattle.frequency_lists.specs.declared.Tuning.{Tuning}
 use Rattle.frequency.specs.declared.FrequencyTracker.{FrequencyTracker}
 use Rattle.frequency.specs.Tracker.{Tracker}
 
--- the five lists, whole
+-- the two lists, whole
 pub record Lists : Type 0 where
-  pub at : List ℕ
-  pub lo : List ℕ
-  pub hz : List Float
-  pub tuned : List ℕ
-  pub freq : List ℕ
+  pub readings : List Reading
+  pub tunings : List Tuning
 
-abbrev pub lists : List ℕ → List ℕ → List Float → List ℕ → List ℕ → Lists
-lists ats los hzs ts fs = record { at = ats; lo = los; hz = hzs; tuned = ts; freq = fs }
-
-unfoldable pub tunings_of : List ℕ → List ℕ → List Tuning
-tunings_of [] fs = []
-tunings_of (a ∷ ats) [] = []
-tunings_of (a ∷ ats) (f ∷ fs) = record { at = a; freq = f } ∷ tunings_of ats fs
+abbrev pub lists : List Reading → List Tuning → Lists
+lists rs ts = record { readings = rs; tunings = ts }
 
 -- what the struct and the lists stand for
 unfoldable pub tracker : FrequencyTracker → Lists → Tracker
-unfolding tunings_of
 tracker s l = record {
   rate = s.rate;
   base = s.base_freq;
@@ -31,8 +22,8 @@ tracker s l = record {
   line = s.line_start;
   requested = s.requested;
   signal = s.signal;
-  tunings = tunings_of (take s.tunings l.tuned) (take s.tunings l.freq);
-  readings = readings_of (take s.readings l.at) (take s.readings l.lo) (take s.readings l.hz);
+  tunings = take s.tunings l.tunings;
+  readings = take s.readings l.readings;
 }
 
 -- and back: the struct, and the lists, whose places past the counts keep their contents
@@ -48,14 +39,8 @@ packed t = record {
   signal = t.signal;
 }
 
-abbrev pub over : {A B : Type 0} → (A → B) → List A → List B → List B
-over f l old = map f l ++ drop (length l) old
+abbrev pub over : {A : Type 0} → List A → List A → List A
+over l old = l ++ drop (length l) old
 
 unfoldable pub stored : Tracker → Lists → Lists
-stored t l = record {
-  at = over (λ (x : Reading). x.at) t.readings l.at;
-  lo = over (λ (x : Reading). x.lo) t.readings l.lo;
-  hz = over (λ (x : Reading). x.hz) t.readings l.hz;
-  tuned = over (λ (x : Tuning). x.at) t.tunings l.tuned;
-  freq = over (λ (x : Tuning). x.freq) t.tunings l.freq;
-}
+stored t l = record { readings = over t.readings l.readings; tunings = over t.tunings l.tunings }

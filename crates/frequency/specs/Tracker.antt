@@ -3,7 +3,9 @@ use Rattle.std.specs.Prelude.{ℕ, Bool, true, false, cond, not, List, [], ◌�
 use Rattle.frequency_signal.specs.declared.Signal.{Signal}
 use Rattle.frequency_signal.specs.Seconds.{quiet, late, kept}
 use Rattle.frequency_signal.specs.Heard.{heard}
-use Rattle.frequency_lists.specs.Lists.{Reading, Tuning, last_or, readings_from}
+use Rattle.frequency_lists.specs.declared.Reading.{Reading}
+use Rattle.frequency_lists.specs.declared.Tuning.{Tuning}
+use Rattle.frequency_lists.specs.Lists.{last_or, readings_from}
 use Rattle.frequency_lists.specs.Marks.{retained}
 use Rattle.frequency_retain.specs.Retain.{stays}
 use Rattle.frequency_tuning.specs.declared.Step.{Step}

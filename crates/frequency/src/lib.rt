@@ -3,23 +3,25 @@
 
 ghost use Rattle.std.specs.Prelude.{◌≡◌, true, ◌+◌, ◌≤◌, length, take, IfOk, IfSome};
 ghost use Rattle.frequency_signal.specs.Seconds.{oldest_of};
-ghost use Rattle.frequency_lists.specs.Lists.{up_to};
+ghost use Rattle.frequency_lists.specs.Lists.{read_up_to, ats, freqs, last_or};
 ghost use Rattle.frequency_retain.specs.Retain.{Leads, Looked};
 ghost use Rattle.frequency_tuning.specs.Steps.{settled_by};
 ghost use Rattle.frequency.specs.Lent.{lists};
-ghost use Rattle.frequency.specs.Order.{ahead, tunings_in_order, readings_in_order, in_order, floats_ok, numbers_ok, cause_new, cause_freq, cause_tuned, cause_samples, cause_cfo, cause_next, cause_frame};
+ghost use Rattle.frequency.specs.Order.{ahead, tunings_in_order, readings_in_order, in_order, floats_ok, numbers_ok, due_of, cause_new, cause_freq, cause_tuned, cause_samples, cause_cfo, cause_next, cause_frame};
 ghost use Rattle.limits.specs.Answer.{said, cause_of};
 ghost use Rattle.frequency.specs.Calls.{SamplesEnd, CfoEnd, TunedEnd, NextEnd, FrameEnd, Frame1End, freq_answer, tune_of, fresh};
 ghost use Rattle.frequency.specs.Waiting.{Settling, settled_of, step_by};
 
+use frequency_lists::{Reading, Tuning};
 use frequency_measure::FrameFrequency;
+use frequency_signal::{Signal, Stream};
 use frequency_tuning::Step;
 use limits::Refusal;
 
 // How far past the stream's end a line's last reading may stand.
 const AHEAD: u64 = 32760;
 
-// The tracker; its lists are lent: readings as at, lo, hz, and tunings as tuned, freq, of which the counts are held.
+// The tracker; its lists of readings and tunings are lent, of which the counts are held.
 #[derive(Clone, Copy)]
 pub struct FrequencyTracker {
     pub rate: u32,
@@ -29,7 +31,7 @@ pub struct FrequencyTracker {
     pub readings: usize,
     pub tunings: usize,
     pub requested: Option<u32>,
-    pub signal: frequency_signal::Signal,
+    pub signal: Signal,
 }
 
 fn floats_ok(t: &FrequencyTracker) -> bool
@@ -39,50 +41,43 @@ fn floats_ok(t: &FrequencyTracker) -> bool
     step & frequency_signal::floor_ok(t.signal.floor)
 }
 
-fn numbers_ok(t: &FrequencyTracker, hz: &[f64]) -> bool
-    requires { t.now.readings ≤ length hz.now }
-    ensures { result ≡ numbers_ok t.now hz.now }
+fn numbers_ok(t: &FrequencyTracker, readings: &[Reading]) -> bool
+    requires { t.now.readings ≤ length readings.now }
+    ensures { result ≡ numbers_ok t.now readings.now }
 {
     let floats = floats_ok(t);
-    floats & frequency_lists::no_nan(hz, t.readings)
+    floats & frequency_lists::no_nan(&readings[..t.readings])
 }
 
-fn tunings_in_order(t: &FrequencyTracker, tuned: &[u64], freq: &[u32]) -> bool
-    ensures { result ≡ tunings_in_order t.now tuned.now freq.now }
+fn tunings_in_order(t: &FrequencyTracker, tunings: &[Tuning]) -> bool
+    ensures { result ≡ tunings_in_order t.now tunings.now }
 {
     if !frequency_signal::signal_ok(t.line_start, t.signal) {
         return false;
     }
-    if !frequency_lists::fits_tunings(t.tunings, tuned, freq) {
+    if !frequency_lists::fits_tunings(t.tunings, tunings) {
         return false;
     }
-    frequency_lists::within(tuned, t.tunings, t.signal.n)
+    frequency_lists::tuned_within(&tunings[..t.tunings], t.signal.n)
 }
 
-fn readings_in_order(t: &FrequencyTracker, at: &[u64], lo: &[u32], hz: &[f64]) -> bool
-    ensures { result ≡ readings_in_order t.now at.now lo.now hz.now }
+fn readings_in_order(t: &FrequencyTracker, readings: &[Reading]) -> bool
+    ensures { result ≡ readings_in_order t.now readings.now }
 {
     if !frequency_signal::signal_ok(t.line_start, t.signal) {
         return false;
     }
-    if !frequency_lists::fits_readings(t.readings, at, lo, hz) {
+    if !frequency_lists::fits_readings(t.readings, readings) {
         return false;
     }
-    frequency_lists::within(at, t.readings, t.signal.n + AHEAD)
+    frequency_lists::within(&readings[..t.readings], t.signal.n + AHEAD)
 }
 
-fn in_order(
-    t: &FrequencyTracker,
-    at: &[u64],
-    lo: &[u32],
-    hz: &[f64],
-    tuned: &[u64],
-    freq: &[u32],
-) -> bool
-    ensures { result ≡ in_order t.now (lists at.now lo.now hz.now tuned.now freq.now) }
+fn in_order(t: &FrequencyTracker, readings: &[Reading], tunings: &[Tuning]) -> bool
+    ensures { result ≡ in_order t.now (lists readings.now tunings.now) }
 {
-    let a = tunings_in_order(t, tuned, freq);
-    let b = readings_in_order(t, at, lo, hz);
+    let a = tunings_in_order(t, tunings);
+    let b = readings_in_order(t, readings);
     a & b
 }
 
@@ -90,42 +85,55 @@ fn in_order(
 fn in_order_looked(
     t: &FrequencyTracker,
     settled: bool,
-    at: &[u64],
-    lo: &[u32],
-    hz: &[f64],
-    tuned: &[u64],
-    freq: &[u32],
+    readings: &[Reading],
+    tunings: &[Tuning],
 ) -> bool
-    requires { settled ≡ true → up_to (t.now.signal.n + ahead) (take t.now.readings at.now) ≡ true }
-    ensures { result ≡ in_order t.now (lists at.now lo.now hz.now tuned.now freq.now) }
+    requires { settled ≡ true → read_up_to (t.now.signal.n + ahead) (take t.now.readings readings.now) ≡ true }
+    ensures { result ≡ in_order t.now (lists readings.now tunings.now) }
 {
     if settled {
-        let a = tunings_in_order(t, tuned, freq);
-        return a & frequency_lists::fits_readings(t.readings, at, lo, hz);
+        let a = tunings_in_order(t, tunings);
+        return a & frequency_lists::fits_readings(t.readings, readings);
     }
-    in_order(t, at, lo, hz, tuned, freq)
+    in_order(t, readings, tunings)
+}
+
+// The receiver frequency.
+fn freq_of(t: &FrequencyTracker, tunings: &[Tuning]) -> u32
+    requires { t.now.tunings ≤ length tunings.now }
+    ensures { result ≡ last_or t.now.base_freq (freqs (take t.now.tunings tunings.now)) }
+{
+    frequency_lists::last_freq(t.base_freq, &tunings[..t.tunings])
+}
+
+// Whether a frequency is a new tuning.
+fn is_due(t: &FrequencyTracker, hz: u32, tunings: &[Tuning]) -> bool
+    requires { t.now.tunings ≤ length tunings.now }
+    ensures { result ≡ due_of t.now tunings.now hz }
+{
+    frequency_tuning::is_due(t.base_freq, hz, &tunings[..t.tunings])
 }
 
 // A look at the readings before a line of `more` samples: one pass for their order and for what the line makes go.
-pub fn first_look(t: &FrequencyTracker, more: usize, at: &[u64]) -> Option<usize>
-    ensures { IfSome result (λ lead. Looked (oldest_of t.now.rate (t.now.signal.n + more)) (t.now.signal.n + ahead) t.now.readings lead at.now) }
+pub fn first_look(t: &FrequencyTracker, more: usize, readings: &[Reading]) -> Option<usize>
+    ensures { IfSome result (λ lead. Looked (oldest_of t.now.rate (t.now.signal.n + more)) (t.now.signal.n + ahead) lead (take t.now.readings readings.now)) }
 {
     let n = t.signal.n;
-    if n > limits::LONGEST_STREAM || more > limits::MOST_SAMPLES {
+    if n > limits::LONGEST_STREAM || more > limits::MOST_SAMPLES || readings.len() < t.readings {
         return None;
     }
     let low = frequency_signal::oldest(t.rate, n + (more as u64));
-    frequency_retain::look_at(low, n + AHEAD, t.readings, at)
+    frequency_retain::look_at(low, n + AHEAD, &readings[..t.readings])
 }
 
 // The first cause that applies to `freq`.
-fn check_freq(t: &FrequencyTracker, tuned: &[u64], freq: &[u32]) -> Result<(), Refusal>
-    ensures { cause_of result ≡ cause_freq t.now tuned.now freq.now }
+fn check_freq(t: &FrequencyTracker, tunings: &[Tuning]) -> Result<(), Refusal>
+    ensures { cause_of result ≡ cause_freq t.now tunings.now }
 {
     if !limits::rate_ok(t.rate) {
         return Err(Refusal::BadRate);
     }
-    if !tunings_in_order(t, tuned, freq) {
+    if !tunings_in_order(t, tunings) {
         return Err(Refusal::BadState);
     }
     if !floats_ok(t) {
@@ -135,17 +143,17 @@ fn check_freq(t: &FrequencyTracker, tuned: &[u64], freq: &[u32]) -> Result<(), R
 }
 
 // The same of `tuned`.
-fn check_tuned(t: &FrequencyTracker, hz: u32, tuned: &[u64], freq: &[u32]) -> Result<(), Refusal>
-    ensures { cause_of result ≡ cause_tuned t.now tuned.now freq.now hz }
+fn check_tuned(t: &FrequencyTracker, hz: u32, tunings: &[Tuning]) -> Result<(), Refusal>
+    ensures { cause_of result ≡ cause_tuned t.now tunings.now hz }
 {
     if !limits::rate_ok(t.rate) {
         return Err(Refusal::BadRate);
     }
-    if !tunings_in_order(t, tuned, freq) {
+    if !tunings_in_order(t, tunings) {
         return Err(Refusal::BadState);
     }
-    let due = frequency_tuning::is_due(t.base_freq, hz, t.tunings, freq);
-    if frequency_tuning::no_room(due, t.tunings, tuned, freq) {
+    let due = is_due(t, hz, tunings);
+    if frequency_tuning::no_room(due, t.tunings, tunings) {
         return Err(Refusal::Full);
     }
     if !floats_ok(t) {
@@ -159,14 +167,11 @@ fn check_samples(
     t: &FrequencyTracker,
     settled: bool,
     dbm: &[f32],
-    at: &[u64],
-    lo: &[u32],
-    hz: &[f64],
-    tuned: &[u64],
-    freq: &[u32],
+    readings: &[Reading],
+    tunings: &[Tuning],
 ) -> Result<(), Refusal>
-    requires { settled ≡ true → up_to (t.now.signal.n + ahead) (take t.now.readings at.now) ≡ true }
-    ensures { cause_of result ≡ cause_samples t.now (lists at.now lo.now hz.now tuned.now freq.now) dbm.now }
+    requires { settled ≡ true → read_up_to (t.now.signal.n + ahead) (take t.now.readings readings.now) ≡ true }
+    ensures { cause_of result ≡ cause_samples t.now (lists readings.now tunings.now) dbm.now }
 {
     if !limits::rate_ok(t.rate) {
         return Err(Refusal::BadRate);
@@ -177,13 +182,13 @@ fn check_samples(
     if !limits::all_dbm(dbm) {
         return Err(Refusal::BadSample);
     }
-    if !in_order_looked(t, settled, at, lo, hz, tuned, freq) {
+    if !in_order_looked(t, settled, readings, tunings) {
         return Err(Refusal::BadState);
     }
     if t.signal.n + (dbm.len() as u64) > limits::LONGEST_STREAM {
         return Err(Refusal::Stream);
     }
-    if !numbers_ok(t, hz) {
+    if !numbers_ok(t, readings) {
         return Err(Refusal::BadNumber);
     }
     Ok(())
@@ -193,13 +198,10 @@ fn check_samples(
 fn check_cfo(
     t: &FrequencyTracker,
     raw: &[u16],
-    at: &[u64],
-    lo: &[u32],
-    hz: &[f64],
-    tuned: &[u64],
-    freq: &[u32],
+    readings: &[Reading],
+    tunings: &[Tuning],
 ) -> Result<(), Refusal>
-    ensures { cause_of result ≡ cause_cfo t.now (lists at.now lo.now hz.now tuned.now freq.now) raw.now }
+    ensures { cause_of result ≡ cause_cfo t.now (lists readings.now tunings.now) raw.now }
 {
     if !limits::rate_ok(t.rate) {
         return Err(Refusal::BadRate);
@@ -207,13 +209,13 @@ fn check_cfo(
     if raw.len() > limits::MOST_READINGS {
         return Err(Refusal::Long);
     }
-    if !in_order(t, at, lo, hz, tuned, freq) {
+    if !in_order(t, readings, tunings) {
         return Err(Refusal::BadState);
     }
-    if !frequency_lists::fits_readings(t.readings + raw.len(), at, lo, hz) {
+    if !frequency_lists::fits_readings(t.readings + raw.len(), readings) {
         return Err(Refusal::Full);
     }
-    if !numbers_ok(t, hz) {
+    if !numbers_ok(t, readings) {
         return Err(Refusal::BadNumber);
     }
     Ok(())
@@ -222,14 +224,11 @@ fn check_cfo(
 // The same of `next_tuning`.
 fn check_next(
     t: &FrequencyTracker,
-    at: &[u64],
-    lo: &[u32],
-    hz: &[f64],
-    tuned: &[u64],
-    freq: &[u32],
+    readings: &[Reading],
+    tunings: &[Tuning],
     room: usize,
 ) -> Result<(), Refusal>
-    ensures { cause_of result ≡ cause_next t.now (lists at.now lo.now hz.now tuned.now freq.now) room }
+    ensures { cause_of result ≡ cause_next t.now (lists readings.now tunings.now) room }
 {
     if !limits::rate_ok(t.rate) {
         return Err(Refusal::BadRate);
@@ -237,10 +236,10 @@ fn check_next(
     if room < t.readings {
         return Err(Refusal::Short);
     }
-    if !in_order(t, at, lo, hz, tuned, freq) {
+    if !in_order(t, readings, tunings) {
         return Err(Refusal::BadState);
     }
-    if !numbers_ok(t, hz) {
+    if !numbers_ok(t, readings) {
         return Err(Refusal::BadNumber);
     }
     Ok(())
@@ -249,13 +248,11 @@ fn check_next(
 // The same of `frame_frequency` and `frame1`; ok: whether their spans are fine.
 fn check_frame(
     t: &FrequencyTracker,
-    at: &[u64],
-    lo: &[u32],
-    hz: &[f64],
+    readings: &[Reading],
     room: usize,
     ok: bool,
 ) -> Result<(), Refusal>
-    ensures { cause_of result ≡ cause_frame t.now at.now lo.now hz.now room ok }
+    ensures { cause_of result ≡ cause_frame t.now readings.now room ok }
 {
     if !limits::rate_ok(t.rate) {
         return Err(Refusal::BadRate);
@@ -263,10 +260,10 @@ fn check_frame(
     if room < t.readings {
         return Err(Refusal::Short);
     }
-    if !readings_in_order(t, at, lo, hz) {
+    if !readings_in_order(t, readings) {
         return Err(Refusal::BadState);
     }
-    let numbers = numbers_ok(t, hz);
+    let numbers = numbers_ok(t, readings);
     if !(numbers & ok) {
         return Err(Refusal::BadNumber);
     }
@@ -274,31 +271,38 @@ fn check_frame(
 }
 
 // The step to the settled readings: five of them, or nowhere.
-fn settled_step(t: &FrequencyTracker, at: &[u64], hz: &[f64], out: &mut [f64]) -> Step
-    requires { Settling t.now at.now hz.now out.old }
-    ensures { result ≡ settled_by (settled_of t.now at.now hz.now) }
+fn settled_step(t: &FrequencyTracker, held: &[Reading], out: &mut [f64]) -> Step
+    requires { Settling t.now held.now out.old }
+    ensures { result ≡ settled_by (settled_of t.now held.now) }
 {
-    let from = t.signal.frame_from;
-    let m = frequency_measure::gather_late(t.rate, from, t.readings, at, hz, out);
+    let stream = Stream {
+        rate: t.rate,
+        n: t.signal.n,
+    };
+    let m = frequency_measure::gather_late(stream, t.signal.frame_from, held, out);
     if m < frequency_measure::FEWEST {
         return Step::Stay;
     }
-    Step::Settled(cfo::round_hz(frequency_measure::median_of(out, m)))
+    Step::Settled(cfo::round_hz(frequency_measure::median_of(&out[..m])))
 }
 
-// Where `next_tuning` goes.
-fn step_of(t: &FrequencyTracker, at: &[u64], hz: &[f64], out: &mut [f64]) -> Step
-    requires { Settling t.now at.now hz.now out.old }
-    ensures { result ≡ step_by t.now at.now hz.now }
+// Where `next_tuning` goes, of the readings held.
+fn step_of(t: &FrequencyTracker, held: &[Reading], out: &mut [f64]) -> Step
+    requires { Settling t.now held.now out.old }
+    ensures { result ≡ step_by t.now held.now }
 {
     let None = t.requested else {
         return Step::Stay;
     };
-    if frequency_signal::is_quiet(t.rate, t.signal.n, t.signal.last_signal) {
+    let stream = Stream {
+        rate: t.rate,
+        n: t.signal.n,
+    };
+    if stream.is_quiet(t.signal.last_signal) {
         return Step::Base;
     }
     if frequency_tuning::is_waiting(t.rate, t.signal) {
-        return settled_step(t, at, hz, out);
+        return settled_step(t, held, out);
     }
     Step::Stay
 }
@@ -310,51 +314,43 @@ pub fn hear_line(
     t: &mut FrequencyTracker,
     look: Option<usize>,
     dbm: &[f32],
-    at: &mut [u64],
-    lo: &mut [u32],
-    hz: &mut [f64],
-    tuned: &mut [u64],
-    freq: &mut [u32],
+    readings: &mut [Reading],
+    tunings: &mut [Tuning],
 )
-    requires { (cause_samples t.old (lists at.old lo.old hz.old tuned.old freq.old) dbm.now ≡ 0)
-        × IfSome look (λ lead. Leads (oldest_of t.old.rate (t.old.signal.n + length dbm.now)) t.old.readings lead at.old) }
-    ensures { SamplesEnd t.old dbm.now (lists at.old lo.old hz.old tuned.old freq.old) 0 t.new (lists at.new lo.new hz.new tuned.new freq.new) }
+    requires { (cause_samples t.old (lists readings.old tunings.old) dbm.now ≡ 0)
+        × IfSome look (λ lead. Leads (oldest_of t.old.rate (t.old.signal.n + length dbm.now)) lead (ats (take t.old.readings readings.old))) }
+    ensures { SamplesEnd t.old dbm.now (lists readings.old tunings.old) 0 t.new (lists readings.new tunings.new) }
 {
     t.line_start = t.signal.n;
     t.signal = frequency_signal::hear_all(t.rate, t.signal, dbm);
-    let n = t.signal.n;
-    t.readings = frequency_retain::retain_looked(look, t.rate, n, t.readings, at, lo, hz);
-    t.tunings = frequency_retain::retain_tunings(t.rate, n, t.tunings, tuned, freq);
+    let stream = Stream {
+        rate: t.rate,
+        n: t.signal.n,
+    };
+    let held = &mut readings[..t.readings];
+    t.readings = frequency_retain::retain_looked(look, stream, held);
+    t.tunings = frequency_retain::retain_tunings(stream, &mut tunings[..t.tunings]);
 }
 
 // What an accepted `cfo` does.
 pub fn read_line(
     t: &mut FrequencyTracker,
     raw: &[u16],
-    at: &mut [u64],
-    lo: &mut [u32],
-    hz: &mut [f64],
-    tuned: &[u64],
-    freq: &[u32],
+    readings: &mut [Reading],
+    tunings: &[Tuning],
 )
-    requires { cause_cfo t.old (lists at.old lo.old hz.old tuned.now freq.now) raw.now ≡ 0 }
-    ensures { CfoEnd t.old raw.now (lists at.old lo.old hz.old tuned.now freq.now) 0 t.new (lists at.new lo.new hz.new tuned.now freq.now) }
+    requires { cause_cfo t.old (lists readings.old tunings.now) raw.now ≡ 0 }
+    ensures { CfoEnd t.old raw.now (lists readings.old tunings.now) 0 t.new (lists readings.new tunings.now) }
 {
     let more = 1 < t.tunings;
-    let f = frequency_lists::last_freq(t.base_freq, t.tunings, freq);
-    let last = frequency_lists::last_tuned(t.tunings, tuned);
+    let f = freq_of(t, tunings);
+    let last = frequency_lists::last_tuned(&tunings[..t.tunings]);
+    let start = Stream {
+        rate: t.rate,
+        n: t.line_start,
+    };
     let count = frequency_lists::read_values(
-        t.rate,
-        t.step_hz,
-        more,
-        last,
-        f,
-        t.line_start,
-        t.readings,
-        raw,
-        at,
-        lo,
-        hz,
+        start, t.step_hz, more, last, f, t.readings, raw, readings,
     );
     t.readings = count;
 }
@@ -362,18 +358,15 @@ pub fn read_line(
 // What an accepted `next_tuning` does, and where to tune.
 pub fn choose_tuning(
     t: &mut FrequencyTracker,
-    at: &[u64],
-    lo: &[u32],
-    hz: &[f64],
-    tuned: &[u64],
-    freq: &[u32],
+    readings: &[Reading],
+    tunings: &[Tuning],
     out: &mut [f64],
 ) -> Option<u32>
-    requires { cause_next t.old (lists at.now lo.now hz.now tuned.now freq.now) (length out.old) ≡ 0 }
-    ensures { NextEnd t.old (lists at.now lo.now hz.now tuned.now freq.now) out.old 0 t.new result out.new }
+    requires { cause_next t.old (lists readings.now tunings.now) (length out.old) ≡ 0 }
+    ensures { NextEnd t.old (lists readings.now tunings.now) out.old 0 t.new result out.new }
 {
-    let step = step_of(t, at, hz, out);
-    let now_hz = frequency_lists::last_freq(t.base_freq, t.tunings, freq);
+    let step = step_of(t, &readings[..t.readings], out);
+    let now_hz = freq_of(t, tunings);
     let tune = frequency_tuning::target_of(t.base_freq, now_hz, step);
     t.signal.retuned = frequency_tuning::retuned_by(step, t.signal.retuned);
     t.requested = frequency_tuning::remember(tune, t.requested);
@@ -400,7 +393,7 @@ impl FrequencyTracker {
             readings: 0,
             tunings: 0,
             requested: None,
-            signal: frequency_signal::Signal {
+            signal: Signal {
                 n: 0,
                 floor: None,
                 frame_from: None,
@@ -411,28 +404,25 @@ impl FrequencyTracker {
     }
 
     // The frequency that the receiver is tuned to; refusals 1, 5, 9.
-    pub fn freq(&self, tuned: &[u64], freq: &[u32]) -> Result<u32, Refusal>
-        ensures { said result ≡ freq_answer self.now tuned.now freq.now }
+    pub fn freq(&self, tunings: &[Tuning]) -> Result<u32, Refusal>
+        ensures { said result ≡ freq_answer self.now tunings.now }
     {
-        check_freq(self, tuned, freq)?;
-        Ok(frequency_lists::last_freq(self.base_freq, self.tunings, freq))
+        check_freq(self, tunings)?;
+        Ok(freq_of(self, tunings))
     }
 
     // The streamer's status line reports the frequency that it is tuned to; refusals 1, 5, 8, 9.
-    pub fn tuned(&mut self, hz: u32, tuned: &mut [u64], freq: &mut [u32]) -> Result<(), Refusal>
-        ensures { TunedEnd self.old hz tuned.old freq.old (cause_of result) self.new tuned.new freq.new }
+    pub fn tuned(&mut self, hz: u32, tunings: &mut [Tuning]) -> Result<(), Refusal>
+        ensures { TunedEnd self.old hz tunings.old (cause_of result) self.new tunings.new }
     {
-        check_tuned(self, hz, tuned, freq)?;
-        let due = frequency_tuning::is_due(self.base_freq, hz, self.tunings, freq);
+        check_tuned(self, hz, tunings)?;
+        let due = is_due(self, hz, tunings);
         self.requested = frequency_tuning::answer(self.requested, hz);
-        self.tunings = frequency_lists::put_tuning(
-            due,
-            self.tunings,
-            self.signal.n,
-            hz,
-            tuned,
-            freq,
-        );
+        let tuning = Tuning {
+            at: self.signal.n,
+            freq: hz,
+        };
+        self.tunings = frequency_lists::put(due, self.tunings, tuning, tunings);
         Ok(())
     }
 
@@ -440,18 +430,15 @@ impl FrequencyTracker {
     pub fn samples(
         &mut self,
         dbm: &[f32],
-        at: &mut [u64],
-        lo: &mut [u32],
-        hz: &mut [f64],
-        tuned: &mut [u64],
-        freq: &mut [u32],
+        readings: &mut [Reading],
+        tunings: &mut [Tuning],
     ) -> Result<(), Refusal>
-        ensures { SamplesEnd self.old dbm.now (lists at.old lo.old hz.old tuned.old freq.old)
-            (cause_of result) self.new (lists at.new lo.new hz.new tuned.new freq.new) }
+        ensures { SamplesEnd self.old dbm.now (lists readings.old tunings.old)
+            (cause_of result) self.new (lists readings.new tunings.new) }
     {
-        let look = first_look(self, dbm.len(), at);
-        check_samples(self, look.is_some(), dbm, at, lo, hz, tuned, freq)?;
-        hear_line(self, look, dbm, at, lo, hz, tuned, freq);
+        let look = first_look(self, dbm.len(), readings);
+        check_samples(self, look.is_some(), dbm, readings, tunings)?;
+        hear_line(self, look, dbm, readings, tunings);
         Ok(())
     }
 
@@ -459,17 +446,14 @@ impl FrequencyTracker {
     pub fn cfo(
         &mut self,
         raw: &[u16],
-        at: &mut [u64],
-        lo: &mut [u32],
-        hz: &mut [f64],
-        tuned: &[u64],
-        freq: &[u32],
+        readings: &mut [Reading],
+        tunings: &[Tuning],
     ) -> Result<(), Refusal>
-        ensures { CfoEnd self.old raw.now (lists at.old lo.old hz.old tuned.now freq.now)
-            (cause_of result) self.new (lists at.new lo.new hz.new tuned.now freq.now) }
+        ensures { CfoEnd self.old raw.now (lists readings.old tunings.now)
+            (cause_of result) self.new (lists readings.new tunings.now) }
     {
-        check_cfo(self, raw, at, lo, hz, tuned, freq)?;
-        read_line(self, raw, at, lo, hz, tuned, freq);
+        check_cfo(self, raw, readings, tunings)?;
+        read_line(self, raw, readings, tunings);
         Ok(())
     }
 
@@ -477,18 +461,15 @@ impl FrequencyTracker {
     // refusals 1, 2, 5, 9.
     pub fn next_tuning(
         &mut self,
-        at: &[u64],
-        lo: &[u32],
-        hz: &[f64],
-        tuned: &[u64],
-        freq: &[u32],
+        readings: &[Reading],
+        tunings: &[Tuning],
         out: &mut [f64],
     ) -> Result<Option<u32>, Refusal>
-        ensures { NextEnd self.old (lists at.now lo.now hz.now tuned.now freq.now) out.old
+        ensures { NextEnd self.old (lists readings.now tunings.now) out.old
             (cause_of result) self.new (tune_of result) out.new }
     {
-        check_next(self, at, lo, hz, tuned, freq, out.len())?;
-        Ok(choose_tuning(self, at, lo, hz, tuned, freq, out))
+        check_next(self, readings, tunings, out.len())?;
+        Ok(choose_tuning(self, readings, tunings, out))
     }
 
     // The frequency of one frame against the last receiver frequency used during it (the closest one after a retune);
@@ -496,15 +477,13 @@ impl FrequencyTracker {
     pub fn frame_frequency(
         &self,
         f: record::FrameSpan,
-        at: &[u64],
-        lo: &[u32],
-        hz: &[f64],
+        readings: &[Reading],
         out: &mut [f64],
     ) -> Result<Option<FrameFrequency>, Refusal>
-        ensures { FrameEnd self.now f at.now lo.now hz.now out.old result out.new }
+        ensures { FrameEnd self.now f readings.now out.old result out.new }
     {
-        check_frame(self, at, lo, hz, out.len(), record::spans::span_ok(f))?;
-        Ok(frequency_measure::frame_of(self.rate, f.time, f.end, self.readings, at, lo, hz, out))
+        check_frame(self, readings, out.len(), record::spans::span_ok(f))?;
+        Ok(frequency_measure::frame_of(self.rate, f, &readings[..self.readings], out))
     }
 
     // Frame 1 of a message: the midpoint of frames 2 and 3 when the device sent them at frame 1 +/- 6 kHz and they were
@@ -514,23 +493,21 @@ impl FrequencyTracker {
         &self,
         spans: [record::FrameSpan; 3],
         downlink: bool,
-        at: &[u64],
-        lo: &[u32],
-        hz: &[f64],
+        readings: &[Reading],
         out: &mut [f64],
     ) -> Result<Option<u32>, Refusal>
-        ensures { Frame1End self.now spans downlink at.now lo.now hz.now out.old result out.new }
+        ensures { Frame1End self.now spans downlink readings.now out.old result out.new }
     {
         let ok = record::spans::spans_ok(spans[0], spans[1], spans[2]);
-        check_frame(self, at, lo, hz, out.len(), ok)?;
-        let count = self.readings;
-        let f1 = frequency_tuning::of_rank(self.rate, 0, &spans, count, at, lo, hz, out);
+        check_frame(self, readings, out.len(), ok)?;
+        let held = &readings[..self.readings];
+        let f1 = frequency_tuning::of_rank(self.rate, 0, &spans, held, out);
         let one = frequency_measure::direct_hz(f1);
         if !downlink {
             return Ok(one);
         }
-        let f2 = frequency_tuning::of_rank(self.rate, 1, &spans, count, at, lo, hz, out);
-        let f3 = frequency_tuning::of_rank(self.rate, 2, &spans, count, at, lo, hz, out);
+        let f2 = frequency_tuning::of_rank(self.rate, 1, &spans, held, out);
+        let f3 = frequency_tuning::of_rank(self.rate, 2, &spans, held, out);
         Ok(frequency_measure::middle_hz(f2, f3, one))
     }
 }

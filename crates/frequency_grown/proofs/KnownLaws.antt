@@ -19,7 +19,7 @@ module _ (s : FrequencyTracker) (l : Lists) (k : Known s l) where
   unfolding cause_samples
   samples-cause dbm = rw (k.rate, k.order, k.numbers) refl
 
-  pub cfo-cause : (raw : List ℕ) → cause_cfo s l raw ≡ values_cause s.readings raw l.at l.lo l.hz
+  pub cfo-cause : (raw : List ℕ) → cause_cfo s l raw ≡ values_cause s.readings raw l.readings
   unfolding cause_cfo
   cfo-cause raw = rw (k.rate, k.order, k.numbers) refl
 

@@ -8,27 +8,28 @@ use native.Mathlib.Nat.{le_of_suc-le-suc}
 use native.Mathlib.Omega.{arith}
 use borrow.Author.Tests.{leb-true, le-leb}
 use lib.Dec.{leb, ltb}
-use lib.ListN.{length, take, get_or}
-use lib.Seq.{get_or-take, length-take-le}
+use lib.ListN.{length, take, get_or, length-map}
 use lib.Ieee.{Float}
 use Rattle.limits.proofs.Samples.{and_left, and_right}
 use Rattle.cfo.specs.Cfo.{reading_hz}
 use Rattle.frequency_signal.specs.Seconds.{kept, settling}
 use Rattle.frequency_signal.specs.Heard.{heard}
-use Rattle.frequency_lists.specs.Lists.{Reading, Tuning, every, up_to, last_or, readings_from}
+use Rattle.std.specs.List.{list_all}
+use Rattle.std.proofs.lemmas.List.{map-append}
+use Rattle.frequency_lists.specs.declared.Reading.{Reading}
+use Rattle.frequency_lists.specs.declared.Tuning.{Tuning}
+use Rattle.frequency_lists.specs.Lists.{up_to, ats, last_or, readings_from}
 use Rattle.frequency_lists.specs.Marks.{retained}
 use Rattle.frequency_lists.proofs.Every.{every_at}
 use Rattle.frequency_lists.proofs.Gather.{map-retained, every-retained}
 use Rattle.frequency_retain.specs.Retain.{Leads}
 use Rattle.frequency.specs.declared.FrequencyTracker.{FrequencyTracker}
-use Rattle.frequency_measure.specs.Measured.{readings_of}
 use Rattle.frequency.specs.Calls.{SamplesEnd, CfoEnd, TunedEnd, NextEnd, fresh}
 use Rattle.frequency.specs.Lent.{Lists, lists, tracker, packed, stored}
 use Rattle.frequency.specs.Grown as grown
 use Rattle.frequency.specs.Grown.{Grown}
 use Rattle.frequency.specs.Tracker as T
-use Rattle.frequency.proofs.Held.{ats, map-append}
-use Rattle.frequency.proofs.Grown.{sound, counts_of, unpack, same}
+use Rattle.frequency.proofs.Grown.{sound, unpack, same}
 use Rattle.frequency_grown.specs.Rising.{rises, Single, new, tuned, samples, cfo, next}
 
 -- ---- plain lists
@@ -38,22 +39,20 @@ unfolding rises retained
 rises-retained [] l e = refl
 rises-retained (b ∷ bs) [] e = refl
 rises-retained (true ∷ bs) (x ∷ l) e =
-    rw (every-retained (leb x) bs l (and_left (every (leb x) l) (rises l) e)) (rises-retained bs l (and_right (every (leb x) l) (rises l) e))
-rises-retained (false ∷ bs) (x ∷ l) e = rises-retained bs l (and_right (every (leb x) l) (rises l) e)
+    rw (every-retained (leb x) bs l (and_left (list_all (leb x) l) (rises l) e)) (rises-retained bs l (and_right (list_all (leb x) l) (rises l) e))
+rises-retained (false ∷ bs) (x ∷ l) e = rises-retained bs l (and_right (list_all (leb x) l) (rises l) e)
 
-every_last : (p : ℕ → Bool) (l : List ℕ) (a : ℕ) → every p l ≡ true → p a ≡ true → every p (l ++ (a ∷ [])) ≡ true
-unfolding every
+every_last : (p : ℕ → Bool) (l : List ℕ) (a : ℕ) → list_all p l ≡ true → p a ≡ true → list_all p (l ++ (a ∷ [])) ≡ true
 every_last p [] a e h = rw h refl
-every_last p (x ∷ l) a e h = rw (and_left (p x) (every p l) e) (every_last p l a (and_right (p x) (every p l) e) h)
+every_last p (x ∷ l) a e h = rw (and_left (p x) (list_all p l) e) (every_last p l a (and_right (p x) (list_all p l) e) h)
 
 rises_last : (l : List ℕ) (a : ℕ) → up_to a l ≡ true → rises l ≡ true → rises (l ++ (a ∷ [])) ≡ true
-unfolding rises every
+unfolding rises
 rises_last [] a u e = refl
 rises_last (x ∷ l) a u e =
-    rw (every_last (leb x) l a (and_left (every (leb x) l) (rises l) e) (and_left (leb x a) (up_to a l) u)) (rises_last l a (and_right (leb x a) (up_to a l) u) (and_right (every (leb x) l) (rises l) e))
+    rw (every_last (leb x) l a (and_left (list_all (leb x) l) (rises l) e) (and_left (leb x a) (up_to a l) u)) (rises_last l a (and_right (leb x a) (up_to a l) u) (and_right (list_all (leb x) l) (rises l) e))
 
 up_to_more : (m n : ℕ) (l : List ℕ) → m ≤ n → up_to m l ≡ true → up_to n l ≡ true
-unfolding every
 up_to_more m n [] h e = refl
 up_to_more m n (x ∷ l) h e =
     let k = leb-true x m (and_left (leb x m) (up_to m l) e) in
@@ -63,24 +62,23 @@ rises_at : (l : List ℕ) → rises l ≡ true → (i j : ℕ) → i ≤ j → j
 unfolding rises
 rises_at [] e i j h k = absurd (omega arith)
 rises_at (x ∷ l) e zero zero h k = omega arith
-rises_at (x ∷ l) e zero (suc j) h k = leb-true x (get_or l j 0) (every_at (leb x) l 0 (and_left (every (leb x) l) (rises l) e) j (le_of_suc-le-suc k))
+rises_at (x ∷ l) e zero (suc j) h k = leb-true x (get_or l j 0) (every_at (leb x) l 0 (and_left (list_all (leb x) l) (rises l) e) j (le_of_suc-le-suc k))
 rises_at (x ∷ l) e (suc i) zero h k = absurd (omega arith)
-rises_at (x ∷ l) e (suc i) (suc j) h k = rises_at l (and_right (every (leb x) l) (rises l) e) i j (le_of_suc-le-suc h) (le_of_suc-le-suc k)
+rises_at (x ∷ l) e (suc i) (suc j) h k = rises_at l (and_right (list_all (leb x) l) (rises l) e) i j (le_of_suc-le-suc h) (le_of_suc-le-suc k)
 
 -- those in front of the first that isn't before low are all that are
-pub front-leads : (low count lead : ℕ) (at : List ℕ) → count ≤ length at → rises (take count at) ≡ true
-    → (lead ≤ count) × ((i : ℕ) → i < lead → leb low (get_or at i 0) ≡ false) × (lead < count → leb low (get_or at lead 0) ≡ true) → Leads low count lead at
-front-leads low count lead at h e f = record {
-  leads = f.0;
-  gone = f.1;
-  stay = λ i a b.
-      let n = length-take-le count at h in
-      let x = get_or-take count at lead 0 (omega arith) in
-      let y = get_or-take count at i 0 b in
-      let z = rises_at (take count at) e lead i a (omega arith) in
-      let w = leb-true low (get_or at lead 0) (f.2 (omega arith)) in
-      le-leb low (get_or at i 0) (omega arith);
-}
+pub front-leads : (low lead : ℕ) (l : List Reading) → rises (ats l) ≡ true
+    → (lead ≤ length l) × ((i : ℕ) → i < lead → leb low (get_or (ats l) i 0) ≡ false) × (lead < length l → leb low (get_or (ats l) lead 0) ≡ true) → Leads low lead (ats l)
+front-leads low lead l e f =
+    let n = length-map l (λ (x : Reading). x.at) in
+    record {
+      leads = omega (arith, f.0);
+      gone = f.1;
+      stay = λ i a b.
+          let z = rises_at (ats l) e lead i a b in
+          let w = leb-true low (get_or (ats l) lead 0) (f.2 (omega arith)) in
+          le-leb low (get_or (ats l) i 0) (omega arith);
+    }
 
 -- ---- the tracker's calls
 
@@ -147,7 +145,7 @@ risen-cfo u (v ∷ w ∷ raw) h r = absurd (omega arith)
 
 pub single-grown : {s : FrequencyTracker} {l : Lists} → Single s l → Grown s l
 single-grown (new rate base step l b e) = grown.new rate base step l b e
-single-grown (tuned f tun fre h g c) = grown.tuned f tun fre h (single-grown g) c
+single-grown (tuned f ts h g c) = grown.tuned f ts h (single-grown g) c
 single-grown (samples dbm g c) = grown.samples dbm (single-grown g) c
 single-grown (cfo raw h g c) = grown.cfo raw (single-grown g) c
 single-grown (next out out' tune g c) = grown.next out out' tune (single-grown g) c
@@ -159,24 +157,24 @@ line-upto : (s : FrequencyTracker) (l : Lists) → Grown s l → (tracker s l).l
 line-upto s l g = (sound g).good.signals.upto
 
 risen_new : (rate base : ℕ) (step : Float) (l : Lists) → Risen (tracker (fresh rate base step) l)
-unfolding tracker readings_of rises every
+unfolding tracker rises
 risen_new rate base step l = record { rise = refl; upto = refl }
 
 risen : {s : FrequencyTracker} {l : Lists} → Single s l → Risen (tracker s l)
 risen (new rate base step l b e) = risen_new rate base step l
-risen (tuned {s} {t} {l} f tun fre h g c) =
-    let o = (counts_of s l (sound (single-grown g))).beside in
-    subst Risen (sym (stands (T.tuned (tracker s l) f) l t (lists l.at l.lo l.hz tun fre) (c.state refl l.at l.lo l.hz o) (c.lent refl l.at l.lo l.hz o))) (risen-tuned (tracker s l) f (risen g))
+risen (tuned {s} {t} {l} f ts h g c) =
+    let o = (sound (single-grown g)).counts.readings in
+    subst Risen (sym (stands (T.tuned (tracker s l) f) l t (lists l.readings ts) (c.state refl l.readings o) (c.lent refl l.readings o))) (risen-tuned (tracker s l) f (risen g))
 risen (samples {s} {t} {l} {m} dbm g c) =
     subst Risen (sym (stands (T.samples (tracker s l) dbm) l t m (c.state refl) (c.lists refl))) (risen-samples (tracker s l) dbm (line-upto s l (single-grown g)) (risen g))
 risen (cfo {s} {t} {l} {m} raw h g c) = subst Risen (sym (stands (T.cfo (tracker s l) raw) l t m (c.state refl) (c.lists refl))) (risen-cfo (tracker s l) raw h (risen g))
 risen (next {s} {t} {l} out out' tune g c) =
-    let o = counts_of s l (sound (single-grown g)) in
+    let o = (sound (single-grown g)).counts in
     subst Risen (sym (ap (λ (x : FrequencyTracker). tracker x l) (c.state refl) ∙ same s l o)) (risen-next (tracker s l) (risen g))
 
-pub single-rises : {s : FrequencyTracker} {l : Lists} → Single s l → rises (take s.readings l.at) ≡ true
+pub single-rises : {s : FrequencyTracker} {l : Lists} → Single s l → rises (ats (take s.readings l.readings)) ≡ true
 unfolding tracker
-single-rises {s} {l} g = subst (λ (z : List ℕ). rises z ≡ true) (ats s l (counts_of s l (sound (single-grown g)))) (risen g).rise
+single-rises g = (risen g).rise
 
 -- ---- and after a call, accepted or refused
 pub after_samples : {s t : FrequencyTracker} {l m : Lists} (dbm : List Float) (r : ℕ) → Single s l → SamplesEnd s dbm l r t m → Single t m
@@ -193,10 +191,8 @@ pub after_next : {s t : FrequencyTracker} {l : Lists} (out out' : List Float) (t
 after_next out out' tune zero g c = next out out' tune g c
 after_next {l = l} out out' tune (suc r) g c = subst (λ (x : FrequencyTracker). Single x l) (sym (c.same_state (λ e. omega arith))) g
 
-pub after_tuned : {s t : FrequencyTracker} (at lo : List ℕ) (hz : List Float) (tun fre tun' fre' : List ℕ) (f r : ℕ) → f < 2 ^ 32 → Single s (lists at lo hz tun fre)
-    → TunedEnd s f tun fre r t tun' fre' → Single t (lists at lo hz tun' fre')
-after_tuned at lo hz tun fre tun' fre' f zero h g c = tuned f tun' fre' h g c
-after_tuned {s} {t} at lo hz tun fre tun' fre' f (suc r) h g c =
-    let e = c.same_lent (λ e. omega arith) in
-    subst (λ (x : FrequencyTracker). Single x (lists at lo hz tun' fre')) (sym (c.same_state (λ e. omega arith)))
-    (subst (λ (x : List ℕ). Single s (lists at lo hz x fre')) (sym e.0) (subst (λ (x : List ℕ). Single s (lists at lo hz tun x)) (sym e.1) g))
+pub after_tuned : {s t : FrequencyTracker} (rs : List Reading) (ts ts' : List Tuning) (f r : ℕ) → f < 2 ^ 32 → Single s (lists rs ts) → TunedEnd s f ts r t ts' → Single t (lists rs ts')
+after_tuned rs ts ts' f zero h g c = tuned f ts' h g c
+after_tuned {s} {t} rs ts ts' f (suc r) h g c =
+    subst (λ (x : FrequencyTracker). Single x (lists rs ts')) (sym (c.same_state (λ e. omega arith)))
+    (subst (λ (x : List Tuning). Single s (lists rs x)) (sym (c.same_lent (λ e. omega arith))) g)

@@ -2,6 +2,7 @@
 use Rattle.std.specs.Prelude.{ℕ, ◌+◌, ◌*◌, ◌≡◌, true, cond, not, List, ltb, length, Float}
 use Rattle.limits.specs.Limits.{short, long, bad_sample, stream, full, buffer_s, most_readings, longest_stream}
 use Rattle.limits.specs.Samples.{rate_ok, all_dbm}
+use Rattle.frequency_lists.specs.declared.Reading.{Reading}
 use Rattle.frequency_lists.specs.Lists.{fits_readings}
 use Rattle.frequency.specs.declared.FrequencyTracker.{FrequencyTracker}
 use Rattle.frequency.specs.Lent.{Lists}
@@ -11,7 +12,7 @@ use Rattle.frequency.specs.Order.{in_order, numbers_ok}
 pub record Known (s : FrequencyTracker) (l : Lists) : Type 0 where
   pub rate : rate_ok s.rate ≡ true
   pub order : in_order s l ≡ true
-  pub numbers : numbers_ok s l.hz ≡ true
+  pub numbers : numbers_ok s l.readings ≡ true
 
 -- ---- the other causes, in the order of their numbers
 
@@ -23,10 +24,10 @@ line_cause rate n dbm =
     (cond (ltb longest_stream (n + length dbm)) stream 0))
 
 -- cfo: 3, 8
-abbrev pub values_cause : ℕ → List ℕ → List ℕ → List ℕ → List Float → ℕ
-values_cause held raw at lo hz =
+abbrev pub values_cause : ℕ → List ℕ → List Reading → ℕ
+values_cause held raw rs =
     cond (ltb most_readings (length raw)) long
-    (cond (not (fits_readings (held + length raw) at lo hz)) full 0)
+    (cond (not (fits_readings (held + length raw) rs)) full 0)
 
 -- next_tuning: 2
 abbrev pub room_cause : ℕ → ℕ → ℕ

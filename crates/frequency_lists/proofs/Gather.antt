@@ -1,8 +1,8 @@
 -- Laws of specs/Marks.antt, of lists of any element type: one turn of a loop that gathers. Assumes nothing.
 use Rattle.std.proofs.Common.{◌≡◌, ℕ, zero, suc, ◌+◌, ◌-◌, ◌<◌, ◌≤◌, Bool, true, false, cond, List, [], ◌∷◌, ◌++◌, map, length, get_or, take, drop, set, sym, refl, ap, ◌∙◌, le_of_suc-le-suc, add-one, arith, length-append, length-drop, length-take, length-take-le, get_or-drop, drop-cons, take-suc, take_at, get_or-append-add}
+use Rattle.std.specs.List.{list_all}
 use lib.Seq.{set_at, append_snoc}
 use Rattle.limits.proofs.Samples.{and_left, and_right}
-use Rattle.frequency_lists.specs.Lists.{every}
 use Rattle.frequency_lists.specs.Marks.{marked, retained, gathered, put}
 
 pub marked-le : (bs : List Bool) → marked bs ≤ length bs
@@ -94,25 +94,6 @@ module _ {A : Type 0} where
       let q : w + (k - w) ≡ k = omega arith in
       ap (λ (m : ℕ). get_or (retained (take i bs) l ++ drop w l) m d) e ∙ get_or-append-add (retained (take i bs) l) (drop w l) (k - w) d ∙ get_or-drop w l (k - w) d ∙ ap (λ (m : ℕ). get_or l m d) q
 
-  pub gathered_none : (bs : List Bool) (l s : List A) → gathered (take 0 bs) l s ≡ s
-  unfolding gathered retained marked
-  gathered_none [] l s = refl
-  gathered_none (b ∷ bs) l s = refl
-
-pub marked_none : (bs : List Bool) → marked (take 0 bs) ≡ 0
-unfolding marked
-marked_none [] = refl
-marked_none (b ∷ bs) = refl
-
--- marks look at no more elements than there are marks
-pub retained-take : {A : Type 0} (bs : List Bool) (c : ℕ) (l : List A) → length bs ≤ c → retained bs (take c l) ≡ retained bs l
-unfolding retained
-retained-take [] c l h = refl
-retained-take (b ∷ bs) zero l h = absurd (omega arith)
-retained-take (b ∷ bs) (suc c) [] h = refl
-retained-take {A} (true ∷ bs) (suc c) (x ∷ l) h = ap (λ (z : List A). x ∷ z) (retained-take bs c l (le_of_suc-le-suc h))
-retained-take (false ∷ bs) (suc c) (x ∷ l) h = retained-take bs c l (le_of_suc-le-suc h)
-
 pub map-retained : {A B : Type 0} (f : A → B) (bs : List Bool) (l : List A) → map f (retained bs l) ≡ retained bs (map f l)
 unfolding retained
 map-retained f [] l = refl
@@ -121,39 +102,24 @@ map-retained {B = B} f (true ∷ bs) (x ∷ l) = ap (λ (z : List B). f x ∷ z)
 map-retained f (false ∷ bs) (x ∷ l) = map-retained f bs l
 
 -- a test that each element passes is passed by those retained
-pub every-retained : {A : Type 0} (p : A → Bool) (bs : List Bool) (l : List A) → every p l ≡ true → every p (retained bs l) ≡ true
-unfolding every retained
+pub every-retained : {A : Type 0} (p : A → Bool) (bs : List Bool) (l : List A) → list_all p l ≡ true → list_all p (retained bs l) ≡ true
+unfolding retained
 every-retained p [] l e = refl
 every-retained p (b ∷ bs) [] e = refl
-every-retained p (true ∷ bs) (x ∷ l) e = rw (and_left (p x) (every p l) e) (every-retained p bs l (and_right (p x) (every p l) e))
-every-retained p (false ∷ bs) (x ∷ l) e = every-retained p bs l (and_right (p x) (every p l) e)
+every-retained p (true ∷ bs) (x ∷ l) e = rw (and_left (p x) (list_all p l) e) (every-retained p bs l (and_right (p x) (list_all p l) e))
+every-retained p (false ∷ bs) (x ∷ l) e = every-retained p bs l (and_right (p x) (list_all p l) e)
 
--- a mark of each element
-pub mark_at_lem : {A : Type 0} (p : A → Bool) (l : List A) (i : ℕ) (d : A) → i < length l → get_or (map p l) i false ≡ p (get_or l i d)
-mark_at_lem p [] i d h = absurd (go i h)
-  where
-    go : (i : ℕ) → i < 0 → ⊥
-    go i h = omega arith
-mark_at_lem p (x ∷ l) zero d h = refl
-mark_at_lem p (x ∷ l) (suc i) d h = mark_at_lem p l i d (le_of_suc-le-suc h)
+-- a column of a list, at a place
+pub map_at : {A B : Type 0} (f : A → B) (l : List A) (i : ℕ) (d : A) (e : B) → i < length l → get_or (map f l) i e ≡ f (get_or l i d)
+map_at f [] i d e h = absurd (omega arith)
+map_at f (x ∷ l) zero d e h = refl
+map_at f (x ∷ l) (suc i) d e h = map_at f l i d e (le_of_suc-le-suc h)
 
--- ---- gathering into scratch, a turn of the loop
-module _ {A : Type 0} (bs : List Bool) (l s : List A) (d : A) (short : length bs ≤ length l) (room : length bs ≤ length s) where
-  pub scratch-size : (i : ℕ) (cur : List A) → i ≤ length bs → cur ≡ gathered (take i bs) l s → length cur ≡ length s
-  scratch-size i cur h e =
-      let m = marked-upto bs i in
-      let t = length-take-le i bs h in
-      ap length e ∙ length-gathered (take i bs) l s (omega arith) (omega arith)
+pub map-map : {A B C : Type 0} (f : A → B) (g : B → C) (l : List A) → map (λ (x : A). g (f x)) l ≡ map g (map f l)
+map-map f g [] = refl
+map-map {C = C} f g (x ∷ l) = ap (λ (z : List C). g (f x) ∷ z) (map-map f g l)
 
-  pub gather_turn : (i w r : ℕ) (b : Bool) (cur nxt : List A) → i < length bs → get_or bs i false ≡ b → w ≡ marked (take i bs) → cur ≡ gathered (take i bs) l s
-      → r ≡ cond b (w + 1) w → nxt ≡ put b cur w (get_or l i d) → (r ≡ marked (take (i + 1) bs)) × (nxt ≡ gathered (take (i + 1) bs) l s)
-  gather_turn i w r b cur nxt h e m g c p =
-      let u = marked-upto bs i in (
-        c ∙ ap (λ (z : ℕ). cond b (z + 1) z) m ∙ sym (marked_turn bs i b h e),
-        p ∙ rw (m, g) (gathered-turn bs l s d i b h short (omega arith) e),
-      )
-
-  -- what stands in front then
-  pub gathered-front : take (marked bs) (gathered bs l s) ≡ retained bs l
-  unfolding gathered
-  gathered-front = take_at (retained bs l) (drop (marked bs) s) (marked bs) (length_retained bs l short)
+pub map_get : {A B : Type 0} (f : A → B) (l : List A) (i : ℕ) (d : A) → get_or (map f l) i (f d) ≡ f (get_or l i d)
+map_get f [] i d = refl
+map_get f (x ∷ l) zero d = refl
+map_get f (x ∷ l) (suc i) d = map_get f l i d

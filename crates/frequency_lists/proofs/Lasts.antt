@@ -1,21 +1,26 @@
--- The last element of the first count. Assumes nothing.
-use Rattle.std.proofs.Common.{◌≡◌, ℕ, zero, suc, ◌-◌, ◌<◌, ◌≤◌, List, [], ◌∷◌, length, get_or, take, refl, ap, ◌∙◌, le_of_suc-le-suc, arith}
+-- The last element of a list, as `last` finds it. Assumes nothing.
+use Rattle.std.proofs.Common.{◌≡◌, ◌-◌, not, T, List, [], ◌∷◌, map, length, Option, None, Some, refl, sym, ap, ◌∙◌, subst, arith}
+use Rattle.std.specs.List.{slice_get}
+use Rattle.std.specs.Option.{option_map, is_some, unwrap_or}
+use Rattle.std.proofs.lemmas.Option.{slice_get-get_or}
 use Rattle.frequency_lists.specs.Lists.{last_or}
 
-last_suc : {A : Type 0} (j : ℕ) (l : List A) (d e : A) → j < length l → last_or d (take (suc j) l) ≡ get_or l j e
-unfolding last_or
-last_suc j [] d e h = absurd (go j h)
-  where
-    go : (j : ℕ) → j < 0 → ⊥
-    go j h = omega arith
-last_suc zero (x ∷ l) d e h = refl
-last_suc (suc j) (x ∷ l) d e h = last_suc j l x e (le_of_suc-le-suc h)
+pub none_some : {A : Type 0} {x : A} → None ≡ Some x → ⊥
+none_some {A} e = subst (λ (o : Option A). T (not (is_some o))) e tt
 
-pub last_none : {A : Type 0} (count : ℕ) (l : List A) (d : A) → count ≡ 0 → last_or d (take count l) ≡ d
-unfolding last_or
-last_none count l d h = rw h refl
+module _ {A B : Type 0} (f : A → B) where
+  last_is : (d : B) (x : A) (l : List A) (y : A) → Some y ≡ slice_get (x ∷ l) (length l) → last_or d (map f (x ∷ l)) ≡ f y
+  unfolding last_or
+  last_is d x [] y e = sym (ap (λ (o : Option A). f (unwrap_or o x)) e)
+  last_is d x (z ∷ l) y e = last_is (f x) z l y e
 
-pub last_at : {A : Type 0} (count : ℕ) (l : List A) (d e : A) → 0 < count → count ≤ length l → last_or d (take count l) ≡ get_or l (count - 1) e
-last_at {A} count l d e p h =
-    let z : count ≡ suc (count - 1) = omega arith in
-    ap (λ (n : ℕ). last_or d (take n l)) z ∙ last_suc (count - 1) l d e (omega arith)
+  pub last_none : {P : Type 0} (now : P → A) (d : B) (o : Option P) (l : List A) → option_map now o ≡ slice_get l (length l - 1) → o ≡ None → d ≡ last_or d (map f l)
+  unfolding last_or
+  last_none now d o [] e n = refl
+  last_none now d o (x ∷ l) e n = absurd (none_some (sym (ap (option_map now) n) ∙ e ∙ slice_get-get_or (x ∷ l) (length (x ∷ l) - 1) x (omega arith)))
+
+  pub last_some : {P : Type 0} (now : P → A) (d : B) (o : Option P) (l : List A) → option_map now o ≡ slice_get l (length l - 1) → (p : P) → o ≡ Some p → f (now p) ≡ last_or d (map f l)
+  last_some now d o [] e p s = absurd (none_some (sym e ∙ ap (option_map now) s))
+  last_some now d o (x ∷ l) e p s =
+      let n : length (x ∷ l) - 1 ≡ length l = omega arith in
+      sym (last_is d x l (now p) (sym (ap (option_map now) s) ∙ e ∙ ap (slice_get (x ∷ l)) n))

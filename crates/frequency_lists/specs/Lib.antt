@@ -1,4 +1,3 @@
 -- The definitions that the contracts of `lists` cite.
 pub mod Marks
 pub mod Lists
-pub mod Columns

@@ -7,12 +7,6 @@ marked [] = 0
 marked (true ∷ bs) = suc (marked bs)
 marked (false ∷ bs) = marked bs
 
--- both marks
-unfoldable pub ands : List Bool → List Bool → List Bool
-ands [] cs = []
-ands (b ∷ bs) [] = []
-ands (b ∷ bs) (c ∷ cs) = (b && c) ∷ ands bs cs
-
 module _ {A : Type 0} where
   -- the marked elements, in order
   unfoldable pub retained : List Bool → List A → List A

@@ -1,180 +1,135 @@
--- The readings of a frame, from the parallel lists: the last one's receiver frequency, and the frequencies against it. Assumes nothing.
-use Rattle.std.proofs.Common.{None, Some}
-use mathlib.Core.Path.{◌≡◌, refl, sym, ap, ◌∙◌, subst}
-use mathlib.Core.Bool.{Bool, true, false, cond, ◌&&◌}
-use mathlib.Core.List.{List, [], ◌∷◌, ◌++◌, map}
-use Prim.Native.Nat.{ℕ, zero, suc, ◌+◌, ◌≤◌, ◌<◌}
-use native.Mathlib.Nat.{le_of_suc-le-suc}
-use native.Mathlib.Numerals.{add-one}
-use native.Mathlib.Omega.{arith}
-use borrow.Author.Tests.{le-leb, lt-leb}
-use lib.Dec.{leb, eqb}
-use lib.ListN.{length, take, get_or, length-map}
-use lib.Seq.{take-suc, length-take-le, take_all, get_or-take}
-use lib.Ieee.{Float}
-use Rattle.frequency_lists.specs.Lists.{Reading, last_or}
-use Rattle.frequency_lists.specs.Marks.{marked, retained, ands}
-use Rattle.frequency_lists.proofs.Gather.{retained_yes, retained_no, length_retained, map-retained, mark_at_lem}
-use Rattle.frequency_measure.specs.Measured.{fewest, measured, median, inside, first_of, past_of, frame_of, frame_frequency, frame_by, readings_of}
+-- The readings of a frame: the last one's receiver frequency, and the frequencies against it. Assumes nothing.
+use Rattle.std.proofs.Common.{◌≡◌, ℕ, ◌+◌, ◌≤◌, ◌<◌, Bool, true, false, cond, not, ◌&&◌, List, [], ◌∷◌, ◌++◌, map, length, get_or, take, drop, eqb, leb, None, Some, Option, refl, sym, ap, ◌∙◌, subst, add-one, arith, drop-cons, length-take-le, drop_of_length-le}
+use Rattle.std.specs.List as list
+use Rattle.std.specs.Option.{unwrap_or}
+use Rattle.std.proofs.lemmas.Bool.{le-leb, lt-leb}
+use Rattle.std.proofs.lemmas.List.{append-nil}
+use Rattle.std.proofs.lemmas.List.Folds.{list_all-map}
+use lib.Seq.{append_snoc, take-suc-set}
+use lib.ListN.{length-set}
+use lib.Ieee.{Float, is_nan}
+use Rattle.frequency_lists.specs.declared.Reading.{Reading}
+use Rattle.frequency_lists.specs.Lists.{last_or, hzs, all_numbers, no_nan}
+use Rattle.frequency_lists.proofs.Gather.{every-retained}
+use Rattle.frequency_lists.proofs.Lasts.{none_some}
+use Rattle.frequency_lists.specs.Marks.{retained, put}
+use Rattle.frequency_measure.specs.Gathered.{passing, in_frame, of_frame, los, Front}
+use Rattle.frequency_measure.specs.Measured.{fewest, measured, median, inside, first_of, past_of, frame_of, frame_frequency}
 
--- ---- the marks of the first count elements
-module _ {A : Type 0} (p : A → Bool) (count : ℕ) (l : List A) (h : count ≤ length l) where
-  pub marks-size : length (map p (take count l)) ≡ count
-  marks-size = length-map (take count l) p ∙ length-take-le count l h
-
-  pub marks_all : (i : ℕ) → count ≤ i → take i (map p (take count l)) ≡ map p (take count l)
-  marks_all i k = let e = marks-size in take_all i (map p (take count l)) (omega arith)
-
-pub marks_at : (p : ℕ → Bool) (count : ℕ) (l : List ℕ) → count ≤ length l → (i : ℕ) → i < count → get_or (map p (take count l)) i false ≡ p (get_or l i 0)
-marks_at p count l h i k = mark_at_lem p (take count l) i 0 (subst (λ (z : ℕ). i < z) (sym (length-take-le count l h)) k) ∙ ap p (get_or-take count l i 0 k)
-
-retained_none : {A : Type 0} (bs : List Bool) (l : List A) → retained (take 0 bs) l ≡ []
+-- ---- what is left of a retention, one element on
+more : {A : Type 0} (b : Bool) (bs : List Bool) (x : A) (l : List A) → retained (b ∷ bs) (x ∷ l) ≡ cond b (x ∷ retained bs l) (retained bs l)
 unfolding retained
-retained_none [] l = refl
-retained_none (b ∷ bs) l = refl
+more true bs x l = refl
+more false bs x l = refl
 
-pub last_none : (bs : List Bool) (l : List ℕ) → last_or 0 (retained (take 0 bs) l) ≡ 0
-unfolding last_or
-last_none bs l = rw (retained_none bs l) refl
+module _ (p : Reading → Bool) (l : List Reading) where
+  abbrev pub left : ℕ → List Reading
+  left i = passing p (drop i l)
 
--- ---- the last of those marked, one mark on
-last_snoc : {A : Type 0} (d : A) (l : List A) (y : A) → last_or d (l ++ (y ∷ [])) ≡ y
-unfolding last_or
-last_snoc d [] y = refl
-last_snoc d (x ∷ l) y = last_snoc x l y
+  left_at : (i : ℕ) (d : Reading) → i < length l → left i ≡ cond (p (get_or l i d)) (get_or l i d ∷ left (i + 1)) (left (i + 1))
+  left_at i d h = rw (drop-cons l i d h, add-one i) (more _ _ _ _)
 
-pub last_turn : (bs : List Bool) (l : List ℕ) (i : ℕ) (b : Bool) → i < length bs → length bs ≤ length l → get_or bs i false ≡ b
-    → last_or 0 (retained (take (i + 1) bs) l) ≡ cond b (get_or l i 0) (last_or 0 (retained (take i bs) l))
-last_turn bs l i true h k e =
-    let j : length (take i bs) ≡ i = length-take-le i bs (omega arith) in
-    rw (add-one i, take-suc bs i false h, e) (ap (last_or 0) (retained_yes (take i bs) l 0 (omega arith)) ∙ last_snoc 0 (retained (take i bs) l) (get_or l (length (take i bs)) 0) ∙ ap (λ (n : ℕ). get_or l n 0) j)
-last_turn bs l i false h k e =
-    let j : length (take i bs) ≡ i = length-take-le i bs (omega arith) in
-    rw (add-one i, take-suc bs i false h, e) (ap (last_or 0) (retained_no (take i bs) l (omega arith)))
+  left_none : (i : ℕ) → length l ≤ i → left i ≡ []
+  unfolding retained
+  left_none i h = rw (drop_of_length-le l {i = i} h) refl
 
--- ---- both marks
-pub length-ands : (as' bs : List Bool) → length as' ≡ length bs → length (ands as' bs) ≡ length as'
-unfolding ands
-length-ands [] bs e = refl
-length-ands (a ∷ as') [] e = absurd (omega arith)
-length-ands (a ∷ as') (b ∷ bs) e = ap suc (length-ands as' bs (omega arith))
+  -- ---- the last one's receiver frequency
+  pub last_turn : (i : ℕ) (d : Reading) (o r : Option ℕ) → i < length l → list.last_or o (los (left i)) ≡ r → list.last_or (cond (p (get_or l i d)) (Some (get_or l i d).lo) o) (los (left (i + 1))) ≡ r
+  last_turn i d o r h e = go (p (get_or l i d)) (left (i + 1)) ∙ ap (λ (z : List Reading). list.last_or o (los z)) (sym (left_at i d h)) ∙ e
+    where
+      go : (b : Bool) (m : List Reading) → list.last_or (cond b (Some (get_or l i d).lo) o) (los m) ≡ list.last_or o (los (cond b (get_or l i d ∷ m) m))
+      go true m = refl
+      go false m = refl
 
-pub ands_at : (as' bs : List Bool) (i : ℕ) → length as' ≡ length bs → i < length as' → get_or (ands as' bs) i false ≡ (get_or as' i false && get_or bs i false)
-unfolding ands
-ands_at [] bs i e h = absurd (omega arith)
-ands_at (a ∷ as') [] i e h = absurd (omega arith)
-ands_at (a ∷ as') (b ∷ bs) zero e h = refl
-ands_at (a ∷ as') (b ∷ bs) (suc i) e h = ands_at as' bs i (omega arith) (le_of_suc-le-suc h)
+  pub last_end : (i : ℕ) (o r : Option ℕ) → length l ≤ i → list.last_or o (los (left i)) ≡ r → o ≡ r
+  last_end i o r h e = rw (left_none i h) at e
 
--- retention by one mark and then by the other is retention by both
-retained_both : {A : Type 0} (q : A → Bool) (bs : List Bool) (l : List A) → retained (map q (retained bs l)) (retained bs l) ≡ retained (ands bs (map q l)) l
-unfolding retained ands
-retained_both q [] l = refl
-retained_both q (b ∷ bs) [] = refl
-retained_both {A} q (true ∷ bs) (x ∷ l) = go (q x) (retained_both q bs l)
+  -- ---- gathering into scratch
+  pub record Gathers (old : List Float) (i w : ℕ) (cur : List Float) : Type 0 where
+    pub upto : w ≤ i
+    pub size : length cur ≡ length old
+    pub done : take w cur ++ hzs (left i) ≡ hzs (left 0)
+
+  pub gathers_turn : (old : List Float) (i w r : ℕ) (d : Reading) (cur nxt : List Float) → i < length l → length l ≤ length old → Gathers old i w cur
+      → r ≡ cond (p (get_or l i d)) (w + 1) w → nxt ≡ put (p (get_or l i d)) cur w (get_or l i d).hz → Gathers old (i + 1) r nxt
+  gathers_turn old i w r d cur nxt h k g n q = go (p (get_or l i d)) n q (ap (λ (z : List Reading). take w cur ++ hzs z) (sym (left_at i d h)) ∙ g.done)
+    where
+      go : (b : Bool) → r ≡ cond b (w + 1) w → nxt ≡ put b cur w (get_or l i d).hz → take w cur ++ hzs (cond b (get_or l i d ∷ left (i + 1)) (left (i + 1))) ≡ hzs (left 0) → Gathers old (i + 1) r nxt
+      go true n q e =
+          let u = g.upto in
+          let s = g.size in
+          record {
+            upto = omega arith;
+            size = ap length q ∙ length-set cur w (get_or l i d).hz ∙ s;
+            done = rw (n, q, add-one w, take-suc-set cur w (get_or l i d).hz (omega arith)) (append_snoc (take w cur) (get_or l i d).hz (hzs (left (i + 1))) ∙ e);
+          }
+      go false n q e = let u = g.upto in record { upto = omega arith; size = ap length q ∙ g.size; done = rw (n, q) e }
+
+  pub gathers_end : (old : List Float) (i w : ℕ) (cur : List Float) → length l ≤ i → i ≤ length old → Gathers old i w cur → Front (hzs (passing p l)) old w cur
+  gathers_end old i w cur h k g =
+      let u = g.upto in
+      let s = g.size in
+      let f : take w cur ≡ hzs (passing p l) = sym (append-nil (take w cur)) ∙ ap (λ (z : List Reading). take w cur ++ hzs z) (sym (left_none i h)) ∙ g.done in
+      record { count = sym (length-take-le w cur (omega arith)) ∙ ap length f; fits = omega arith; front = f; size = s }
+
+-- retention by one test and then by the other is retention by both
+pub passing_both : (p q : Reading → Bool) (l : List Reading) → passing q (passing p l) ≡ passing (λ (x : Reading). p x && q x) l
+unfolding retained
+passing_both p q [] = refl
+passing_both p q (x ∷ l) = go (p x) (passing_both p q l)
   where
-    go : (t : Bool) → retained (map q (retained bs l)) (retained bs l) ≡ retained (ands bs (map q l)) l → retained (t ∷ map q (retained bs l)) (x ∷ retained bs l) ≡ retained (t ∷ ands bs (map q l)) (x ∷ l)
-    go true e = ap (λ (z : List A). x ∷ z) e
+    go : (b : Bool) → passing q (passing p l) ≡ passing (λ (x : Reading). p x && q x) l → passing q (retained (b ∷ map p l) (x ∷ l)) ≡ retained ((b && q x) ∷ map (λ (x : Reading). p x && q x) l) (x ∷ l)
+    go true e = more (q x) _ x _ ∙ ap (λ (z : List Reading). cond (q x) (x ∷ z) z) e ∙ sym (more (q x) _ x l)
     go false e = e
-retained_both q (false ∷ bs) (x ∷ l) = retained_both q bs l
-
--- ---- the columns of the readings
-columns : (at lo : List ℕ) (hz : List Float) → length at ≡ length lo → length at ≡ length hz
-    → (map (λ (x : Reading). x.at) (readings_of at lo hz) ≡ at) × (map (λ (x : Reading). x.lo) (readings_of at lo hz) ≡ lo) × (map (λ (x : Reading). x.hz) (readings_of at lo hz) ≡ hz)
-unfolding readings_of
-columns [] [] [] p q = (refl, refl, refl)
-columns [] [] (h ∷ hz) p q = absurd (omega arith)
-columns [] (l ∷ lo) hz p q = absurd (omega arith)
-columns (a ∷ at) [] hz p q = absurd (omega arith)
-columns (a ∷ at) (l ∷ lo) [] p q = absurd (omega arith)
-columns (a ∷ at) (l ∷ lo) (h ∷ hz) p q =
-    let r = columns at lo hz (omega arith) (omega arith) in
-    (ap (λ (w : List ℕ). a ∷ w) r.0, ap (λ (w : List ℕ). l ∷ w) r.1, ap (λ (w : List Float). h ∷ w) r.2)
-
-map-map : {A B C : Type 0} (f : A → B) (g : B → C) (l : List A) → map (λ (x : A). g (f x)) l ≡ map g (map f l)
-map-map f g [] = refl
-map-map {C = C} f g (x ∷ l) = ap (λ (z : List C). g (f x) ∷ z) (map-map f g l)
 
 -- ---- a frame of readings, by its parts
-none_left : {A : Type 0} (l : List A) → length l ≡ 0 → l ≡ []
-none_left [] e = refl
-none_left (x ∷ l) e = absurd (omega arith)
+last_is : (a : ℕ) (l : List ℕ) → list.last_or (Some a) l ≡ Some (last_or a l)
+unfolding last_or
+last_is a [] = refl
+last_is a (x ∷ l) = last_is x l
 
-pub frame_none : (l : List Reading) → length l ≡ 0 → frame_of l ≡ None
+abbrev pub against : ℕ → List Reading → List Reading
+against lo l = passing (λ (y : Reading). eqb y.lo lo) l
+
+pub frame_none : (l : List Reading) → list.last_or None (los l) ≡ None → frame_of l ≡ None
 unfolding frame_of
-frame_none l e = rw (none_left l e) refl
+frame_none [] e = refl
+frame_none (x ∷ l) e = absurd (none_some (sym e ∙ last_is x.lo (los l)))
 
-pub frame_some : (l : List Reading) (lo : ℕ) (hzs : List Float) → 0 < length l → lo ≡ last_or 0 (map (λ (y : Reading). y.lo) l)
-    → hzs ≡ map (λ (y : Reading). y.hz) (retained (map (λ (y : Reading). eqb y.lo lo) l) l)
-    → frame_of l ≡ cond (leb fewest (length hzs)) (Some (measured (median hzs) lo)) None
-unfolding frame_of last_or
-frame_some [] lo hzs h e p = absurd (omega arith)
-frame_some (x ∷ l) lo hzs h e p =
-    let at-last = λ (z : ℕ). map (λ (y : Reading). y.hz) (retained (map (λ (y : Reading). eqb y.lo z) (x ∷ l)) (x ∷ l)) in
-    rw p (subst (λ (z : ℕ). frame_of (x ∷ l) ≡ cond (leb fewest (length (at-last z))) (Some (measured (median (at-last z)) z)) None) (sym e) refl)
+pub frame_some : (l : List Reading) (lo : ℕ) → list.last_or None (los l) ≡ Some lo → frame_of l ≡ cond (leb fewest (length (hzs (against lo l)))) (Some (measured (median (hzs (against lo l))) lo)) None
+unfolding frame_of
+frame_some [] lo e = absurd (none_some e)
+frame_some (x ∷ l) lo e =
+    let n : last_or x.lo (los l) ≡ lo = ap (λ (o : Option ℕ). unwrap_or o lo) (sym (last_is x.lo (los l)) ∙ e) in
+    subst (λ (z : ℕ). frame_of (x ∷ l) ≡ cond (leb fewest (length (hzs (against z (x ∷ l))))) (Some (measured (median (hzs (against z (x ∷ l)))) z)) None) n refl
 
--- ---- the parallel lists
-module _ (at lo : List ℕ) (hz : List Float) (p : length at ≡ length lo) (q : length at ≡ length hz) where
-  pub ats_of : map (λ (x : Reading). x.at) (readings_of at lo hz) ≡ at
-  ats_of = (columns at lo hz p q).0
+-- ---- from what the functions that scan and gather leave
+module _ (first past : ℕ) (l : List Reading) (lo : ℕ) (out out' : List Float) (m : ℕ) (L : list.last_or None (los (in_frame first past l)) ≡ Some lo)
+    (F : Front (hzs (of_frame first past lo l)) out m out') where
+  hzs-are : hzs (against lo (in_frame first past l)) ≡ take m out'
+  hzs-are = ap hzs (passing_both (λ (x : Reading). inside first past x.at) (λ (x : Reading). eqb x.lo lo) l) ∙ sym F.front
 
-  pub los_of : map (λ (x : Reading). x.lo) (readings_of at lo hz) ≡ lo
-  los_of = (columns at lo hz p q).1
+  size_is : length (hzs (against lo (in_frame first past l))) ≡ m
+  size_is = ap length (hzs-are ∙ F.front) ∙ sym F.count
 
-  pub hzs_of : map (λ (x : Reading). x.hz) (readings_of at lo hz) ≡ hz
-  hzs_of = (columns at lo hz p q).2
+  pub few : m < fewest → frame_of (in_frame first past l) ≡ None
+  few h = let e = size_is in frame_some (in_frame first past l) lo L ∙ rw (lt-leb fewest (length (hzs (against lo (in_frame first past l)))) (omega arith)) refl
 
--- a frame of the parallel lists, from the marks of its readings and of those with the last receiver frequency
-module _ (rate : ℕ) (time end : Float) (at lo : List ℕ) (hz : List Float) (p : length at ≡ length lo) (q : length at ≡ length hz) where
-  rs : List Reading
-  rs = readings_of at lo hz
+  pub found : fewest ≤ m → frame_of (in_frame first past l) ≡ Some (measured (median (take m out')) lo)
+  found h =
+      let e = size_is in
+      frame_some (in_frame first past l) lo L ∙ rw (le-leb fewest (length (hzs (against lo (in_frame first past l)))) (omega arith)) (ap (λ (z : List Float). Some (measured (median z) lo)) hzs-are)
 
-  abbrev pub insides : List Bool
-  insides = map (inside (first_of rate time) (past_of rate end)) at
+-- what stands in front of the scratch is no NaN where no reading's frequency is one
+pub front-numbers : (bs : List Bool) (l : List Reading) (out out' : List Float) (m : ℕ) → all_numbers l ≡ true → Front (hzs (retained bs l)) out m out' → no_nan (take m out') ≡ true
+front-numbers bs l out out' m e F =
+    subst (λ (z : List Float). no_nan z ≡ true) (sym F.front)
+    (list_all-map (λ (h : Float). not (is_nan h)) (λ (x : Reading). x.hz) (retained bs l) ∙ every-retained (λ (x : Reading). not (is_nan x.hz)) bs l e)
 
-  marks_are : map (λ (y : Reading). inside (first_of rate time) (past_of rate end) y.at) (readings_of at lo hz) ≡ insides
-  marks_are = map-map (λ (y : Reading). y.at) (inside (first_of rate time) (past_of rate end)) (readings_of at lo hz) ∙ ap (map (inside (first_of rate time) (past_of rate end))) (ats_of at lo hz p q)
+pub front-length : (l out out' : List Float) (m : ℕ) → Front l out m out' → length (take m out') ≡ m
+front-length l out out' m F = length-take-le m out' F.fits
 
-  size : length (readings_of at lo hz) ≡ length at
-  size = sym (length-map (readings_of at lo hz) (λ (x : Reading). x.at)) ∙ ap length (ats_of at lo hz p q)
-
-  seen_is : length (retained insides (readings_of at lo hz)) ≡ marked insides
-  seen_is = let e = size in let f = length-map at (inside (first_of rate time) (past_of rate end)) in length_retained insides (readings_of at lo hz) (omega arith)
-
-  pub by_none : marked insides ≡ 0 → frame_by rate time end at lo hz ≡ None
-  unfolding frame_frequency
-  by_none z = ap (λ (bs : List Bool). frame_of (retained bs (readings_of at lo hz))) marks_are ∙ frame_none (retained insides (readings_of at lo hz)) (seen_is ∙ z)
-
-  module _ (last : ℕ) (L : last ≡ last_or 0 (retained insides lo)) where
-    abbrev pub ofs : List Bool
-    ofs = ands insides (map (λ (x : ℕ). eqb x last) lo)
-
-    last_is : last ≡ last_or 0 (map (λ (y : Reading). y.lo) (retained insides (readings_of at lo hz)))
-    last_is = L ∙ ap (λ (z : List ℕ). last_or 0 (retained insides z)) (sym (los_of at lo hz p q)) ∙ ap (last_or 0) (sym (map-retained (λ (y : Reading). y.lo) insides (readings_of at lo hz)))
-
-    hzs-are : retained ofs hz ≡ map (λ (y : Reading). y.hz) (retained (map (λ (y : Reading). eqb y.lo last) (retained insides (readings_of at lo hz))) (retained insides (readings_of at lo hz)))
-    hzs-are =
-        ap (λ (z : List Float). retained ofs z) (sym (hzs_of at lo hz p q))
-        ∙ sym (map-retained (λ (y : Reading). y.hz) ofs (readings_of at lo hz))
-        ∙ ap (λ (bs : List Bool). map (λ (y : Reading). y.hz) (retained (ands insides bs) (readings_of at lo hz)))
-        (sym (map-map (λ (y : Reading). y.lo) (λ (x : ℕ). eqb x last) (readings_of at lo hz) ∙ ap (map (λ (x : ℕ). eqb x last)) (los_of at lo hz p q)))
-        ∙ ap (map (λ (y : Reading). y.hz)) (sym (retained_both (λ (y : Reading). eqb y.lo last) insides (readings_of at lo hz)))
-
-    by-some : 0 < marked insides → frame_by rate time end at lo hz ≡ cond (leb fewest (length (retained ofs hz))) (Some (measured (median (retained ofs hz)) last)) None
-    unfolding frame_frequency
-    by-some z =
-        let e = seen_is in
-        ap (λ (bs : List Bool). frame_of (retained bs (readings_of at lo hz))) marks_are
-        ∙ frame_some (retained insides (readings_of at lo hz)) last (retained ofs hz) (omega arith) last_is hzs-are
-
-    ofs-size : length ofs ≡ length hz
-    ofs-size = let f = length-map at (inside (first_of rate time) (past_of rate end)) in let g = length-map lo (λ (x : ℕ). eqb x last) in length-ands insides (map (λ (x : ℕ). eqb x last) lo) (omega arith) ∙ omega arith
-
-    count_is : length (retained ofs hz) ≡ marked ofs
-    count_is = let e = ofs-size in length_retained ofs hz (omega arith)
-
-    pub by-few : 0 < marked insides → marked ofs < fewest → frame_by rate time end at lo hz ≡ None
-    by-few z h = let e = count_is in by-some z ∙ rw (lt-leb fewest (length (retained ofs hz)) (omega arith)) refl
-
-    pub by-found : 0 < marked insides → fewest ≤ marked ofs → frame_by rate time end at lo hz ≡ Some (measured (median (retained ofs hz)) last)
-    by-found z h = let e = count_is in by-some z ∙ rw (le-leb fewest (length (retained ofs hz)) (omega arith)) refl
+-- the readings of a frame, by its first sample and the first past it
+pub framed : (rate : ℕ) (time end : Float) (l : List Reading) (first past : ℕ) → first ≡ first_of rate time → past ≡ past_of rate end → frame_of (in_frame first past l) ≡ frame_frequency rate l time end
+unfolding frame_frequency
+framed rate time end l first past e f = rw (e, f) refl

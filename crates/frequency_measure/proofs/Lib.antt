@@ -1,6 +1,5 @@
 -- The laws that the proofs of `measure` share.
 pub mod Constants
 pub mod Frames
-pub mod Framed
 pub mod Signed
 pub mod Picked

@@ -1,27 +1,32 @@
--- Scaffolding. What the functions that gather into scratch ask of the parallel slices. Assumes nothing.
-use Rattle.std.specs.Prelude.{ℕ, ◌≤◌, ◌<◌, ◌^◌, ◌≡◌, Bool, true, List, length, take, get_or, Float, Option, MatchOption}
-use Rattle.frequency_lists.specs.Lists.{no_nan, last_or}
-use Rattle.frequency_lists.specs.Marks.{marked, retained}
+-- Scaffolding. What the functions that gather into scratch ask, and what they leave. Assumes nothing.
+use Rattle.std.specs.Prelude.{ℕ, ◌≤◌, ◌≡◌, Bool, true, ◌&&◌, List, map, eqb, length, take, Float}
+use Rattle.frequency_lists.specs.declared.Reading.{Reading}
+use Rattle.frequency_lists.specs.Lists.{all_numbers}
+use Rattle.frequency_lists.specs.Marks.{retained}
+use Rattle.frequency_measure.specs.Measured.{inside}
 
--- count readings whose indices are small enough, and scratch for as many
-pub record Lined (count : ℕ) (at : List ℕ) (hz out : List Float) : Type 0 where
-  pub ats : count ≤ length at
-  pub hzs : count ≤ length hz
-  pub outs : count ≤ length out
-  pub small : (i : ℕ) → i < count → get_or at i 0 ≤ 2 ^ 41
+-- the readings that pass a test
+abbrev pub passing : (Reading → Bool) → List Reading → List Reading
+passing p l = retained (map p l) l
 
--- count readings, and scratch for as many
-pub record Rows (count : ℕ) (at lo : List ℕ) (hz out : List Float) : Type 0 where
-  pub ats : count ≤ length at
-  pub los : count ≤ length lo
-  pub hzs : count ≤ length hz
-  pub outs : count ≤ length out
+-- those of a frame, and those of them against one receiver frequency
+abbrev pub in_frame : ℕ → ℕ → List Reading → List Reading
+in_frame first past l = passing (λ (x : Reading). inside first past x.at) l
 
--- and none of their frequencies is a NaN
-pub record Free (count : ℕ) (at lo : List ℕ) (hz out : List Float) : Type 0 where
-  pub rows : Rows count at lo hz out
-  pub numbers : no_nan (take count hz) ≡ true
+abbrev pub of_frame : ℕ → ℕ → ℕ → List Reading → List Reading
+of_frame first past lo l = passing (λ (x : Reading). inside first past x.at && eqb x.lo lo) l
 
--- the last of the marked ones, or none
-abbrev pub IsLast : List Bool → List ℕ → Option ℕ → Type 0
-IsLast bs l last = MatchOption last (marked bs ≡ 0) (λ x. (0 < marked bs) × (x ≡ last_or 0 (retained bs l)))
+abbrev pub los : List Reading → List ℕ
+los l = map (λ (x : Reading). x.lo) l
+
+-- the numbers l in front of the scratch
+pub record Front (l out : List Float) (r : ℕ) (out' : List Float) : Type 0 where
+  pub count : r ≡ length l
+  pub fits : r ≤ length out'
+  pub front : take r out' ≡ l
+  pub size : length out' ≡ length out
+
+-- scratch for every reading, none of whose frequencies is a NaN
+pub record Free (readings : List Reading) (out : List Float) : Type 0 where
+  pub room : length readings ≤ length out
+  pub numbers : all_numbers readings ≡ true

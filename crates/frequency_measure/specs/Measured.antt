@@ -9,7 +9,8 @@ use Rattle.floats.specs.Trig.{magnitude}
 use Rattle.order.specs.Order.{kth}
 use Rattle.rates.specs.Numbers.{settle_s}
 use Rattle.cfo.specs.Cfo.{round_hz}
-use Rattle.frequency_lists.specs.Lists.{Reading, last_or}
+use Rattle.frequency_lists.specs.declared.Reading.{Reading}
+use Rattle.frequency_lists.specs.Lists.{last_or}
 use Rattle.frequency_lists.specs.Marks.{retained}
 use Rattle.frequency_measure.specs.declared.FrameFrequency.{FrameFrequency}
 use Rattle.record.specs.declared.FrameSpan.{FrameSpan}
@@ -107,13 +108,3 @@ unfoldable pub frame1 : ℕ → List Reading → List FrameSpan → Bool → Opt
 unfolding of_rank direct middle
 frame1 rate readings spans true = middle (of_rank rate readings spans 1) (of_rank rate readings spans 2) (direct (of_rank rate readings spans 0))
 frame1 rate readings spans false = direct (of_rank rate readings spans 0)
-
--- ---- the same on the parallel lists
-unfoldable pub readings_of : List ℕ → List ℕ → List Float → List Reading
-readings_of [] ls hs = []
-readings_of (a ∷ ats) [] hs = []
-readings_of (a ∷ ats) (l ∷ ls) [] = []
-readings_of (a ∷ ats) (l ∷ ls) (h ∷ hs) = record { at = a; lo = l; hz = h } ∷ readings_of ats ls hs
-
-abbrev pub frame_by : ℕ → Float → Float → List ℕ → List ℕ → List Float → Option FrameFrequency
-frame_by rate time end ats los hzs = frame_frequency rate (readings_of ats los hzs) time end

@@ -1,14 +1,19 @@
 // A frame's frequency from its readings: medians over lent scratch, frame 1 itself, and the midpoint of frames 2 and 3.
 #![tactic(auto)]
 
-ghost use Rattle.std.specs.Prelude.{◌≡◌, true, cond, ◌&&◌, map, ℕ, ◌+◌, ◌≤◌, ◌<◌, ◌^◌, length, take, eqb};
+ghost use Rattle.std.specs.Prelude.{◌≡◌, true, ◌&&◌, map, ℕ, ◌≤◌, ◌<◌, length, eqb, Some, None};
+ghost use Rattle.std.specs.List.{last_or};
 ghost use Rattle.limits.specs.Limits.{longest_stream};
-ghost use Rattle.frequency_signal.specs.Seconds.{Rate, late};
+ghost use Rattle.frequency_signal.specs.Seconds.{late};
 ghost use Rattle.frequency_signal.specs.Order.{Index};
-ghost use Rattle.frequency_lists.specs.Lists.{no_nan, last_or};
-ghost use Rattle.frequency_lists.specs.Marks.{marked, retained, gathered, put, ands};
-ghost use Rattle.frequency_measure.specs.Measured.{median, sample_of, first_of, past_of, inside, near, spaced, frame_by, direct, middle};
-ghost use Rattle.frequency_measure.specs.Gathered.{Lined, Rows, IsLast, Free};
+ghost use Rattle.frequency_lists.specs.Lists.{Small, no_nan, ats, hzs};
+ghost use Rattle.frequency_lists.specs.Marks.{retained};
+ghost use Rattle.frequency_measure.specs.Measured.{median, sample_of, first_of, past_of, inside, near, spaced, frame_frequency, direct, middle};
+ghost use Rattle.frequency_measure.specs.Gathered.{Front, Free, in_frame, of_frame, los};
+
+use frequency_lists::Reading;
+use frequency_signal::Stream;
+use record::FrameSpan;
 
 // The frequency of a frame, and a retune, need this many readings.
 pub const FEWEST: usize = 5;
@@ -35,36 +40,36 @@ pub struct FrameFrequency {
     pub lo: u32,
 }
 
+// The samples of a frame whose readings are trusted: from `first` up to `past`.
+#[derive(Clone, Copy)]
+struct Trusted {
+    first: u64,
+    past: u64,
+}
+
 // The frequencies of the readings that are at least GAP_S into the frame, in front of the scratch (hz of next_tuning).
 pub fn gather_late(
-    rate: u32,
+    stream: Stream,
     from: Option<u64>,
-    count: usize,
-    at: &[u64],
-    hz: &[f64],
+    readings: &[Reading],
     out: &mut [f64],
 ) -> usize
-    requires { Rate rate × Index longest_stream from × Lined count at.now hz.now out.old }
-    ensures { (result ≡ marked (map (late rate from) (take count at.now)))
-        × (out.new ≡ gathered (map (late rate from) (take count at.now)) hz.now out.old) }
+    requires { Index longest_stream from × Small (ats readings.now) × (length readings.now ≤ length out.old) }
+    ensures { Front (hzs (retained (map (late stream.rate from) (ats readings.now)) readings.now)) out.old result out.new }
 {
     let mut w = 0usize;
-    for i in 0..count {
-        if frequency_signal::is_late(rate, from, at[i]) {
-            out[w] = hz[i];
-            w += 1;
-        }
+    for x in readings {
+        w = frequency_lists::put(stream.is_late(from, x.at), w, x.hz, out);
     }
     w
 }
 
-// The median of the first m: index m / 2 of their order (median).
-pub fn median_of(xs: &[f64], m: usize) -> f64
-    requires { (0 < m) × (m ≤ length xs.now) × (no_nan (take m xs.now) ≡ true) }
-    ensures { result ≡ median (take m xs.now) }
+// The median: index length / 2 of their order (median).
+pub fn median_of(xs: &[f64]) -> f64
+    requires { (0 < length xs.now) × (no_nan xs.now ≡ true) }
+    ensures { result ≡ median xs.now }
 {
-    let part = &xs[..m];
-    order::select(part, m / 2)
+    order::select(xs, xs.len() / 2)
 }
 
 // (x + 0.5).floor() as an index.
@@ -74,71 +79,54 @@ fn sample_of(x: f64) -> u64
     floats::to_usize_saturating(floats::round_half_up(x)) as u64
 }
 
-// The first sample of a frame whose readings are trusted.
-fn first_of(rate: u32, time: f64) -> u64
-    ensures { result ≡ first_of rate time }
-{
-    sample_of((time + SETTLE_S) * (rate as f64))
-}
+impl Trusted {
+    // From SETTLE_S into the frame to its end.
+    fn of(rate: u32, f: FrameSpan) -> Self
+        ensures first { result.first ≡ first_of rate f.time }
+        ensures past { result.past ≡ past_of rate f.end }
+    {
+        Trusted {
+            first: sample_of((f.time + SETTLE_S) * (rate as f64)),
+            past: sample_of(f.end * (rate as f64)),
+        }
+    }
 
-// The first sample past a frame.
-fn past_of(rate: u32, end: f64) -> u64
-    ensures { result ≡ past_of rate end }
-{
-    sample_of(end * (rate as f64))
-}
+    fn has(self, at: u64) -> bool
+        ensures { result ≡ inside self.first self.past at }
+    {
+        let a = self.first <= at;
+        let b = at < self.past;
+        a & b
+    }
 
-fn is_inside(first: u64, past: u64, at: u64) -> bool
-    ensures { result ≡ inside first past at }
-{
-    let a = first <= at;
-    let b = at < past;
-    a & b
+    // Whether a reading is one of the frame, against the receiver frequency `lo`.
+    fn has_against(self, lo: u32, x: Reading) -> bool
+        ensures { result ≡ (inside self.first self.past x.at && eqb x.lo lo) }
+    {
+        let same = x.lo == lo;
+        self.has(x.at) & same
+    }
 }
 
 // The receiver frequency of a frame's last reading, or none where it has no reading.
-fn last_lo(first: u64, past: u64, count: usize, at: &[u64], lo: &[u32]) -> Option<u32>
-    requires { (count ≤ length at.now) × (count ≤ length lo.now) }
-    ensures { IsLast (map (inside first past) (take count at.now)) lo.now result }
+fn last_lo(frame: Trusted, readings: &[Reading]) -> Option<u32>
+    ensures { result ≡ last_or None (los (in_frame frame.first frame.past readings.now)) }
 {
     let mut last = None;
-    for i in 0..count {
-        if is_inside(first, past, at[i]) {
-            last = Some(lo[i]);
-        }
+    for x in readings {
+        last = whole::pick(frame.has(x.at), Some(x.lo), last);
     }
     last
 }
 
-// Whether a reading lies in the frame, against the receiver frequency last.
-fn is_of(first: u64, past: u64, last: u32, at: u64, lo: u32) -> bool
-    ensures { result ≡ (inside first past at && eqb lo last) }
-{
-    let same = lo == last;
-    is_inside(first, past, at) & same
-}
-
 // The frequencies of a frame's readings against one receiver frequency, in front of the scratch.
-fn gather_frame(
-    first: u64,
-    past: u64,
-    last: u32,
-    count: usize,
-    at: &[u64],
-    lo: &[u32],
-    hz: &[f64],
-    out: &mut [f64],
-) -> usize
-    requires { Rows count at.now lo.now hz.now out.old }
-    ensures { (result ≡ marked (ands (map (inside first past) (take count at.now)) (map (λ (x : ℕ). eqb x last) (take count lo.now))))
-        × (out.new ≡ gathered (ands (map (inside first past) (take count at.now)) (map (λ (x : ℕ). eqb x last) (take count lo.now))) hz.now out.old) }
+fn gather_frame(frame: Trusted, lo: u32, readings: &[Reading], out: &mut [f64]) -> usize
+    requires { length readings.now ≤ length out.old }
+    ensures { Front (hzs (of_frame frame.first frame.past lo readings.now)) out.old result out.new }
 {
     let mut w = 0usize;
-    for i in 0..count {
-        if is_of(first, past, last, at[i], lo[i]) {
-            out[w] = hz[i];
-            w += 1;
-        }
+    for x in readings {
+        w = frequency_lists::put(frame.has_against(lo, *x), w, x.hz, out);
     }
     w
 }
@@ -146,27 +134,22 @@ fn gather_frame(
 // A frame's frequency against the last receiver frequency used during it, of five readings or more (frame_frequency).
 pub fn frame_of(
     rate: u32,
-    time: f64,
-    end: f64,
-    count: usize,
-    at: &[u64],
-    lo: &[u32],
-    hz: &[f64],
+    f: FrameSpan,
+    readings: &[Reading],
     out: &mut [f64],
 ) -> Option<FrameFrequency>
-    requires { Free count at.now lo.now hz.now out.old }
-    ensures { (result ≡ frame_by rate time end (take count at.now) (take count lo.now) (take count hz.now)) × (length out.new ≡ length out.old) }
+    requires { Free readings.now out.old }
+    ensures { (result ≡ frame_frequency rate readings.now f.time f.end) × (length out.new ≡ length out.old) }
 {
-    let first = first_of(rate, time);
-    let past = past_of(rate, end);
-    let last = last_lo(first, past, count, at, lo)?;
-    let m = gather_frame(first, past, last, count, at, lo, hz, out);
+    let frame = Trusted::of(rate, f);
+    let lo = last_lo(frame, readings)?;
+    let m = gather_frame(frame, lo, readings, out);
     if m < FEWEST {
         return None;
     }
     Some(FrameFrequency {
-        hz: median_of(out, m),
-        lo: last,
+        hz: median_of(&out[..m]),
+        lo,
     })
 }
 

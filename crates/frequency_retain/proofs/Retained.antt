@@ -6,70 +6,70 @@ use Prim.Native.Nat.{ℕ, ◌+◌, ◌-◌, ◌^◌, ◌≤◌, ◌<◌}
 use native.Mathlib.Omega.{arith}
 use borrow.Author.Tests.{le-leb, leb-false, ltb-true, ltb-false}
 use lib.Dec.{leb, ltb}
-use lib.ListN.{length, take, get_or}
-use lib.Seq.{get_or-take, length-take-le}
-use lib.Ieee.{Float}
+use lib.Seq.{take_all}
+use lib.ListN.{length, take, drop, get_or, length-map, length-drop}
+use Rattle.std.proofs.lemmas.List.{drop-map, get_or-drop}
 use Rattle.std.specs.Prelude.{IfSome}
 use Rattle.std.specs.Bool.{then_some}
-use Rattle.frequency_lists.specs.Marks.{marked, gathered}
-use Rattle.frequency_lists.specs.Lists.{Reaches}
-use Rattle.frequency_lists.proofs.Reach.{up_to_all}
+use Rattle.frequency_lists.specs.declared.Reading.{Reading}
+use Rattle.frequency_lists.specs.Lists.{Small, Reaches, ReachesAll, ats}
+use Rattle.frequency_lists.proofs.Gather.{map_at}
+use Rattle.frequency_lists.proofs.Reach.{read_up_to_all}
 use Rattle.frequency_signal.specs.Seconds.{kept}
-use Rattle.frequency_retain.specs.Retain.{moved, Held, Leads, Looked, Moved, Compacted}
-use Rattle.frequency_retain.proofs.Shifting.{stay_marks, marks-size, stay_at, same_marks, split-marks, gathered-late}
+use Rattle.frequency_retain.specs.Retain.{moved, Leads, Looked, Compacted}
+use Rattle.frequency_retain.proofs.Shifting.{same_marks, split-marks, gathered-late}
 
-module _ (rate n count oldest : ℕ) (at lo : List ℕ) (hz : List Float) (H : Held count at lo hz) (K : (a : ℕ) → a ≤ 2 ^ 41 → kept rate n a ≡ leb oldest a) where
-  marks_are : map (kept rate n) (take count at) ≡ stay_marks oldest count at H.ats
-  marks_are = same_marks (kept rate n) (leb oldest) (take count at) (λ i h. K (get_or (take count at) i 0) (small i h))
-    where
-      small : (i : ℕ) → i < length (take count at) → get_or (take count at) i 0 ≤ 2 ^ 41
-      small i h =
-          let k : i < count = subst (λ (z : ℕ). i < z) (length-take-le count at H.ats) h in
-          subst (λ (z : ℕ). z ≤ 2 ^ 41) (sym (get_or-take count at i 0 k)) (H.small i k)
+module _ (rate n oldest : ℕ) (l : List Reading) (S : Small (ats l)) (K : (a : ℕ) → a ≤ 2 ^ 41 → kept rate n a ≡ leb oldest a) where
+  marks_are : map (kept rate n) (ats l) ≡ map (leb oldest) (ats l)
+  marks_are = same_marks (kept rate n) (leb oldest) (ats l) (λ i h. K (get_or (ats l) i 0) (S i h))
 
-  module _ (lead : ℕ) (L : Leads oldest count lead at) where
-    split : lead + marked (stay_marks oldest count at H.ats) ≡ length (stay_marks oldest count at H.ats)
-    split =
-        let s = marks-size oldest count at H.ats in
-        let f = L.leads in
-        split-marks lead (stay_marks oldest count at H.ats) (omega arith)
-        (λ i h. stay_at oldest count at H.ats i (omega arith) ∙ L.gone i h)
-        (λ i a b. let k : i < count = omega arith in stay_at oldest count at H.ats i k ∙ L.stay i a k)
+  size : length (map (leb oldest) (ats l)) ≡ length l
+  size = length-map (ats l) (leb oldest) ∙ length-map l (λ (x : Reading). x.at)
 
-    late : {X : Type 0} (l : List X) → gathered (stay_marks oldest count at H.ats) l l ≡ moved lead (count - lead) l
-    late l =
-        let s = marks-size oldest count at H.ats in
-        let f = L.leads in
-        gathered-late lead (stay_marks oldest count at H.ats) l (λ i h. stay_at oldest count at H.ats i (omega arith) ∙ L.gone i h) split
-        ∙ ap (λ (m : ℕ). moved lead (m - lead) l) s
+  pub front_goes : (lead : ℕ) → Leads oldest lead (ats l) → (r : ℕ) (l' : List Reading) → r ≡ length l - lead → l' ≡ moved lead (length l - lead) l
+      → Compacted (map (kept rate n) (ats l)) l r l'
+  front_goes lead L r l' c m =
+      let s = size in
+      let t = length-map l (λ (x : Reading). x.at) in
+      let f = L.leads in
+      let at : (i : ℕ) → i < length l → get_or (map (leb oldest) (ats l)) i false ≡ leb oldest (get_or (ats l) i 0) = λ i h. map_at (leb oldest) (ats l) i 0 false (omega arith) in
+      let front : (i : ℕ) → i < lead → get_or (map (leb oldest) (ats l)) i false ≡ false = λ i h. at i (omega arith) ∙ L.gone i h in
+      let e = split-marks lead (map (leb oldest) (ats l)) (omega arith) front (λ i a b. at i (omega arith) ∙ L.stay i a (omega arith)) in
+      subst (λ (b : List Bool). Compacted b l r l') (sym marks_are) (record {
+        count = omega arith;
+        list = m ∙ sym (gathered-late lead (map (leb oldest) (ats l)) l front e ∙ ap (λ (k : ℕ). moved lead (k - lead) l) s);
+      })
 
-    pub front_goes : (at' lo' : List ℕ) (hz' : List Float) → Moved lead count at lo hz at' lo' hz' → Compacted (map (kept rate n) (take count at)) at lo hz (count - lead) at' lo' hz'
-    front_goes at' lo' hz' m =
-        let s = marks-size oldest count at H.ats in
-        let e = split in
-        subst (λ (b : List Bool). Compacted b at lo hz (count - lead) at' lo' hz') (sym marks_are) (record {
-          count = omega arith;
-          ats = m.ats ∙ sym (late at);
-          los = m.los ∙ sym (late lo);
-          hzs = m.hzs ∙ sym (late hz);
-        })
+-- what `spread` finds past the leading ones
+from_lead : (low far lead : ℕ) (l : List Reading) → ReachesAll low far (ats (take (length l - lead) (drop lead l))) → (i : ℕ) → lead ≤ i → i < length (ats l) → Reaches low far (get_or (ats l) i 0)
+from_lead low far lead l R i a b =
+    let d = drop-map (λ (x : Reading). x.at) lead l in
+    let m : lead + (i - lead) ≡ i = omega arith in
+    let n = length-drop lead l in
+    let t : take (length l - lead) (drop lead l) ≡ drop lead l = take_all (length l - lead) (drop lead l) (omega arith) in
+    let e : get_or (ats (drop lead l)) (i - lead) 0 ≡ get_or (ats l) i 0 = ap (λ (z : List ℕ). get_or z (i - lead) 0) (sym d) ∙ get_or-drop lead (ats l) (i - lead) 0 ∙ ap (λ (k : ℕ). get_or (ats l) k 0) m in
+    let k = length-map (drop lead l) (λ (x : Reading). x.at) in
+    let s = length-map l (λ (x : Reading). x.at) in
+    let r = subst (λ (z : List Reading). ReachesAll low far (ats z)) t R in
+    subst (λ (z : ℕ). Reaches low far z) e (r (i - lead) (omega arith))
 
 -- what `leading` and `spread` find
-pub leads_of : (low count lead far : ℕ) (at : List ℕ) → lead ≤ count → ((i : ℕ) → i < lead → leb low (get_or at i 0) ≡ false) → ((i : ℕ) → lead ≤ i → i < count → Reaches low far (get_or at i 0)) → far + low < 2 ^ 64
-    → Leads low count lead at
-leads_of low count lead far at L F R S = record { leads = L; gone = F; stay = λ i a b. le-leb low (get_or at i 0) ((R i a b).1 S) }
+pub leads_of : (low lead far : ℕ) (l : List Reading) → lead ≤ length l → ((i : ℕ) → i < lead → leb low (get_or (ats l) i 0) ≡ false) → ReachesAll low far (ats (take (length l - lead) (drop lead l))) → far + low < 2 ^ 64
+    → Leads low lead (ats l)
+leads_of low lead far l L F R S =
+    let t = length-map l (λ (x : Reading). x.at) in
+    record { leads = omega arith; gone = F; stay = λ i a b. le-leb low (get_or (ats l) i 0) ((from_lead low far lead l R i a b).1 S) }
 
-pub looked_of : (low limit count lead far : ℕ) (at : List ℕ) → count ≤ length at → lead ≤ count → low ≤ limit → limit < 2 ^ 64 → ((i : ℕ) → i < lead → leb low (get_or at i 0) ≡ false)
-    → ((i : ℕ) → lead ≤ i → i < count → Reaches low far (get_or at i 0)) → far ≤ limit - low → Looked low limit count lead at
-looked_of low limit count lead far at H L W U F R S = record {
-  held = H;
-  front = leads_of low count lead far at L F R (omega arith);
-  within = up_to_all limit at count H (λ i k. go i k (ltb i lead) (ltb-true i lead) (ltb-false i lead));
+pub looked_of : (low limit lead far : ℕ) (l : List Reading) → lead ≤ length l → low ≤ limit → limit < 2 ^ 64 → ((i : ℕ) → i < lead → leb low (get_or (ats l) i 0) ≡ false)
+    → ReachesAll low far (ats (take (length l - lead) (drop lead l))) → far ≤ limit - low → Looked low limit lead l
+looked_of low limit lead far l L W U F R S = record {
+  front = leads_of low lead far l L F R (omega arith);
+  within = read_up_to_all limit l (λ i k. go i k (ltb i lead) (ltb-true i lead) (ltb-false i lead));
 }
   where
-    go : (i : ℕ) → i < count → (t : Bool) → (t ≡ true → i < lead) → (t ≡ false → lead ≤ i) → get_or at i 0 ≤ limit
-    go i k true p q = let z = leb-false low (get_or at i 0) (F i (p refl)) in omega arith
-    go i k false p q = let z = (R i (q refl) k).0 in omega arith
+    go : (i : ℕ) → i < length (ats l) → (t : Bool) → (t ≡ true → i < lead) → (t ≡ false → lead ≤ i) → get_or (ats l) i 0 ≤ limit
+    go i k true p q = let z = leb-false low (get_or (ats l) i 0) (F i (p refl)) in omega arith
+    go i k false p q = let z = (from_lead low far lead l R i (q refl) k).0 in omega arith
 
 -- what holds of a value where a test passes, of what `then_some` makes of them
 pub if-then_some : {A : Type 0} (P : A → Type 0) (t : Bool) (x : A) → (t ≡ true → P x) → IfSome (then_some t x) P

@@ -6,7 +6,7 @@ ghost use Rattle.std.specs.Prelude.{◌≡◌, ◌+◌, ◌^◌, ◌<◌, ◌≤
 ghost use Rattle.limits.specs.Limits.{longest_stream};
 ghost use Rattle.limits.specs.Samples.{is_dbm};
 ghost use Rattle.frequency_signal.specs.Seconds.{Rate, gap, quiet, young, late, settling, kept, oldest_of};
-ghost use Rattle.frequency_signal.specs.Heard.{loud, soft, hear, heard};
+ghost use Rattle.frequency_signal.specs.Heard.{hear, heard};
 ghost use Rattle.frequency_signal.specs.Order.{Index, index_ok, floor_ok, signal_ok};
 
 // A sample this far above the noise floor counts as signal.
@@ -36,67 +36,78 @@ pub struct Signal {
     pub retuned: bool,
 }
 
-// Whether the last signal is more than GAP_S ago.
-pub fn is_gap(rate: u32, n: u64, last: Option<u64>) -> bool
-    requires { Rate rate × (n ≤ longest_stream) × Index n last }
-    ensures { result ≡ gap rate n last }
-{
-    match last {
-        None => true,
-        Some(s) => TENTHS * (n - s) > GAP_TENTHS * (rate as u64),
+// A stream's rate, which is right, and how many samples it has, which are not too many.
+#[derive(Clone, Copy)]
+pub struct Stream {
+    pub rate: u32,
+    pub n: u64,
+    pub ghost right: { Rate rate },
+    pub ghost short: { n ≤ longest_stream },
+}
+
+impl Stream {
+    // Whether the last signal is more than GAP_S ago.
+    pub fn is_gap(self, last: Option<u64>) -> bool
+        requires { Index self.n last }
+        ensures { result ≡ gap self.rate self.n last }
+    {
+        match last {
+            None => true,
+            Some(s) => TENTHS * (self.n - s) > GAP_TENTHS * (self.rate as u64),
+        }
+    }
+
+    // Whether the last signal is more than QUIET_S ago.
+    pub fn is_quiet(self, last: Option<u64>) -> bool
+        requires { Index self.n last }
+        ensures { result ≡ quiet self.rate self.n last }
+    {
+        match last {
+            None => true,
+            Some(s) => self.n - s > QUIET_S * (self.rate as u64),
+        }
+    }
+
+    // Whether the frame started less than SETTLE_S ago.
+    pub fn is_young(self, from: Option<u64>) -> bool
+        requires { Index self.n from }
+        ensures { result ≡ young self.rate self.n from }
+    {
+        match from {
+            None => TENTHS * (self.n + 1) < SETTLE_TENTHS * (self.rate as u64),
+            Some(s) => TENTHS * (self.n - s) < SETTLE_TENTHS * (self.rate as u64),
+        }
+    }
+
+    // Whether a reading is at least GAP_S into the frame.
+    pub fn is_late(self, from: Option<u64>, at: u64) -> bool
+        requires { Index longest_stream from × (at ≤ 2 ^ 41) }
+        ensures { result ≡ late self.rate from at }
+    {
+        match from {
+            None => GAP_TENTHS * (self.rate as u64) <= TENTHS * at + TENTHS,
+            Some(s) => TENTHS * s + GAP_TENTHS * (self.rate as u64) <= TENTHS * at,
+        }
+    }
+
+    // Whether a value is read less than SETTLE_S after a retune: the register is still catching up.
+    pub fn is_settling(self, tuned_at: u64, at: u64) -> bool
+        requires { (tuned_at ≤ longest_stream) × (at ≤ 2 ^ 41) }
+        ensures { result ≡ settling self.rate tuned_at at }
+    {
+        TENTHS * at < TENTHS * tuned_at + SETTLE_TENTHS * (self.rate as u64)
+    }
+
+    // Whether what was at a sample is of the last KEEP_S.
+    pub fn is_kept(self, at: u64) -> bool
+        requires { at ≤ 2 ^ 41 }
+        ensures { result ≡ kept self.rate self.n at }
+    {
+        self.n <= at + KEEP_S * (self.rate as u64)
     }
 }
 
-// Whether the last signal is more than QUIET_S ago.
-pub fn is_quiet(rate: u32, n: u64, last: Option<u64>) -> bool
-    requires { Rate rate × (n ≤ longest_stream) × Index n last }
-    ensures { result ≡ quiet rate n last }
-{
-    match last {
-        None => true,
-        Some(s) => n - s > QUIET_S * (rate as u64),
-    }
-}
-
-// Whether the frame started less than SETTLE_S ago.
-pub fn is_young(rate: u32, n: u64, from: Option<u64>) -> bool
-    requires { Rate rate × (n ≤ longest_stream) × Index n from }
-    ensures { result ≡ young rate n from }
-{
-    match from {
-        None => TENTHS * (n + 1) < SETTLE_TENTHS * (rate as u64),
-        Some(s) => TENTHS * (n - s) < SETTLE_TENTHS * (rate as u64),
-    }
-}
-
-// Whether a reading is at least GAP_S into the frame.
-pub fn is_late(rate: u32, from: Option<u64>, at: u64) -> bool
-    requires { Rate rate × Index longest_stream from × (at ≤ 2 ^ 41) }
-    ensures { result ≡ late rate from at }
-{
-    match from {
-        None => GAP_TENTHS * (rate as u64) <= TENTHS * at + TENTHS,
-        Some(s) => TENTHS * s + GAP_TENTHS * (rate as u64) <= TENTHS * at,
-    }
-}
-
-// Whether a value is read less than SETTLE_S after a retune: the register is still catching up.
-pub fn is_settling(rate: u32, tuned_at: u64, at: u64) -> bool
-    requires { Rate rate × (tuned_at ≤ longest_stream) × (at ≤ 2 ^ 41) }
-    ensures { result ≡ settling rate tuned_at at }
-{
-    TENTHS * at < TENTHS * tuned_at + SETTLE_TENTHS * (rate as u64)
-}
-
-// Whether what was at a sample is of the last KEEP_S.
-pub fn is_kept(rate: u32, n: u64, at: u64) -> bool
-    requires { Rate rate × (n ≤ longest_stream) × (at ≤ 2 ^ 41) }
-    ensures { result ≡ kept rate n at }
-{
-    n <= at + KEEP_S * (rate as u64)
-}
-
-// The oldest index of the last KEEP_S.
+// The oldest index of the last KEEP_S; it asks nothing of the rate, since a look comes before the causes.
 pub fn oldest(rate: u32, n: u64) -> u64
     ensures { result ≡ oldest_of rate n }
 {
@@ -107,42 +118,29 @@ pub fn oldest(rate: u32, n: u64) -> u64
     n - keep
 }
 
-fn hear_loud(rate: u32, s: Signal, f: f64) -> Signal
-    requires { Rate rate × (s.n < longest_stream) × Index s.n s.last_signal }
-    ensures { result ≡ loud rate s f }
-{
-    let n = s.n;
-    Signal {
-        n: n + 1,
-        floor: Some(f),
-        frame_from: whole::pick(is_gap(rate, n, s.last_signal), Some(n), s.frame_from),
-        last_signal: Some(n),
-        retuned: whole::pick(is_quiet(rate, n, s.last_signal), false, s.retuned),
-    }
-}
-
-fn hear_soft(rate: u32, s: Signal, f: f64, v: f64) -> Signal
-    requires { s.n < longest_stream }
-    ensures { result ≡ soft rate s f v }
-{
-    Signal {
-        n: s.n + 1,
-        floor: Some(f + (v - f) / (rate as f64)),
-        ..s
-    }
-}
-
-// One sample of `samples`.
+// One sample of `samples`: one over the floor by more than ABOVE_DB is signal, any other moves the floor.
 fn hear_one(rate: u32, s: Signal, x: f32) -> Signal
     requires { Rate rate × (s.n < longest_stream) × Index s.n s.last_signal }
     ensures { result ≡ hear rate s x }
 {
     let v = std::num::f32_to_f64_with_nan(x);
     let f = s.floor.unwrap_or(v);
+    let n = s.n;
     if v > f + ABOVE_DB {
-        return hear_loud(rate, s, f);
+        let stream = Stream { rate, n };
+        return Signal {
+            n: n + 1,
+            floor: Some(f),
+            frame_from: whole::pick(stream.is_gap(s.last_signal), Some(n), s.frame_from),
+            last_signal: Some(n),
+            retuned: whole::pick(stream.is_quiet(s.last_signal), false, s.retuned),
+        };
     }
-    hear_soft(rate, s, f, v)
+    Signal {
+        n: n + 1,
+        floor: Some(f + (v - f) / (rate as f64)),
+        ..s
+    }
 }
 
 // A line of samples: the loop of `samples`.

@@ -1,6 +1,6 @@
 -- The first span that has a rank, found by a loop. Assumes nothing.
 use Rattle.std.proofs.Common.{◌≡◌, ℕ, ◌+◌, ◌<◌, ◌≤◌, List, length, get_or, drop, None, refl, add-one, drop-cons, drop_of_length-le, eq-eqb, ne_eqb}
-use Rattle.frequency_lists.specs.Lists.{Reading}
+use Rattle.frequency_lists.specs.declared.Reading.{Reading}
 use Rattle.record.specs.declared.FrameSpan.{FrameSpan}
 use Rattle.frequency_measure.specs.Measured.{frame_frequency, of_rank}
 

@@ -2,14 +2,16 @@
 // range of a step handed in.
 #![tactic(auto)]
 
-ghost use Rattle.std.specs.Prelude.{◌≡◌, cond, not, true, ◌&&◌, ◌∷◌, [], ◌+◌, ◌≤◌, length, take, eqb};
-ghost use Rattle.frequency_lists.specs.Lists.{last_or, fits_tunings};
+ghost use Rattle.std.specs.Prelude.{◌≡◌, cond, not, true, ◌&&◌, ◌∷◌, [], ◌+◌, ◌≤◌, length, eqb};
+ghost use Rattle.frequency_lists.specs.Lists.{last_or, freqs, fits_tunings};
 ghost use Rattle.frequency_measure.specs.Gathered.{Free};
-ghost use Rattle.frequency_measure.specs.Measured.{of_rank, readings_of};
+ghost use Rattle.frequency_measure.specs.Measured.{of_rank};
 ghost use Rattle.frequency_tuning.specs.Steps.{Steady, answered, waits, unless, target, asked, retunes};
 ghost use Rattle.frequency_tuning.specs.Ranges.{step_ok};
 
+use frequency_lists::{Reading, Tuning};
 use frequency_measure::FrameFrequency;
+use frequency_signal::{Signal, Stream};
 use record::FrameSpan;
 
 // The Hz of a CFO step lie between 0 and this.
@@ -33,22 +35,21 @@ pub fn step_ok(x: f64) -> bool
 }
 
 // Whether a frequency is a new tuning (freq != self.freq() || self.tuning.is_empty()).
-pub fn is_due(base: u32, hz: u32, count: usize, freq: &[u32]) -> bool
-    requires { count ≤ length freq.now }
-    ensures { result ≡ cond (eqb count 0) true (not (eqb hz (last_or base (take count freq.now)))) }
+pub fn is_due(base: u32, hz: u32, tunings: &[Tuning]) -> bool
+    ensures { result ≡ cond (eqb (length tunings.now) 0) true (not (eqb hz (last_or base (freqs tunings.now)))) }
 {
-    if count == 0 {
+    if tunings.is_empty() {
         return true;
     }
-    hz != frequency_lists::last_freq(base, count, freq)
+    hz != frequency_lists::last_freq(base, tunings)
 }
 
 // Whether a tuning is due and none is free.
-pub fn no_room(due: bool, count: usize, tuned: &[u64], freq: &[u32]) -> bool
-    requires { count ≤ length tuned.now }
-    ensures { result ≡ due && not (fits_tunings (count + 1) tuned.now freq.now) }
+pub fn no_room(due: bool, count: usize, tunings: &[Tuning]) -> bool
+    requires { count ≤ length tunings.now }
+    ensures { result ≡ due && not (fits_tunings (count + 1) tunings.now) }
 {
-    let room = frequency_lists::fits_tunings(count + 1, tuned, freq);
+    let room = frequency_lists::fits_tunings(count + 1, tunings);
     due & !room
 }
 
@@ -61,13 +62,14 @@ pub fn answer(requested: Option<u32>, hz: u32) -> Option<u32>
 }
 
 // Whether a frame is heard whose frequency is not known yet.
-pub fn is_waiting(rate: u32, s: frequency_signal::Signal) -> bool
+pub fn is_waiting(rate: u32, s: Signal) -> bool
     requires { Steady rate s }
     ensures { result ≡ waits rate s }
 {
+    let stream = Stream { rate, n: s.n };
     let a = !s.retuned;
-    let b = !frequency_signal::is_gap(rate, s.n, s.last_signal);
-    let c = !frequency_signal::is_young(rate, s.n, s.frame_from);
+    let b = !stream.is_gap(s.last_signal);
+    let c = !stream.is_young(s.frame_from);
     a & (b & c)
 }
 
@@ -111,18 +113,15 @@ pub fn of_rank(
     rate: u32,
     rank: u8,
     spans: &[FrameSpan],
-    count: usize,
-    at: &[u64],
-    lo: &[u32],
-    hz: &[f64],
+    readings: &[Reading],
     out: &mut [f64],
 ) -> Option<FrameFrequency>
-    requires { Free count at.now lo.now hz.now out.old }
-    ensures { (result ≡ of_rank rate (readings_of (take count at.now) (take count lo.now) (take count hz.now)) spans.now rank) × (length out.new ≡ length out.old) }
+    requires { Free readings.now out.old }
+    ensures { (result ≡ of_rank rate readings.now spans.now rank) × (length out.new ≡ length out.old) }
 {
     for s in spans {
         if s.rank == rank {
-            return frequency_measure::frame_of(rate, s.time, s.end, count, at, lo, hz, out);
+            return frequency_measure::frame_of(rate, *s, readings, out);
         }
     }
     None

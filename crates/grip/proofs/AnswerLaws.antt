@@ -1,6 +1,6 @@
 -- What the calls answer, a law for each way through them. Assumes nothing.
 use mathlib.Core.Path.{◌≡◌, refl, ap, ◌∙◌}
-use mathlib.Core.Bool.{Bool, true, false, ◌&&◌}
+use mathlib.Core.Bool.{Bool, true, false, cond, ◌&&◌}
 use mathlib.Core.List.{List, []}
 use Prim.Native.Nat.{ℕ, ◌≤◌, ◌<◌}
 use native.Mathlib.Omega.{arith}
@@ -14,7 +14,7 @@ use Rattle.std.specs.Result.{IsErrAnd}
 use Rattle.limits.specs.declared.Refusal.{Refusal}
 use Rattle.limits.specs.declared.Refusal.TheVariants.{Short, Long, BadRecords, BadTime}
 use Rattle.limits.specs.Refusals.{number_of}
-use Rattle.limits.proofs.AnswerLaws.{said_at_exit}
+use Rattle.limits.proofs.AnswerLaws.{said_at_exit, said_refused, lent_refused, number-positive}
 use Rattle.limits.specs.Limits.{bad_records, most_record_bytes}
 use Rattle.limits.specs.Answer.{said, said_by, accepted, answer, number, leaves}
 use Rattle.limits.proofs.Samples.{and_left, and_right}
@@ -106,6 +106,18 @@ module _ (l : List ℕ) (grip within : Float) where
 
 -- ---- the messages on air
 
+-- what the pass over the records says of their test
+pub pass_bad : (ok : Bool) (e : Refusal) → number_of e ≡ cond ok 0 bad_records → ok ≡ false
+pass_bad true e h = absurd (number-positive e h)
+pass_bad false e h = refl
+
+pub pass-ok : (ok : Bool) → 0 ≡ cond ok 0 bad_records → ok ≡ true
+pass-ok true h = refl
+pass-ok false h = absurd (never h)
+  where
+    never : ◌≡◌ {A = ℕ} 0 12 → ⊥
+    never e = omega arith
+
 module _ (l : List ℕ) (x : Float) (numbers : List ℕ) where
   abbrev Hears : Result ℕ Refusal → List ℕ → Type 0
   Hears r after =
@@ -122,9 +134,12 @@ module _ (l : List ℕ) (x : Float) (numbers : List ℕ) where
     hears-long h = rw (le-ltb (length numbers) (wholes l) a, lt-ltb most_record_bytes (length l) h) (refl, refl)
 
     module _ (b : length l ≤ most_record_bytes) where
-      pub hears-bad : list_ok l ≡ false → Hears (Err BadRecords) numbers
-      unfolding said_by air_cause answer number leaves
-      hears-bad h = rw (le-ltb (length numbers) (wholes l) a, le-ltb most_record_bytes (length l) b, h) (refl, refl)
+      pub hears-bad : (r : Result ℕ Refusal) (e : Refusal) → IsErrAnd r (λ y. y ≡ e) → number_of e ≡ cond (list_ok l) 0 bad_records → Hears r numbers
+      unfolding air_cause
+      hears-bad r e i h =
+          let f = pass_bad (list_ok l) e h in
+          let k : number_of e ≡ air_cause l x (length numbers) = rw (le-ltb (length numbers) (wholes l) a, le-ltb most_record_bytes (length l) b, f) (h ∙ ap (λ t. cond t 0 bad_records) f) in
+          (said_refused r e _ i k _, lent_refused r e i _ numbers)
 
       module _ (c : list_ok l ≡ true) where
         pub hears-time : is_finite x ≡ false → Hears (Err BadTime) numbers

@@ -8,7 +8,7 @@ use native.Mathlib.Numerals.{add-one}
 use native.Mathlib.Omega.{arith}
 use lib.Bits.{bit_or, or_shr, or_step}
 use lib.Dec.{eqb, ltb}
-use lib.ListN.{length, get_or, set, replicate, length-append, length-set}
+use lib.ListN.{length, get_or, set, replicate, length-append}
 use lib.Seq.{sets, get_or-set_same, get_or-set_other}
 use lib.Ieee.{Float}
 use borrow.Author.Tests.{eqb-true, eqb-false, eq-eqb, ne_eqb, ltb-true, ltb-false, lt-ltb, le-ltb}
@@ -96,10 +96,6 @@ with_mark_lem marks i j h = choose (eqb (j / 8) (i / 8)) (eqb-true (j / 8) (i / 
     choose false f g =
         ap (λ (n : ℕ). odd (n / 2 ^ (j % 8))) (get_or-set_other marks (i / 8) (j / 8) new 0 (g refl))
         ∙ ap (λ (t : Bool). t || mark_at marks j) (sym (ne_eqb j i (λ q. g refl (ap (λ (n : ℕ). n / 8) q))))
-
-pub length-mark : (t : Bool) (marks : List ℕ) (i : ℕ) → length (cond t (with_mark marks i) marks) ≡ length marks
-length-mark true marks i = length-set marks (i / 8) _
-length-mark false marks i = refl
 
 -- none is marked
 pub unmarked : (n : ℕ) → Unmarked (replicate n 0)

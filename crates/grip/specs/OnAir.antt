@@ -3,17 +3,18 @@ use Rattle.std.specs.Prelude.{ℕ, suc, Bool, cond, ◌&&◌, ◌||◌, not, Lis
 use Rattle.std.specs.Float.Ieee.{le, lt}
 use Rattle.limits.specs.Limits.{short, long, bad_records, bad_time, most_record_bytes}
 use Rattle.record.specs.Record.{no_rank}
-use Rattle.record.specs.Readers.{span_rank_of, span_time_of, span_end_of}
+use Rattle.record.specs.Readers.{span_at}
+use Rattle.record.specs.declared.FrameSpan.{FrameSpan}
 use Rattle.event_list.specs.Events.{wholes, events_of, is_message, list_ok}
 use Rattle.grip.specs.Times.{is_finite}
 
--- 'some span whose rank byte isn't 255 begins at or before it and ends after it': span i; a comparison with a NaN is false
-abbrev pub span_on : Float → List ℕ → ℕ → Bool
-span_on x r i = not (eqb (span_rank_of r i) no_rank) && (le (span_time_of r i) x && lt x (span_end_of r i))
+-- 'some span whose rank byte isn't 255 begins at or before it and ends after it': a span; a comparison with a NaN is false
+abbrev pub span_on : Float → FrameSpan → Bool
+span_on x s = not (eqb s.rank no_rank) && (le s.time x && lt x s.end)
 
 -- a message with such a span, among its three
 abbrev pub is_on_air : Float → List ℕ → Bool
-is_on_air x r = is_message r && (span_on x r 0 || (span_on x r 1 || span_on x r 2))
+is_on_air x r = is_message r && (span_on x (span_at r 0) || (span_on x (span_at r 1) || span_on x (span_at r 2)))
 
 -- 'their record numbers (from 0), rising': of records that are counted from k
 unfoldable pub air_from : ℕ → Float → List (List ℕ) → List ℕ

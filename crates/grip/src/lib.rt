@@ -16,6 +16,7 @@ ghost use Rattle.grip.specs.OnAir.{air_numbers, air_cause};
 ghost use Rattle.grip.specs.Reading.{read_part, found_of};
 
 use limits::Refusal;
+use record::read::EventRecord;
 
 // Bytes of marks for as many records as a call reads at most.
 const MARKS: usize = 125_000;
@@ -61,8 +62,9 @@ pub fn read_records(b: Best, records: &[u8], grip: f64, within: f64) -> Result<B
     let mut ok = records.len() % limits::RECORD == 0;
     let mut best = b;
     for r in records.chunks_exact(limits::RECORD) {
-        ok &= event_list::record_ok(r);
-        best = looking::looked_at(best, r, grip, within);
+        let event = EventRecord::new(r);
+        ok &= event_list::record_ok(event);
+        best = looking::looked_at(best, event, grip, within);
     }
     if !ok {
         return Err(Refusal::BadRecords);
@@ -107,9 +109,7 @@ pub fn on_air(records: &[u8], x: f64, numbers: &mut [u32]) -> Result<usize, Refu
         return Err(Refusal::Long);
     }
     let mut marks = [0u8; MARKS];
-    if !spans::mark_all(records, x, &mut marks) {
-        return Err(Refusal::BadRecords);
-    }
+    spans::mark_all(records, x, &mut marks)?;
     if !x.is_finite() {
         return Err(Refusal::BadTime);
     }

@@ -1,11 +1,10 @@
 // The nearest message of the records read so far.
-ghost use Rattle.std.specs.Prelude.{◌≡◌, ◌≤◌, ◌<◌, length};
-ghost use Rattle.limits.specs.Limits.{record_size};
+ghost use Rattle.std.specs.Prelude.{◌≡◌, ◌<◌};
 ghost use Rattle.event_list.specs.Events.{most_records};
 ghost use Rattle.grip.specs.Reading.{is_nearer, looked};
 
 use crate::{Best, Match};
-use record::read;
+use record::read::EventRecord;
 
 // Whether a message goes before the nearest one so far.
 fn is_nearer(nearest: Option<Match>, distance: f64, time: f64) -> bool
@@ -21,11 +20,11 @@ fn is_nearer(nearest: Option<Match>, distance: f64, time: f64) -> bool
 }
 
 // One more record is looked at.
-pub fn looked_at(b: Best, r: &[u8], grip: f64, within: f64) -> Best
-    requires { (record_size ≤ length r.now) × (b.count < most_records) }
-    ensures { result ≡ looked grip within b r.now }
+pub fn looked_at(b: Best, r: EventRecord, grip: f64, within: f64) -> Best
+    requires { b.count < most_records }
+    ensures { result ≡ looked grip within b r.entry.bytes.now }
 {
-    let time = read::time_of(r);
+    let time = r.time();
     let distance = floats::abs64(time - grip);
     let near = distance <= within;
     let qualifies = event_list::is_message(r) & (time.is_finite() & near);

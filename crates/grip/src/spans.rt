@@ -1,47 +1,53 @@
 // The messages on air across an instant.
-ghost use Rattle.std.specs.Prelude.{◌≡◌, ◌+◌, ◌*◌, ◌≤◌, ◌<◌, length};
+ghost use Rattle.std.specs.Prelude.{◌≡◌, cond, ◌+◌, ◌*◌, ◌≤◌, ◌<◌, length};
 ghost use Rattle.std.proofs.lemmas.List.Edits.{sets};
-ghost use Rattle.limits.specs.Limits.{record_size};
+ghost use Rattle.limits.specs.Limits.{bad_records};
+ghost use Rattle.limits.specs.Answer.{cause_of};
 ghost use Rattle.event_list.specs.Events.{wholes, list_ok, most_records};
 ghost use Rattle.grip.specs.OnAir.{span_on, is_on_air, air_numbers};
 ghost use Rattle.grip.specs.Marks.{Unmarked, number_if, marked_of};
 
 use crate::marks;
-use record::read;
+use limits::Refusal;
+use record::FrameSpan;
+use record::read::EventRecord;
 
-// Whether span i is there, begins at or before x and ends after it.
-fn span_on(x: f64, r: &[u8], i: usize) -> bool
-    requires { (record_size ≤ length r.now) × (i < 3) }
-    ensures { result ≡ span_on x r.now i }
+// Whether a span is there, begins at or before x and ends after it.
+fn span_on(x: f64, span: FrameSpan) -> bool
+    ensures { result ≡ span_on x span }
 {
-    let none = read::span_rank_of(r, i) == record::NO_RANK;
-    let begun = read::span_time_of(r, i) <= x;
-    let open = x < read::span_end_of(r, i);
-    !none & (begun & open)
+    let there = span.is_there();
+    let begun = span.time <= x;
+    let open = x < span.end;
+    there & (begun & open)
 }
 
-fn is_on_air(x: f64, r: &[u8]) -> bool
-    requires { record_size ≤ length r.now }
-    ensures { result ≡ is_on_air x r.now }
+fn is_on_air(x: f64, r: EventRecord) -> bool
+    ensures { result ≡ is_on_air x r.entry.bytes.now }
 {
     let message = event_list::is_message(r);
-    let first = span_on(x, r, 0);
-    let second = span_on(x, r, 1);
-    let third = span_on(x, r, 2);
+    let spans = r.spans();
+    let first = span_on(x, spans[0]);
+    let second = span_on(x, spans[1]);
+    let third = span_on(x, spans[2]);
     message & (first | (second | third))
 }
 
-// One pass over the records: each is tested for refusal 12, and marked where it is a message on air; whether 12 does not apply.
-pub fn mark_all(records: &[u8], x: f64, marks: &mut [u8]) -> bool
+// One pass over the records: each is tested for refusal 12, and marked where it is a message on air.
+pub fn mark_all(records: &[u8], x: f64, marks: &mut [u8]) -> Result<(), Refusal>
     requires { (wholes records.now ≤ 8 * length marks.old) × Unmarked marks.old }
-    ensures { (result ≡ list_ok records.now) × (marked_of (wholes records.now) marks.new ≡ air_numbers x records.now) }
+    ensures { (cause_of result ≡ cond (list_ok records.now) 0 bad_records) × (marked_of (wholes records.now) marks.new ≡ air_numbers x records.now) }
 {
     let mut ok = records.len() % limits::RECORD == 0;
     for (i, r) in records.chunks_exact(limits::RECORD).enumerate() {
-        ok &= event_list::record_ok(r);
-        marks::mark(marks, i, is_on_air(x, r));
+        let event = EventRecord::new(r);
+        ok &= event_list::record_ok(event);
+        marks::mark(marks, i, is_on_air(x, event));
     }
-    ok
+    if !ok {
+        return Err(Refusal::BadRecords);
+    }
+    Ok(())
 }
 
 // Record number i is noted behind the first n where it is marked.

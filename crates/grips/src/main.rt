@@ -43,11 +43,11 @@ fn say_why(rt: &(impl Eprint + Alloc), error: Error) {
     let _ = eprintln!(rt; "grips: the file of records: {words}");
 }
 
-fn print_nearest(rt: &impl Print, answer: Result<Option<usize>, Refusal>) -> bool {
+fn print_nearest(rt: &impl Print, answer: Result<Option<usize>, Refusal>) {
     match answer {
         Ok(Some(n)) => {
-            replay::print_number(rt, n as u64);
-            replay::print_end(rt)
+            replay::print_number(rt, n);
+            replay::print_end(rt);
         }
         Ok(None) => replay::print_none(rt),
         Err(refusal) => replay::print_refusal(rt, refusal),
@@ -58,7 +58,15 @@ fn print_nearest(rt: &impl Print, answer: Result<Option<usize>, Refusal>) -> boo
 fn print_unknown(rt: &impl Print, number: u64) -> bool {
     replay::print(rt, b"? ");
     replay::print_number(rt, number);
-    replay::print_end(rt)
+    replay::print_end(rt);
+    true
+}
+
+// The file of event records, and how far from a grip its message may be.
+#[derive(Drop)]
+struct Records<F> {
+    file: F,
+    within: f64,
 }
 
 // The record number for a grip of what was read.
@@ -89,44 +97,39 @@ fn read_for(rt: &impl Print, file: &mut impl Read, grip: f64, within: f64) -> Re
     Ok(())
 }
 
-// From the file's start on, for each grip anew.
-fn answer(
-    rt: &(impl Print + Eprint + Alloc),
-    file: &mut (impl Read + Seek),
-    grip: f64,
-    within: f64,
-) -> bool {
-    let start = file.seek(SeekFrom::Start(0));
-    if let Err(e) = read_for(rt, file, grip, within) {
-        say_why(rt, e);
-        return false;
+impl<F: Read + Seek> Records<F> {
+    // From the file's start on, for each grip anew.
+    fn answer(&mut self, rt: &(impl Print + Eprint + Alloc), grip: f64) -> bool {
+        let start = self.file.seek(SeekFrom::Start(0));
+        if let Err(e) = read_for(rt, &mut self.file, grip, self.within) {
+            say_why(rt, e);
+            return false;
+        }
+        if let Err(e) = start {
+            say_why(rt, e);
+            return false;
+        }
+        true
     }
-    if let Err(e) = start {
-        say_why(rt, e);
-        return false;
-    }
-    true
 }
 
-fn print_line(
+fn print_line<F: Read + Seek>(
     rt: &(impl Print + Eprint + Alloc),
     text: &[u8],
     number: u64,
-    file: &mut (impl Read + Seek),
-    within: f64,
+    records: &mut Records<F>,
 ) -> bool {
     match seconds::parse(text) {
-        Some(grip) => answer(rt, file, grip, within),
+        Some(grip) => records.answer(rt, grip),
         None => print_unknown(rt, number),
     }
 }
 
 // A line of the log and what it prints; false where nothing follows.
-fn turn(
+fn turn<F: Read + Seek>(
     rt: &(impl Input + Print + Eprint + Alloc),
     number: u64,
-    file: &mut (impl Read + Seek),
-    within: f64,
+    records: &mut Records<F>,
 ) -> bool {
     let mut line = [0u8; 64];
     match reading::next_line(rt, &mut line) {
@@ -134,20 +137,16 @@ fn turn(
         Err(_) => say_no_input(rt),
         Ok(Some(n)) => {
             if n <= MOST_LINE {
-                return print_line(rt, &line[..n], number, file, within);
+                return print_line(rt, &line[..n], number, records);
             }
             print_unknown(rt, number)
         }
     }
 }
 
-fn read_log(
-    rt: &(impl Input + Print + Eprint + Alloc),
-    file: &mut (impl Read + Seek),
-    within: f64,
-) {
+fn read_log<F: Read + Seek>(rt: &(impl Input + Print + Eprint + Alloc), records: &mut Records<F>) {
     for number in 1..replay::MOST_CASES {
-        if !turn(rt, number, file, within) {
+        if !turn(rt, number, records) {
             return;
         }
     }
@@ -173,7 +172,7 @@ fn main(rt: HostRuntime) {
         );
         return;
     };
-    let mut file = match open_records(&rt) {
+    let file = match open_records(&rt) {
         Ok(file) => file,
         Err(e) => {
             say_why(&rt, e);
@@ -185,5 +184,5 @@ fn main(rt: HostRuntime) {
         say_no_input(&rt);
         return;
     }
-    read_log(&rt, &mut file, within);
+    read_log(&rt, &mut Records { file, within });
 }

@@ -1,7 +1,9 @@
 // The numbers of 01's table of causes, and those that 02 adds: refusals, ranges and sizes, each under one name, and the tests of rates, samples and times that the modules share.
 #![tactic(auto)]
 
-ghost use Rattle.std.specs.Prelude.{◌≡◌, ◌&&◌};
+ghost use Rattle.std.specs.Prelude.{◌≡◌, ◌&&◌, cond, not};
+ghost use Rattle.limits.specs.Limits.{bad_rate};
+ghost use Rattle.limits.specs.Answer.{cause_of};
 ghost use Rattle.limits.specs.Refusals.{number_of};
 ghost use Rattle.limits.specs.Samples.{rate_ok, is_dbm, time_ok, all_dbm};
 
@@ -90,6 +92,17 @@ pub fn rate_ok(rate: u32) -> bool
     let low = LOWEST_RATE <= rate;
     let high = rate <= HIGHEST_RATE;
     low & high
+}
+
+// The first cause of calls with a rate.
+#[tactic(auto, unfolding(crate::specs::Answer::cause_of))]
+pub fn check_rate(rate: u32) -> Result<(), Refusal>
+    ensures { cause_of result ≡ cond (not (rate_ok rate)) bad_rate 0 }
+{
+    if !rate_ok(rate) {
+        return Err(Refusal::BadRate);
+    }
+    Ok(())
 }
 
 // Whether a sample, or a floor, lies in 01's range; a NaN doesn't.

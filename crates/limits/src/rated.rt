@@ -24,9 +24,7 @@ impl<'a> Samples<'a> {
         ensures cause { cause_of result ≡ samples_cause dbm.now rate }
         ensures same { IfOk result (λ s. (s.dbm.now ≡ dbm.now) × (s.rate ≡ rate)) }
     {
-        if !crate::rate_ok(rate) {
-            return Err(Refusal::BadRate);
-        }
+        crate::check_rate(rate)?;
         if crate::BUFFER_S * (rate as usize) < dbm.len() {
             return Err(Refusal::Long);
         }

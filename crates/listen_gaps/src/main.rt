@@ -2,5 +2,5 @@
 #![tactic(auto)]
 
 fn main(rt: HostRuntime) {
-    listening::run(&rt);
+    let _ = listening::run(&rt);
 }

@@ -1,12 +1,15 @@
 -- The input's buffer: what a read brings behind the bytes of before. Assumes nothing.
-use Prim.Native.Nat.{ℕ, ◌+◌, ◌*◌, ◌-◌, ◌/◌, ◌%◌, ◌≤◌, ◌<◌}
+use Prim.Native.Nat.{ℕ, ◌+◌, ◌*◌, ◌-◌, ◌/◌, ◌%◌, ◌≤◌}
 use mathlib.Core.Path.{◌≡◌, refl, subst, sym, ap, ap₂, ◌∙◌}
-use mathlib.Core.Bool.{Bool, true, false, not, ◌&&◌}
-use mathlib.Core.List.{List, [], ◌++◌, append_assoc, append-nil}
+use mathlib.Core.Bool.{Bool, true, false}
+use Rattle.std.specs.Result.{IsErrAnd}
+use Rattle.std.specs.Prelude.{Result, Err}
+use Rattle.std.proofs.lemmas.Result.{err_from_is_err_and}
+use mathlib.Core.List.{List, [], ◌++◌, append_assoc}
 use native.Mathlib.Omega.{arith}
 use lib.Dec.{ltb}
 use lib.ListN.{length, take, drop, replicate, length-append, length-drop, take-append-drop, drop_of_length-le}
-use lib.Seq.{drop-drop, take-add, drop_at, take-append-le, drop-append-le, length-take-le}
+use lib.Seq.{drop-drop, take-add, take_all, drop_at, take-append-le, drop-append-le, length-take-le}
 use lib.Ieee.{Float}
 use borrow.Author.Tests.{ltb-true, ltb-false}
 use Rattle.ledger.specs.Ledger as ledger
@@ -16,18 +19,17 @@ use Rattle.receiver.specs.State.{new_state}
 use Rattle.history.proofs.Calls.{fresh-stands}
 use Rattle.listening_lines.specs.Text.{Added}
 use Rattle.listening_tracker.specs.Turn.{reading_places}
-use Rattle.listening_receiver.specs.Hearing.{rate, most}
+use Rattle.listening_receiver.specs.Hearing.{rate}
 use Rattle.listening_receiver.specs.Standing.{StandsFor}
 use Rattle.listening_receiver.proofs.HearingLaws.{silence-length}
 use Rattle.listening.specs.declared.Listener.{Listener}
-use Rattle.listening.specs.declared.Listening.{Listening}
-use Rattle.listening.specs.declared.Reading.{Reading}
-use Rattle.listening.specs.Program.{record_bytes, tuning_places, zero64, ending, nothing_heard, after, Accepted}
+use Rattle.listening.specs.Program.{record_bytes, tuning_places, no_reading, no_tuning, ending, nothing_heard, after, Accepted}
+use Rattle.listening.specs.declared.Stop.{Stop}
+use Rattle.listening.specs.declared.Stop.TheVariants.{Refused, Broken}
 use Rattle.listening.specs.Hand.{new_listener, state_of, Room, Near, Reached, GoesOn, Part}
-use Rattle.listening.specs.Reads.{buffer, Stage, Further}
+use Rattle.listening.specs.Reads.{buffer, Stage, Longer, Further, Stopped, Ran}
 use Rattle.listening.proofs.StepLaws.{first_single}
 use Rattle.listening.proofs.Prefix.{after_more, accepted_more, accepted_less, part_end}
-use Rattle.listening.proofs.ReadLaws.{refuses_more}
 
 -- ---- bytes behind the whole records
 
@@ -151,61 +153,59 @@ module _ (read input input' : List ℕ) (from n : ℕ) (kept : take from input' 
   filled_is : (from + n) % buffer ≡ length (read ++ brought) % buffer
   filled_is = omega (arith, length-append read brought, brought-length, filled)
 
-  pub read_on : (r : Listening) (m : Lists) (places : List Float) → GoesOn heard_now (before + (e - f)) r m places
-      → Stage (read ++ brought) input'
-      (record { filled = (from + n) % buffer; more = r.going && ltb 0 n; going = r.going; refused = r.refused; listener = r.listener; receiver = r.receiver }) m places
-  read_on r m places g =
+  -- the part of the buffer that is heard
+  abbrev pub whole_part : List ℕ
+  whole_part = take (record_bytes * e - record_bytes * f) (drop (record_bytes * f) input')
+
+  part-length : length whole_part ≡ record_bytes * (e - f)
+  part-length = omega (arith, length-take-le (record_bytes * e - record_bytes * f) (drop (record_bytes * f) input') (omega (arith, fit, length-drop (record_bytes * f) input')))
+
+  part-is : take (record_bytes * (length whole_part / record_bytes)) whole_part ≡ take (record_bytes * (e - f)) (drop (record_bytes * f) input')
+  part-is =
+      let a : record_bytes * e - record_bytes * f ≡ record_bytes * (e - f) = omega arith in
+      take_all (record_bytes * (length whole_part / record_bytes)) whole_part (omega (arith, part-length)) ∙ ap (λ (k : ℕ). take k (drop (record_bytes * f) input')) a
+
+  pub read_on : (l : Listener) (v : SigfoxReceiver) (m : Lists) (places : List Float)
+      → Reached (whole_of read ++ take (record_bytes * (length whole_part / record_bytes)) whole_part) (before + length whole_part / record_bytes) l v m places → Longer read input' from n l v m places
+  read_on l v m places y =
       let fits : record_bytes * (before + (e - f)) ≤ length heard_now = omega (arith, now-length) in
+      let k : length whole_part / record_bytes ≡ e - f = omega (arith, part-length) in
+      let x = rw (part-is, k) at y in
       record {
-        filled = filled_is;
-        tail =
-            rw (count_is, read_is)
-            (drop_at heard_now rest (record_bytes * (before + (e - f))) now-length ∙ starts_again (from + n) input' (omega (arith, fit, wide)) wide);
-        all = λ (on : r.going ≡ true). rw (count_is, read_is) (reached_more heard_now rest (before + (e - f)) r.listener r.receiver m places fits (g.all on));
-        refusal = λ (no : r.refused ≡ 0 → ⊥). rw read_is (refuses_more heard_now rest r.refused (g.refusal no));
-        more = first r.going (ltb 0 n);
+        bytes = brought;
+        count = brought-length;
+        fits = omega (arith, fit, wide);
+        stage =
+            record {
+              filled = filled_is;
+              tail =
+                  rw (count_is, read_is)
+                  (drop_at heard_now rest (record_bytes * (before + (e - f))) now-length ∙ starts_again (from + n) input' (omega (arith, fit, wide)) wide);
+              all = rw (count_is, read_is) (reached_more heard_now rest (before + (e - f)) l v m places fits x);
+            };
       }
-    where
-      first : (a b : Bool) → a && b ≡ true → a ≡ true
-      first true b h = refl
-      first false b h = h
 
--- a read that failed brings nothing
-pub failed_on : (read input input' : List ℕ) (s r : Reading) (m : Lists) (places : List Float) → take s.filled input' ≡ take s.filled input
-    → r ≡ record { filled = s.filled; more = false; going = false; refused = s.refused; listener = s.listener; receiver = s.receiver } → Stage read input s m places → Further read input' r m places
-failed_on read input input' s r m places kept e st =
-    rw e
-    (record {
-      bytes = [];
-      stage =
-          rw (append-nil read)
-          (record {
-            filled = st.filled;
-            tail = rw kept st.tail;
-            all = λ (h : false ≡ true). absurd (never h);
-            refusal = st.refusal;
-            more = λ (h : false ≡ true). absurd (never h);
-          });
-    })
-  where
-    never : false ≡ true → ⊥
-    never h = let z : ◌≡◌ {A = ℕ} 0 1 = cc in omega arith
+-- a `?` on what stopped it
+pub stopped_as : (A : Type 0) (read : List ℕ) (n : ℕ) (e : Stop) (l : Listener) (v : SigfoxReceiver) (m : Lists) (places : List Float) → GoesOn {A = A} read n (Err e) l v m places → Stopped e
+unfolding GoesOn
+stopped_as A read n (Refused r) l v m places x = record { read = read; refuses = x }
+stopped_as A read n Broken l v m places x = tt
 
-pub failed_near : (s r : Reading) → r ≡ record { filled = s.filled; more = false; going = false; refused = s.refused; listener = s.listener; receiver = s.receiver } → Near 65536 s.listener r.listener
-failed_near s r e = rw e (record { passed = omega arith; samples = omega arith; frames = omega arith; messages = omega arith })
+pub further_stopped : (r : Result ℕ Stop) (e : Stop) (read input : List ℕ) (k : ℕ) (l : Listener) (v : SigfoxReceiver) (m : Lists) (places : List Float) → IsErrAnd r (λ y. y ≡ e) → Stopped e → Further read input k r l v m places
+further_stopped r e read input k l v m places i x = let p = err_from_is_err_and r i in rw (p.1, p.2) x
+
+pub ran_stopped : {A : Type 0} (r : Result A Stop) (e : Stop) → IsErrAnd r (λ y. y ≡ e) → Stopped e → Ran r
+ran_stopped r e i x = let p = err_from_is_err_and r i in rw (p.1, p.2) x
 
 -- ---- the end
 
 -- what is handed over last
-pub end_part : (read input : List ℕ) (s : Reading) (m : Lists) (places : List Float) (leftover : ℕ) (out out' : List ℕ) (end : ℕ) (st : Stage read input s m places) (on : s.going ≡ true)
-    → leftover ≡ s.filled % record_bytes → Added out 0 (ending (state_of s.listener m (st.all on).ledger) leftover) end out' → Part (take end out')
-end_part read input s m places leftover out out' end st on e a =
-    let x = st.all on in
-    let k : leftover ≡ length read % record_bytes = omega (arith, e, st.filled) in
-    rw (a.front, k, x.state) (part_end read x.accepted)
-
-pub fewer-room : (l : Listener) → Room 65536 l → Room most l
-fewer-room l r = record { passed = omega (arith, r.passed); samples = omega (arith, r.samples); frames = omega (arith, r.frames); messages = omega (arith, r.messages) }
+pub end_part : (read input : List ℕ) (k : ℕ) (l : Listener) (v : SigfoxReceiver) (m : Lists) (places : List Float) (leftover : ℕ) (out out' : List ℕ) (end : ℕ) (st : Stage read input k l v m places)
+    → leftover ≡ k % record_bytes → Added out 0 (ending (state_of l m st.all.ledger) leftover) end out' → Part (take end out')
+end_part read input k l v m places leftover out out' end st e a =
+    let x = st.all in
+    let q : leftover ≡ length read % record_bytes = omega (arith, e, st.filled) in
+    rw (a.front, q, x.state) (part_end read x.accepted)
 
 -- ---- the start
 
@@ -216,8 +216,8 @@ first_stands places e =
     record { state = f.state; size = e ∙ sym silence-length; holds = f.holds; sound = f.sound }
 
 pub started : (l : Listener) (v : SigfoxReceiver) (input : List ℕ) (places : List Float) → l ≡ new_listener → v ≡ new_state rate → length places ≡ 12000
-    → Stage [] input (record { filled = 0; more = true; going = true; refused = 0; listener = l; receiver = v })
-    (lists (replicate reading_places 0) (replicate reading_places 0) (replicate reading_places zero64) (replicate tuning_places 0) (replicate tuning_places 0)) places
+    → Stage [] input 0 l v
+    (lists (replicate reading_places no_reading) (replicate tuning_places no_tuning)) places
 unfolding Accepted after nothing_heard
 started l v input places e f w =
     rw (e, f)
@@ -225,7 +225,6 @@ started l v input places e f w =
       filled = refl;
       tail = refl;
       all =
-          λ (h : true ≡ true).
           record {
             accepted = tt;
             ledger = ledger.fresh;
@@ -233,8 +232,6 @@ started l v input places e f w =
             state = refl;
             single = first_single _ 0 _ (omega arith) refl;
           };
-      refusal = λ (h : ◌≡◌ {A = ℕ} 0 0 → ⊥). absurd (h refl);
-      more = λ (h : true ≡ true). refl;
     })
 
 pub first_near : (l : Listener) → l ≡ new_listener → Near 0 new_listener l
@@ -244,15 +241,11 @@ first_near l e = rw e (record { passed = omega arith; samples = omega arith; fra
 pub reads_room : (l : Listener) (n : ℕ) → n ≤ 4398046511103 → Near (65536 * n) new_listener l → Room 65536 l
 reads_room l n h k = record { passed = omega (arith, k.passed); samples = omega (arith, k.samples); frames = omega (arith, k.frames); messages = omega (arith, k.messages) }
 
-pub reads_near : (l r : Listener) (most left : ℕ) → 0 < left → left ≤ most → Near (65536 * (most - left)) new_listener l → Near 65536 l r → Near (65536 * (most - (left - 1))) new_listener r
-reads_near l r most left h k a b =
+pub reads_near : (l r : Listener) (i : ℕ) → Near (65536 * i) new_listener l → Near 65536 l r → Near (65536 * (i + 1)) new_listener r
+reads_near l r i a b =
     record {
       passed = omega (arith, a.passed, b.passed);
       samples = omega (arith, a.samples, b.samples);
       frames = omega (arith, a.frames, b.frames);
       messages = omega (arith, a.messages, b.messages);
     }
-
-pub not_false : (b : Bool) → not b ≡ false → b ≡ true
-not_false true h = refl
-not_false false h = sym h

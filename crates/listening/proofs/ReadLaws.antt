@@ -1,10 +1,12 @@
 -- The records of a read, one behind the other. Assumes nothing.
-use Prim.Native.Nat.{ℕ, suc, ◌+◌, ◌*◌, ◌-◌, ◌≤◌, ◌<◌}
+use Prim.Native.Nat.{ℕ, suc, ◌+◌, ◌*◌, ◌-◌, ◌/◌, ◌≤◌, ◌<◌}
 use mathlib.Core.Path.{◌≡◌, refl, sym, ap, ◌∙◌}
-use mathlib.Core.Bool.{Bool, true, false, ◌&&◌}
-use lib.Dec.{eqb}
-use borrow.Author.Tests.{eqb-true}
-use mathlib.Core.List.{List, ◌++◌, append_assoc, append-nil}
+use Rattle.std.specs.Result.{IsErrAnd}
+use Rattle.std.specs.Prelude.{Result}
+use Rattle.std.proofs.lemmas.Result.{err_from_is_err_and}
+use Rattle.limits.specs.declared.Refusal.{Refusal}
+use Rattle.limits.specs.Refusals.{number_of}
+use mathlib.Core.List.{List, ◌++◌, append_assoc}
 use native.Mathlib.Omega.{arith}
 use lib.ListN.{length, take, drop, length-append, length-drop}
 use lib.Seq.{drop-drop, take-add, take_all, drop_at, take-append-le, drop-append-le, length-take-le}
@@ -18,6 +20,8 @@ use Rattle.listening_receiver.specs.Hearing.{most}
 use Rattle.listening_receiver.specs.Standing.{StandsFor}
 use Rattle.listening.specs.declared.Listener.{Listener}
 use Rattle.listening.specs.Program.{Went, record_bytes, handed, step, nothing_heard, after, Accepted}
+use Rattle.listening.specs.declared.Stop.{Stop}
+use Rattle.listening.specs.declared.Stop.TheVariants.{Refused, Broken}
 use Rattle.listening.specs.Hand.{state_of, Goes, Room, Near, Steps, Reached, Come, Refuses, GoesOn, Part, Stepped}
 use Rattle.listening.proofs.Prefix.{after_one, accepted_one, after_more, accepted_more, part_record}
 
@@ -42,29 +46,26 @@ module _ (read r : List ℕ) (n : ℕ) (whole : length read ≡ record_bytes * n
   pub part_is : (out out' : List ℕ) (end : ℕ) → Added out 0 (handed w) end out' → Part (take end out')
   part_is out out' end a = rw (a.front, here.state) (part_record n read r whole wide here.accepted)
 
-  -- it was accepted, and what it was handed over went out; or it was refused
-  pub one_more : (s : Stepped) (k : Lists) (places' : List Float) (out out' : List ℕ) (going : Bool) → Goes w out s k places' out'
-      → Single s.listener.tracker k → (going ≡ true → s.refused ≡ 0)
-      → GoesOn (read ++ r) (suc n) (record { going = going; refused = s.refused; listener = s.listener; receiver = s.receiver }) k places'
-  one_more s k places' out out' going g b z =
+  -- it was accepted
+  pub one_more : (s : Stepped) (k : Lists) (places' : List Float) (out out' : List ℕ) → Goes w out s k places' out' → Single s.listener.tracker k → s.refused ≡ 0
+      → Reached (read ++ r) (suc n) s.listener s.receiver k places'
+  one_more s k places' out out' g b z =
       record {
-        all =
-            λ (e : going ≡ true).
-            record {
-              accepted = accepted_one n nothing_heard (read ++ r) more (ap (λ (x : Went). x.refused) record_is ∙ sym g.refused ∙ z e);
-              ledger = w.state.ledger;
-              stands = g.stands;
-              state = g.state ∙ sym (ap (λ (x : Went). x.state) record_is) ∙ sym (after_one n nothing_heard (read ++ r));
-              single = b;
-            };
-        refusal =
-            λ (e : s.refused ≡ 0 → ⊥).
-            record {
-              n = n;
-              there = omega (arith, whole, wide, length-append read r);
-              accepted = more;
-              is = ap (λ (x : Went). x.refused) record_is ∙ sym g.refused;
-            };
+        accepted = accepted_one n nothing_heard (read ++ r) more (ap (λ (x : Went). x.refused) record_is ∙ sym g.refused ∙ z);
+        ledger = w.state.ledger;
+        stands = g.stands;
+        state = g.state ∙ sym (ap (λ (x : Went). x.state) record_is) ∙ sym (after_one n nothing_heard (read ++ r));
+        single = b;
+      }
+
+  -- or refused
+  pub one_refused : (s : Stepped) (k : Lists) (places' : List Float) (out out' : List ℕ) → Goes w out s k places' out' → Refuses (read ++ r) s.refused
+  one_refused s k places' out out' g =
+      record {
+        n = n;
+        there = omega (arith, whole, wide, length-append read r);
+        accepted = more;
+        is = ap (λ (x : Went). x.refused) record_is ∙ sym g.refused;
       }
 
 -- ---- bytes behind a record that was refused
@@ -85,121 +86,118 @@ refuses_more read more k x =
           x.is;
     }
 
--- the first k records from a place on, then one
-pub records_one : (input : List ℕ) (f i to : ℕ) → f ≤ i → to ≡ record_bytes * i + record_bytes → to ≤ length input
-    → take (record_bytes * (i + 1 - f)) (drop (record_bytes * f) input)
-    ≡ take (record_bytes * (i - f)) (drop (record_bytes * f) input) ++ take (to - record_bytes * i) (drop (record_bytes * i) input)
-records_one input f i to h e fit =
-    let a : record_bytes * (i + 1 - f) ≡ record_bytes * (i - f) + record_bytes = omega arith in
-    let b : record_bytes * f + record_bytes * (i - f) ≡ record_bytes * i = omega arith in
-    let c : to - record_bytes * i ≡ record_bytes = omega arith in
-    rw (a, c, take-add (record_bytes * (i - f)) record_bytes (drop (record_bytes * f) input), drop-drop (record_bytes * (i - f)) (record_bytes * f) input, b) refl
-
-pub next-wide : (input : List ℕ) (i to : ℕ) → to ≡ record_bytes * i + record_bytes → to ≤ length input → length (take (to - record_bytes * i) (drop (record_bytes * i) input)) ≡ record_bytes
-next-wide input i to e fit = omega (arith, length-take-le (to - record_bytes * i) (drop (record_bytes * i) input) (omega (arith, length-drop (record_bytes * i) input)))
-
-pub not_both : (b : Bool) → b ≡ true → b ≡ false → ⊥
-not_both b p q = let z : ◌≡◌ {A = ℕ} 0 1 = cc in omega arith
-
--- a record goes on where its text was written and nothing was refused
-pub went_on : (b : Bool) (n : ℕ) → b && eqb n 0 ≡ true → n ≡ 0
-went_on true n e = eqb-true n 0 e
-went_on false n e = let z : ◌≡◌ {A = ℕ} 0 1 = cc in absurd (omega arith)
-
 -- ---- the loop over the records of a read
 
--- records f to i − 1 of the buffer were heard, and no more follow where it is not going
-pub record Along (input : List ℕ) (f last i : ℕ) (l₀ : Listener) (v₀ : SigfoxReceiver) (m₀ : Lists) (places₀ : List Float) (l : Listener) (v : SigfoxReceiver) (refused : ℕ) (going : Bool) (m : Lists) (places : List Float) (out₀ out : List ℕ) : Type 0 where
-  pub from : f ≤ i
-  pub to : i ≤ last
-  pub went : (read : List ℕ) (n : ℕ) → length read ≡ record_bytes * n → Reached read n l₀ v₀ m₀ places₀
-      → GoesOn (read ++ take (record_bytes * (i - f)) (drop (record_bytes * f) input)) (n + (i - f)) (record { going = going; refused = refused; listener = l; receiver = v }) m places
-  pub near : Near (most * (i - f)) l₀ l
+-- the first i records were heard, and rest is what is left
+pub record Along (input rest : List ℕ) (i : ℕ) (l₀ : Listener) (v₀ : SigfoxReceiver) (m₀ : Lists) (places₀ : List Float) (l : Listener) (v : SigfoxReceiver) (m : Lists) (places : List Float) (out₀ out : List ℕ) : Type 0 where
+  pub left : rest ≡ drop (record_bytes * i) input
+  pub fits : record_bytes * i ≤ length input
+  pub went : (read : List ℕ) (n : ℕ) → length read ≡ record_bytes * n → Reached read n l₀ v₀ m₀ places₀ → Reached (read ++ take (record_bytes * i) input) (n + i) l v m places
+  pub near : Near (most * i) l₀ l
   pub room : length out ≡ length out₀
 
-pub along_start : (input : List ℕ) (f last : ℕ) (l : Listener) (v : SigfoxReceiver) (m : Lists) (places : List Float) (out : List ℕ) → f ≤ last
-    → Along input f last f l v m places l v 0 true m places out out
-along_start input f last l v m places out h =
-    let z : f - f ≡ 0 = omega arith in
-    record {
-      from = omega arith;
-      to = h;
-      went =
-          λ (read : List ℕ) (n : ℕ) (e : length read ≡ record_bytes * n) (x : Reached read n l v m places).
-          let k : n + 0 ≡ n = omega arith in
-          rw (z, append-nil read, k) (record { all = λ (y : true ≡ true). x; refusal = λ (y : ◌≡◌ {A = ℕ} 0 0 → ⊥). absurd (y refl) });
-      near = record { passed = omega arith; samples = omega arith; frames = omega arith; messages = omega arith };
-      room = refl;
-    }
+-- a refusal stops it
+pub stopped : (read input : List ℕ) (n i k : ℕ) → i ≤ n → record_bytes * n ≤ length input → Refuses (read ++ take (record_bytes * i) input) k → Refuses (read ++ take (record_bytes * n) input) k
+stopped read input n i k h fit x =
+    let j : record_bytes * n ≡ record_bytes * i + record_bytes * (n - i) = omega arith in
+    rw (j, take-add (record_bytes * i) (record_bytes * (n - i)) input, ← append_assoc read (take (record_bytes * i) input) (take (record_bytes * (n - i)) (drop (record_bytes * i) input)))
+    (refuses_more _ _ k x)
 
-module _ (input : List ℕ) (f last i : ℕ) (l₀ : Listener) (v₀ : SigfoxReceiver) (m₀ : Lists) (places₀ : List Float) (l : Listener) (v : SigfoxReceiver) (refused : ℕ) (m : Lists) (places : List Float) (out₀ out : List ℕ) where
+module _ (input rest : List ℕ) (i : ℕ) (l₀ : Listener) (v₀ : SigfoxReceiver) (m₀ : Lists) (places₀ : List Float) (l : Listener) (v : SigfoxReceiver) (m : Lists) (places : List Float) (out₀ out : List ℕ)
+    (a : Along input rest i l₀ v₀ m₀ places₀ l v m places out₀ out) where
   abbrev heard_of : List ℕ → List ℕ
-  heard_of read = read ++ take (record_bytes * (i - f)) (drop (record_bytes * f) input)
+  heard_of read = read ++ take (record_bytes * i) input
+
+  pub heard-whole : (read : List ℕ) (n : ℕ) → length read ≡ record_bytes * n → length (heard_of read) ≡ record_bytes * (n + i)
+  heard-whole read n h =
+      let b = length-append read (take (record_bytes * i) input) in
+      let c = length-take-le (record_bytes * i) input a.fits in
+      omega (arith, b, c, h)
 
   -- every record until here was accepted
-  pub reached : (going : Bool) → going ≡ true → Along input f last i l₀ v₀ m₀ places₀ l v refused going m places out₀ out → (x : Come l₀ v₀ m₀ places₀) → Reached (heard_of x.read) (x.n + (i - f)) l v m places
-  reached going on a x = (a.went x.read x.n x.whole x.reached).all on
+  pub reached : (x : Come l₀ v₀ m₀ places₀) → Reached (heard_of x.read) (x.n + i) l v m places
+  reached x = a.went x.read x.n x.whole x.reached
 
-  module _ (to : ℕ) (e : to ≡ record_bytes * i + record_bytes) (fit : to ≤ length input) (from : f ≤ i) where
-    abbrev next : List ℕ
-    next = take (to - record_bytes * i) (drop (record_bytes * i) input)
+  pub along_last : length rest < record_bytes → i ≡ length input / record_bytes
+  along_last h = let r = a.left in let f = a.fits in omega (arith, f, h, ap length r, length-drop (record_bytes * i) input)
 
-    pub heard-whole : (read : List ℕ) (n : ℕ) → length read ≡ record_bytes * n → length (heard_of read) ≡ record_bytes * (n + (i - f))
-    heard-whole read n h =
-        let a = length-append read (take (record_bytes * (i - f)) (drop (record_bytes * f) input)) in
-        let b = length-take-le (record_bytes * (i - f)) (drop (record_bytes * f) input) (omega (arith, length-drop (record_bytes * f) input)) in
-        omega (arith, a, b, h)
+  -- no more follow
+  pub along_end : length rest < record_bytes → (read : List ℕ) (n : ℕ) → length read ≡ record_bytes * n → Reached read n l₀ v₀ m₀ places₀
+      → Reached (read ++ take (record_bytes * (length input / record_bytes)) input) (n + length input / record_bytes) l v m places
+  along_end h read n e y = rw (← along_last h) (a.went read n e y)
+
+  module _ (next rest' : List ℕ) (split : rest ≡ next ++ rest') (wide : length next ≡ record_bytes) where
+    -- the next one, and what is left then
+    next-is : drop (record_bytes * i) input ≡ next ++ rest'
+    next-is = sym a.left ∙ split
+
+    pub next-fits : record_bytes * (i + 1) ≤ length input
+    next-fits = let f = a.fits in omega (arith, f, wide, ap length next-is, length-append next rest', length-drop (record_bytes * i) input)
+
+    next-taken : take (record_bytes * (i + 1)) input ≡ take (record_bytes * i) input ++ next
+    next-taken =
+        let j : record_bytes * (i + 1) ≡ record_bytes * i + record_bytes = omega arith in
+        rw (j, take-add (record_bytes * i) record_bytes input, next-is, take-append-le record_bytes next rest' (omega (arith, wide)), take_all record_bytes next (omega (arith, wide))) refl
+
+    next-left : rest' ≡ drop (record_bytes * (i + 1)) input
+    next-left =
+        let j : record_bytes * i + record_bytes ≡ record_bytes * (i + 1) = omega arith in
+        sym (ap (λ (k : ℕ). drop k input) (sym j) ∙ sym (drop-drop record_bytes (record_bytes * i) input) ∙ ap (drop record_bytes) next-is ∙ drop_at next rest' record_bytes wide)
 
     -- what is handed over of the next one
-    pub along-part : (going : Bool) (on : going ≡ true) (a : Along input f last i l₀ v₀ m₀ places₀ l v refused going m places out₀ out) (x : Come l₀ v₀ m₀ places₀) (s : Stepped) (k : Lists) (places' : List Float) (out' : List ℕ)
+    pub along-part : (x : Come l₀ v₀ m₀ places₀) (s : Stepped) (k : Lists) (places' : List Float) (out' : List ℕ)
         → ((g : Ledger by_frames) → StandsFor v places g → Goes (step (state_of l m g) next) out s k places' out') → Part (take s.end out')
-    along-part going on a x s k places' out' g =
-        let h = reached going on a x in
-        part_is (heard_of x.read) next (x.n + (i - f)) (heard-whole x.read x.n x.whole) (next-wide input i to e fit) l v m places h out out' s.end (g h.ledger h.stands).text
+    along-part x s k places' out' g =
+        let h = reached x in
+        part_is (heard_of x.read) next (x.n + i) (heard-whole x.read x.n x.whole) wide l v m places h out out' s.end (g h.ledger h.stands).text
 
-    pub along-next : (was : Bool) (on : was ≡ true) (a : Along input f last i l₀ v₀ m₀ places₀ l v refused was m places out₀ out) (s : Stepped) (k : Lists) (places' : List Float) (out' : List ℕ) (going : Bool) → i < last
-        → ((g : Ledger by_frames) → StandsFor v places g → Goes (step (state_of l m g) next) out s k places' out') → Steps l s k out out' → (going ≡ true → s.refused ≡ 0)
-        → Along input f last (i + 1) l₀ v₀ m₀ places₀ s.listener s.receiver s.refused going k places' out₀ out'
-    along-next was on a s k places' out' going less g b z =
-        let near = a.near in
-        let more = b.near in
-        record {
-          from = omega arith;
-          to = omega arith;
-          went =
-              λ (read : List ℕ) (n : ℕ) (h : length read ≡ record_bytes * n) (y : Reached read n l₀ v₀ m₀ places₀).
-              let x = (a.went read n h y).all on in
-              let j : n + (i + 1 - f) ≡ suc (n + (i - f)) = omega arith in
-              rw (j, records_one input f i to from e fit, ← append_assoc read (take (record_bytes * (i - f)) (drop (record_bytes * f) input)) next)
-              (one_more (heard_of read) next (n + (i - f)) (heard-whole read n h) (next-wide input i to e fit) l v m places x s k places' out out' going (g x.ledger x.stands) b.single z);
-          near =
-              record {
-                passed = omega (arith, near.passed, more.passed);
-                samples = omega (arith, near.samples, more.samples);
-                frames = omega (arith, near.frames, more.frames);
-                messages = omega (arith, near.messages, more.messages);
-              };
-          room = b.room ∙ a.room;
-        }
+    module _ (s : Stepped) (k : Lists) (places' : List Float) (out' : List ℕ)
+        (g : (g : Ledger by_frames) → StandsFor v places g → Goes (step (state_of l m g) next) out s k places' out') where
+      -- it was refused
+      pub along_stop : (read : List ℕ) (n : ℕ) → length read ≡ record_bytes * n → Reached read n l₀ v₀ m₀ places₀
+          → Refuses (read ++ take (record_bytes * (length input / record_bytes)) input) s.refused
+      along_stop read n h y =
+          let x = a.went read n h y in
+          let f = next-fits in
+          let r = one_refused (heard_of read) next (n + i) (heard-whole read n h) wide l v m places x s k places' out out' (g x.ledger x.stands) in
+          stopped read input (length input / record_bytes) (i + 1) s.refused (omega (arith, f)) (omega arith)
+          (rw (next-taken, ← append_assoc read (take (record_bytes * i) input) next) r)
 
--- at the end of the loop: all records, or none behind the one that stopped it
-pub along_end : (input : List ℕ) (f last i : ℕ) (l₀ : Listener) (v₀ : SigfoxReceiver) (m₀ : Lists) (places₀ : List Float) (l : Listener) (v : SigfoxReceiver) (refused : ℕ) (going : Bool) (m : Lists) (places : List Float) (out₀ out : List ℕ)
-    → Along input f last i l₀ v₀ m₀ places₀ l v refused going m places out₀ out → (going ≡ true → last ≤ i)
-    → (read : List ℕ) (n : ℕ) → length read ≡ record_bytes * n → Reached read n l₀ v₀ m₀ places₀
-    → GoesOn (read ++ take (record_bytes * (last - f)) (drop (record_bytes * f) input)) (n + (last - f)) (record { going = going; refused = refused; listener = l; receiver = v }) m places
-along_end input f last i l₀ v₀ m₀ places₀ l v refused going m places out₀ out a done read n h y =
-    let x = a.went read n h y in
-    let d = drop (record_bytes * f) input in
-    let from = a.from in
-    let to = a.to in
-    let j : record_bytes * (last - f) ≡ record_bytes * (i - f) + record_bytes * (last - i) = omega arith in
-    record {
-      all = λ (e : going ≡ true). let k : i ≡ last = omega (arith, done e) in rw k at (x.all e);
-      refusal =
-          λ (e : refused ≡ 0 → ⊥).
-          rw (j, take-add (record_bytes * (i - f)) (record_bytes * (last - i)) d, ← append_assoc read (take (record_bytes * (i - f)) d) (take (record_bytes * (last - i)) (drop (record_bytes * (i - f)) d)))
-          (refuses_more _ _ refused (x.refusal e));
-    }
+      pub near-next : Steps l s k out out' → Near (most * (i + 1)) l₀ s.listener
+      near-next b =
+          let near = a.near in
+          let more = b.near in
+          record {
+            passed = omega (arith, near.passed, more.passed);
+            samples = omega (arith, near.samples, more.samples);
+            frames = omega (arith, near.frames, more.frames);
+            messages = omega (arith, near.messages, more.messages);
+          }
+
+      -- it was accepted
+      pub along-next : Steps l s k out out' → s.refused ≡ 0 → Along input rest' (i + 1) l₀ v₀ m₀ places₀ s.listener s.receiver k places' out₀ out'
+      along-next b z =
+          record {
+            left = next-left;
+            fits = next-fits;
+            went =
+                λ (read : List ℕ) (n : ℕ) (h : length read ≡ record_bytes * n) (y : Reached read n l₀ v₀ m₀ places₀).
+                let x = a.went read n h y in
+                let j : n + (i + 1) ≡ suc (n + i) = omega arith in
+                rw (j, next-taken, ← append_assoc read (take (record_bytes * i) input) next)
+                (one_more (heard_of read) next (n + i) (heard-whole read n h) wide l v m places x s k places' out out' (g x.ledger x.stands) b.single z);
+            near = near-next b;
+            room = b.room ∙ a.room;
+          }
+
+-- a `?` on a record's refusal, or on what standard output answered
+pub goes_refused : {A : Type 0} (r : Result A Stop) (e : Refusal) (read : List ℕ) (n : ℕ) (l : Listener) (v : SigfoxReceiver) (m : Lists) (places : List Float) → IsErrAnd r (λ y. y ≡ Refused e) → Refuses read (number_of e) → GoesOn read n r l v m places
+unfolding GoesOn
+goes_refused r e read n l v m places i x = let p = err_from_is_err_and r i in rw (p.1, p.2) x
+
+pub goes_broken : {A : Type 0} (r : Result A Stop) (read : List ℕ) (n : ℕ) (l : Listener) (v : SigfoxReceiver) (m : Lists) (places : List Float) → IsErrAnd r (λ y. y ≡ Broken) → GoesOn read n r l v m places
+unfolding GoesOn
+goes_broken r read n l v m places i = let p = err_from_is_err_and r i in rw (p.1, p.2) tt
 
 -- counts that have room for the records of a buffer have room for one more
 pub loop-room : (l₀ l : Listener) (k : ℕ) → k < 256 → Near (most * k) l₀ l → Room 65536 l₀ → Room most l
@@ -210,6 +208,3 @@ loop-room l₀ l k h n r =
       frames = omega (arith, n.frames, r.frames);
       messages = omega (arith, n.messages, r.messages);
     }
-
-pub loop-near : (l₀ l : Listener) (k : ℕ) → k ≤ 256 → Near (most * k) l₀ l → Near 65536 l₀ l
-loop-near l₀ l k h n = record { passed = omega (arith, n.passed); samples = omega (arith, n.samples); frames = omega (arith, n.frames); messages = omega (arith, n.messages) }

@@ -55,7 +55,7 @@ as_defined_from s g bytes said st (stops _ x rest d n) =
 as_defined_from s g bytes said st (ends _ leftover f few fin) =
     let n : length leftover / record_bytes ≡ 0 = omega (arith, few) in
     let m : length leftover % record_bytes ≡ length leftover = omega (arith, few) in
-    rw (n, m) (fin g s.lists.tuned s.lists.freq st).front
+    rw (n, m) (fin g s.lists.tunings st).front
 
 pub as_defined : AsDefined
 unfolding listen nothing_heard

@@ -25,7 +25,7 @@ use Rattle.receiver.specs.declared.SigfoxReceiver.{SigfoxReceiver}
 use Rattle.receiver.specs.Calls.{Memory}
 use Rattle.listening_lines.specs.Text.{Added}
 use Rattle.listening_lines.specs.Lines.{tune_line, refusal_line, end_line}
-use Rattle.listening_lines.proofs.TextLaws.{behind, nothing, as_text}
+use Rattle.listening_lines.proofs.TextLaws.{behind, as_text}
 use Rattle.listening_tracker.specs.Turn.{reading_places, Turn, stop, on, unless, next_turn, cfo_turn, samples_turn, tuned_turn, turn, Turned}
 use Rattle.listening_records.specs.declared.Told.{Told}
 use Rattle.listening_records.specs.Emission.{Tells}
@@ -48,9 +48,6 @@ refusal-line (suc n) h = refl
 
 pub refusal-text : (e : Refusal) → refusal_line (number_of e) ≡ refusal_text (number_of e)
 refusal-text e = sym (refusal-line (number_of e) (number-positive e))
-
-pub no_refusal : (n at : ℕ) (old : List ℕ) → n ≡ 0 → Added old at (refusal_text n) at old
-no_refusal n at old e = rw (refusal-zero n e) (nothing old at)
 
 -- ---- the end: the last line, or that of a refusal
 
@@ -100,7 +97,7 @@ tuned-fit : (room hz : ℕ) (dbm : List Float) (reg : ℕ) (s : FrequencyTracker
 unfolding tuned_turn
 tuned-fit room hz dbm reg s l =
     let u = tuned (tracker s l) hz in
-    unless-fit (cause_tuned s l.tuned l.freq hz) s l (samples_turn room dbm reg (packed u) (stored u l)) (samples-fit room dbm reg (packed u) (stored u l))
+    unless-fit (cause_tuned s l.tunings hz) s l (samples_turn room dbm reg (packed u) (stored u l)) (samples-fit room dbm reg (packed u) (stored u l))
 
 either-fit : (b : Bool) (t u : Turn) → Fit t → Fit u → Fit (cond b t u)
 either-fit true t u h k = h
@@ -170,14 +167,6 @@ module _ (s : State) (c : Call) (text : List ℕ) (old out mid last : List ℕ) 
       }
 
 -- ---- the first record that isn't 0 makes the tracker
-
-pub later-begun : (b : Bool) (p n f k : ℕ) (t : FrequencyTracker) (hz : ℕ) → b ≡ true
-    → ◌≡◌ {A = Listener} (record { started = b; passed = p; samples = n; frames = f; messages = k; tracker = t }) (record { started = b; passed = p; samples = n; frames = f; messages = k; tracker = begun b t hz })
-later-begun b p n f k t hz e = rw e refl
-
-pub first_begun : (b : Bool) (p n f k : ℕ) (t u : FrequencyTracker) (hz : ℕ) → b ≡ false → u ≡ fresh rate hz step_hz
-    → ◌≡◌ {A = Listener} (record { started = b; passed = p; samples = n; frames = f; messages = k; tracker = u }) (record { started = b; passed = p; samples = n; frames = f; messages = k; tracker = begun b t hz })
-first_begun b p n f k t u hz e h = rw (e, h) refl
 
 -- 01's rate and step are accepted
 pub taken : cause_new rate step_hz ≡ 0

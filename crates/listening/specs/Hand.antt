@@ -1,7 +1,8 @@
 -- Scaffolding. What the code of `listen` has of the definition, and what it hands to `write`. Assumes nothing.
-use Rattle.std.specs.Prelude.{ℕ, ◌+◌, ◌*◌, ◌≤◌, ◌<◌, ◌^◌, ◌≡◌, true, false, List, ◌++◌, length, take, drop, Float}
+use Rattle.std.specs.Prelude.{ℕ, ◌+◌, ◌*◌, ◌≤◌, ◌<◌, ◌^◌, ◌≡◌, false, List, ◌++◌, length, take, drop, Float, Result, Ok, Err}
 use Rattle.ledger.specs.Ledger.{by_frames, Ledger, push_raw}
 use Rattle.limits.specs.Answer.{cause_of}
+use Rattle.limits.specs.Refusals.{number_of}
 use Rattle.frequency.specs.Lent.{Lists}
 use Rattle.frequency.specs.Calls.{fresh}
 use Rattle.frequency_grown.specs.Rising.{Single}
@@ -11,7 +12,8 @@ use Rattle.listening_receiver.specs.Hearing.{rate, most}
 use Rattle.listening_receiver.specs.Standing.{StandsFor}
 use Rattle.listening.specs.declared.Listener.{Listener}
 use Rattle.listening.specs.declared.Brought.{Brought}
-use Rattle.listening.specs.declared.Listening.{Listening}
+use Rattle.listening.specs.declared.Stop.{Stop}
+use Rattle.listening.specs.declared.Stop.TheVariants.{Refused, Broken}
 use Rattle.listening.specs.Program.{State, Went, record_bytes, samples_each, step_hz, begun, received, handed, step, listen, nothing_heard, after, said, Accepted}
 
 -- the definition's state that the code's numbers, the tracker with its lists and a ledger are
@@ -137,10 +139,11 @@ pub record Refuses (read : List ℕ) (number : ℕ) : Type 0 where
   pub accepted : Accepted n nothing_heard read
   pub is : (step (after n nothing_heard read) (take record_bytes (drop (record_bytes * n) read))).refused ≡ number
 
--- the whole records of what was read, as far as they went: going on, all were accepted; otherwise the refusal is the definition's
-pub record GoesOn (read : List ℕ) (n : ℕ) (r : Listening) (m : Lists) (places : List Float) : Type 0 where
-  pub all : r.going ≡ true → Reached read n r.listener r.receiver m places
-  pub refusal : (r.refused ≡ 0 → ⊥) → Refuses read r.refused
+-- what the n whole records of what was read leave: all were accepted; or the refusal is the definition's; or standard output took no more
+unfoldable pub GoesOn : {A : Type 0} → List ℕ → ℕ → Result A Stop → Listener → SigfoxReceiver → Lists → List Float → Type 0
+GoesOn read n (Ok v) l receiver m places = Reached read n l receiver m places
+GoesOn read n (Err (Refused e)) l receiver m places = Refuses read (number_of e)
+GoesOn read n (Err Broken) l receiver m places = Unit
 
 -- ---- what is handed to `write`
 

@@ -5,6 +5,8 @@ use Rattle.std.specs.Float.Ieee.{of_bits}
 use Rattle.endian.specs.Bytes.{number_at}
 use Rattle.ledger.specs.Ledger as ledger
 use Rattle.ledger.specs.Ledger.{by_frames, Ledger, Call, push_raw, flush, dbm_of}
+use Rattle.frequency_lists.specs.declared.Reading.{Reading}
+use Rattle.frequency_lists.specs.declared.Tuning.{Tuning}
 use Rattle.frequency.specs.declared.FrequencyTracker.{FrequencyTracker}
 use Rattle.frequency.specs.Lent.{Lists, lists}
 use Rattle.frequency.specs.Calls.{fresh}
@@ -65,7 +67,7 @@ abbrev pub emission : State → List ℕ → Emission
 emission s text = record { refused = 0; frames = s.frames; messages = s.messages; text = text }
 
 abbrev pub asked_of : State → Asked
-asked_of s = record { started = s.started; passed = s.passed; tracker = s.tracker; at = s.lists.at; lo = s.lists.lo; hz = s.lists.hz; room = reading_places }
+asked_of s = record { started = s.started; passed = s.passed; tracker = s.tracker; readings = s.lists.readings; room = reading_places }
 
 -- a call of the receiver: its M lines behind the text
 unfoldable pub received : State → List ℕ → Call → Went
@@ -166,12 +168,19 @@ texts (suc n) s leftover bytes =
 abbrev pub zero64 : Float
 zero64 = of_bits binary64 0
 
+-- what stands in the places of the lists
+abbrev pub no_reading : Reading
+no_reading = record { at = 0; lo = 0; hz = zero64 }
+
+abbrev pub no_tuning : Tuning
+no_tuning = record { at = 0; freq = 0 }
+
 unfoldable pub nothing_heard : State
 nothing_heard = record {
   started = false;
   passed = 0;
   tracker = fresh rate 0 step_hz;
-  lists = lists (replicate reading_places 0) (replicate reading_places 0) (replicate reading_places zero64) (replicate tuning_places 0) (replicate tuning_places 0);
+  lists = lists (replicate reading_places no_reading) (replicate tuning_places no_tuning);
   ledger = ledger.fresh;
   samples = 0;
   frames = 0;

@@ -3,6 +3,7 @@
 use Rattle.std.specs.Prelude.{ℕ, ◌<◌, ◌≡◌, List, ◌++◌, length, take, replicate, Float}
 use Rattle.demod.specs.Capture.{joined}
 use Rattle.ledger.specs.Ledger.{by_frames, Ledger}
+use Rattle.frequency_lists.specs.declared.Tuning.{Tuning}
 use Rattle.frequency.specs.Lent.{Lists, lists}
 use Rattle.receiver.specs.declared.SigfoxReceiver.{SigfoxReceiver}
 use Rattle.receiver.specs.State.{new_state}
@@ -11,7 +12,7 @@ use Rattle.listening_tracker.specs.Turn.{reading_places}
 use Rattle.listening_receiver.specs.Hearing.{rate}
 use Rattle.listening_receiver.specs.Standing.{StandsFor}
 use Rattle.listening.specs.declared.Listener.{Listener}
-use Rattle.listening.specs.Program.{record_bytes, tuning_places, zero64, step, ending, listen}
+use Rattle.listening.specs.Program.{record_bytes, tuning_places, no_reading, no_tuning, step, ending, listen}
 use Rattle.listening.specs.Hand.{new_listener, state_of, Goes, Stepped}
 
 -- the code between two records
@@ -48,8 +49,8 @@ pub record Last : Type 0 where
 -- what `finish` ensures
 abbrev pub Finished : Code → ℕ → Last → Type 0
 Finished s leftover f =
-    (g : Ledger by_frames) (tuned freq : List ℕ) → StandsFor s.receiver s.places g
-    → Added f.out 0 (ending (state_of s.listener (lists s.lists.at s.lists.lo s.lists.hz tuned freq) g) leftover) f.end f.out'
+    (g : Ledger by_frames) (ts : List Tuning) → StandsFor s.receiver s.places g
+    → Added f.out 0 (ending (state_of s.listener (lists s.lists.readings ts) g) leftover) f.end f.out'
 
 -- on these bytes these texts are handed over, joined: record by record, nothing behind a refusal, and last what `finish` left
 pub data Run : Code → List ℕ → List ℕ → Type 0 where
@@ -63,7 +64,7 @@ abbrev pub fresh_code : List Float → Code
 fresh_code places = record {
   listener = new_listener;
   receiver = new_state rate;
-  lists = lists (replicate reading_places 0) (replicate reading_places 0) (replicate reading_places zero64) (replicate tuning_places 0) (replicate tuning_places 0);
+  lists = lists (replicate reading_places no_reading) (replicate tuning_places no_tuning);
   places = places;
 }
 

@@ -1,9 +1,10 @@
 // The end of `listen`'s input.
-ghost use Rattle.std.specs.Prelude.{◌≡◌, List, [], ◌++◌, ℕ, ◌+◌, ◌*◌, ◌≤◌, length};
+ghost use Rattle.std.specs.Prelude.{◌≡◌, List, ◌++◌, ℕ, ◌≤◌, length};
 ghost use Rattle.limits.specs.Answer.{cause_of};
 ghost use Rattle.ledger.specs.Ledger.{by_frames, Ledger};
+ghost use Rattle.frequency_lists.specs.declared.Tuning.{Tuning};
 ghost use Rattle.frequency.specs.Lent.{lists};
-ghost use Rattle.listening_lines.specs.Text.{widest, Added};
+ghost use Rattle.listening_lines.specs.Text.{Added};
 ghost use Rattle.listening_lines.specs.Lines.{end_line};
 ghost use Rattle.listening_receiver.specs.Hearing.{most};
 ghost use Rattle.listening_receiver.specs.Standing.{StandsFor, Standing};
@@ -11,27 +12,26 @@ ghost use Rattle.listening.specs.Program.{ending, refusal_text, unless_refused};
 ghost use Rattle.listening.specs.Hand.{out_places, state_of, Room};
 
 use crate::Listener;
+use frequency_lists::Reading;
 use limits::Refusal;
-use listening_records::Told;
+use listening_lines::Line;
+use listening_receiver::Buffers;
+use listening_records::{Told, Tracked};
 use receiver::SigfoxReceiver;
 
-// The last line, or that of a refusal, behind the text.
-fn add_last(
-    out: &mut [u8],
-    at: usize,
+// The last line, or that of a refusal.
+fn last_line(
     went: Result<(), Refusal>,
     samples: u64,
     frames: u64,
     messages: u64,
     leftover: usize,
-) -> usize
-    requires { at + widest ≤ length out.old }
-    ensures added { Added out.old at (refusal_text (cause_of went) ++ unless_refused (cause_of went) (end_line samples frames messages leftover)) result out.new }
-    ensures upper_bound { result ≤ at + widest }
+) -> Line
+    ensures { result ≡ refusal_text (cause_of went) ++ unless_refused (cause_of went) (end_line samples frames messages leftover) }
 {
     match went {
-        Ok(()) => listening_lines::add_end(out, at, samples, frames, messages, leftover),
-        Err(refusal) => listening_lines::add_refusal(out, at, refusal),
+        Ok(()) => listening_lines::end_line(samples, frames, messages, leftover),
+        Err(refusal) => listening_lines::refusal_line(refusal),
     }
 }
 
@@ -40,19 +40,14 @@ pub fn finish(
     l: Listener,
     receiver: SigfoxReceiver,
     leftover: usize,
-    at: &[u64; 8000],
-    lo: &[u32; 8000],
-    hz: &[f64; 8000],
-    samples: &mut [f32; 12000],
-    events: &mut [u8; 30720],
-    scratch32: &mut [f32; 12000],
-    scratch64: &mut [f64; 8000],
+    readings: &[Reading; 8000],
+    b: &mut Buffers,
     out: &mut [u8],
 ) -> usize
-    requires standing { Standing receiver samples.old }
+    requires standing { Standing receiver b.old.samples }
     requires room { (Room most l) × (out_places ≤ length out.old) }
-    ensures added { (g : Ledger by_frames) (tuned freq : List ℕ) → StandsFor receiver samples.old g
-        → Added out.old 0 (ending (state_of l (lists at.now lo.now hz.now tuned freq) g) leftover) result out.new }
+    ensures added { (g : Ledger by_frames) (tunings : List Tuning) → StandsFor receiver b.old.samples g
+        → Added out.old 0 (ending (state_of l (lists readings.now tunings) g) leftover) result out.new }
     ensures upper_bound { result ≤ out_places }
 {
     let mut told = Told {
@@ -61,17 +56,13 @@ pub fn finish(
         end: 0,
     };
     let mut last = receiver;
-    let went = listening_receiver::close(
-        &mut told, &mut last, l.started, l.passed, l.tracker, at, lo, hz, samples, events,
-        scratch32, scratch64, out,
-    );
-    add_last(
-        out,
-        told.end,
-        went,
-        l.samples,
-        told.frames,
-        told.messages,
-        leftover,
-    )
+    let q = Tracked {
+        started: l.started,
+        passed: l.passed,
+        tracker: l.tracker,
+        readings,
+    };
+    let went = listening_receiver::close(&mut told, &mut last, q, b, out);
+    let line = last_line(went, l.samples, told.frames, told.messages, leftover);
+    line.add_to(out, told.end)
 }

@@ -6,17 +6,21 @@ mod handing; // what goes to standard output
 mod records; // the whole records of the buffer
 mod stepping; // one record
 
-ghost use Rattle.std.specs.Prelude.{◌≡◌, true, false, List, [], ℕ, ◌≤◌, length};
+ghost use Rattle.std.specs.Prelude.{◌≡◌, List, ℕ, ◌+◌, ◌≤◌, ◌<◌, length, take, IfOk};
 ghost use Rattle.frequency.specs.Lent.{lists};
+ghost use Rattle.listening.specs.declared.Stop.TheVariants.{Refused, Broken};
 ghost use Rattle.listening.specs.Hand.{out_places, new_listener, Room, Near};
-ghost use Rattle.listening.specs.Reads.{Stage, Staged, Further, Ran};
+ghost use Rattle.listening.specs.Reads.{Stage, Staged, Further, HeardAll, Ran};
 
 use crate::handing::hand_over;
 use crate::records::RECORD;
 use crate::stepping::{RATE, STEP_HZ};
 use frequency::FrequencyTracker;
+use frequency_lists::{Reading, Tuning};
 use limits::Refusal;
+use listening_receiver::Buffers;
 use receiver::SigfoxReceiver;
+use std::io;
 
 // A proved loop has to end, and nothing says that the input does. A read brings a byte at least, and a stream of over 2^41 bytes is refused. 2^42 − 1 reads bring under 2^53 samples, 2,048 each at the most: binary64 holds their count.
 const MOST_READS: u64 = 0x3ff_ffff_ffff;
@@ -42,32 +46,27 @@ pub struct Brought {
     pub went: Result<(), Refusal>,
 }
 
-// After the records of a read: whether no call was refused and every text went out, the refusal or 0, and both sides.
+// Why it ends before its input does: a call was refused; or standard input could not be read, or standard output took no more.
 #[derive(Clone, Copy)]
-pub struct Listening {
-    pub going: bool,
-    pub refused: u8,
-    pub listener: Listener,
-    pub receiver: SigfoxReceiver,
-}
-
-// Between two reads: how many bytes stand in the buffer, whether there may be more, and what the records left.
-#[derive(Clone, Copy)]
-pub struct Reading {
-    pub filled: usize,
-    pub more: bool,
-    pub going: bool,
-    pub refused: u8,
-    pub listener: Listener,
-    pub receiver: SigfoxReceiver,
-}
-
-// How the program ended: every whole record was accepted and the last text handed over; a record's call was refused; or standard input could not be read, or standard output took no more.
-#[derive(Clone, Copy)]
-pub enum Ended {
-    Heard,
-    Refused(u8),
+pub enum Stop {
+    Refused(Refusal),
     Broken,
+}
+
+impl From<Refusal> for Stop {
+    ghost from_gives = { λ r s. s ≡ Refused r };
+
+    fn from(refusal: Refusal) -> Stop {
+        Stop::Refused(refusal)
+    }
+}
+
+impl From<io::Error> for Stop {
+    ghost from_gives = { λ _ s. s ≡ Broken };
+
+    fn from(_error: io::Error) -> Stop {
+        Stop::Broken
+    }
 }
 
 // Nothing was read.
@@ -85,156 +84,116 @@ fn fresh() -> Listener
     }
 }
 
-// After a read that failed: a line on standard error, and nothing more on standard output.
-fn fail(rt: &impl Eprint, s: Reading) -> Reading
-    ensures { result ≡ record { filled = s.filled; more = false; going = false; refused = s.refused; listener = s.listener; receiver = s.receiver } }
+// What a read brings behind the first bytes of the buffer. Where it fails, a line on standard error.
+fn fetch(rt: &(impl Input + Eprint), input: &mut [u8], from: usize) -> io::Result<usize>
+    requires { from < length input.old }
+    ensures result_in_bounds { IfOk result (λ n. from + n ≤ length input.new) }
+    ensures input_unchanged { take from input.new ≡ take from input.old }
 {
-    let _ = rt.eprintln("listen: standard input can't be read");
-    let mut m = s;
-    m.going = false;
-    m.more = false;
-    m
+    let fetched = reading::fetch(&mut rt.reader(), input, from);
+    if fetched.is_err() {
+        let _ = rt.eprintln("listen: standard input can't be read");
+    }
+    fetched
 }
 
-// One read, and every record that is whole with it.
+// One read, and every record that is whole with it: how many bytes it brought.
 fn turn(
     rt: &(impl Input + Print + Eprint),
-    s: Reading,
+    filled: usize,
+    l: &mut Listener,
+    receiver: &mut SigfoxReceiver,
     input: &mut [u8],
-    at: &mut [u64; 8000],
-    lo: &mut [u32; 8000],
-    hz: &mut [f64; 8000],
-    tuned: &mut [u64; 64],
-    freq: &mut [u32; 64],
-    samples: &mut [f32; 12000],
-    events: &mut [u8; 30720],
-    scratch32: &mut [f32; 12000],
-    scratch64: &mut [f64; 8000],
+    readings: &mut [Reading; 8000],
+    tunings: &mut [Tuning; 64],
+    b: &mut Buffers,
     out: &mut [u8],
-) -> Reading
-    requires staged { Staged input.old s (lists at.old lo.old hz.old tuned.old freq.old) samples.old }
-    requires going_value { (s.going ≡ true) × (length input.old ≡ 4096) × (Room 65536 s.listener) × (out_places ≤ length out.old) }
-    ensures by_index { (read : List ℕ) → Stage read input.old s (lists at.old lo.old hz.old tuned.old freq.old) samples.old
-        → Further read input.new result (lists at.new lo.new hz.new tuned.new freq.new) samples.new }
-    ensures near { Near 65536 s.listener result.listener }
+) -> Result<usize, Stop>
+    requires staged { Staged input.old filled l.old receiver.old (lists readings.old tunings.old) b.old.samples }
+    requires room { (length input.old ≡ 4096) × (Room 65536 l.old) × (out_places ≤ length out.old) }
+    ensures by_index { (read : List ℕ) → Stage read input.old filled l.old receiver.old (lists readings.old tunings.old) b.old.samples
+        → Further read input.new filled result l.new receiver.new (lists readings.new tunings.new) b.new.samples }
+    ensures near { Near 65536 l.old l.new }
 {
-    let from = s.filled;
-    let fetched = reading::fetch(&mut rt.reader(), input, from);
-    let Ok(n) = fetched else {
-        return fail(rt, s);
-    };
-    let end = from + n;
-    let l = s.listener;
-    let first = s.receiver;
-    let r = records::hear(
-        rt, l, first, input, from, end, at, lo, hz, tuned, freq, samples, events, scratch32,
-        scratch64, out,
-    );
-    let listener = r.listener;
-    let receiver = r.receiver;
-    Reading {
-        filled: end % BUFFER,
-        more: r.going & (0 < n),
-        going: r.going,
-        refused: r.refused,
-        listener,
+    let n = fetch(rt, input, filled)?;
+    let first = RECORD * (filled / RECORD);
+    let last = RECORD * ((filled + n) / RECORD);
+    records::hear(
+        rt,
+        l,
         receiver,
-    }
+        &input[first..last],
+        readings,
+        tunings,
+        b,
+        out,
+    )?;
+    Ok(n)
 }
 
-// The end of the input: the last calls and lines. Nothing after a refusal, or where standard input or output failed.
+// The end of the input: the last calls and lines.
 fn conclude(
     rt: &impl Print,
-    s: Reading,
-    at: &[u64; 8000],
-    lo: &[u32; 8000],
-    hz: &[f64; 8000],
-    tuned: &[u64; 64],
-    freq: &[u32; 64],
+    filled: usize,
+    l: Listener,
+    receiver: SigfoxReceiver,
+    readings: &[Reading; 8000],
+    tunings: &[Tuning; 64],
     input: &[u8],
-    samples: &mut [f32; 12000],
-    events: &mut [u8; 30720],
-    scratch32: &mut [f32; 12000],
-    scratch64: &mut [f64; 8000],
+    b: &mut Buffers,
     out: &mut [u8],
-) -> Ended
-    requires staged { Staged input.now s (lists at.now lo.now hz.now tuned.now freq.now) samples.old }
-    requires room { (Room 65536 s.listener) × (out_places ≤ length out.old) }
-    ensures { Ran result }
+)
+    requires staged { Staged input.now filled l receiver (lists readings.now tunings.now) b.old.samples }
+    requires room { (Room 65536 l) × (out_places ≤ length out.old) }
+    ensures { HeardAll }
 {
-    if s.refused != 0 {
-        return Ended::Refused(s.refused);
-    }
-    if !s.going {
-        return Ended::Broken;
-    }
-    let l = s.listener;
-    let receiver = s.receiver;
-    let leftover = s.filled % RECORD;
-    let end = ending::finish(
-        l, receiver, leftover, at, lo, hz, samples, events, scratch32, scratch64, out,
-    );
-    hand_over(rt, out, end);
-    Ended::Heard
+    let leftover = filled % RECORD;
+    let end = ending::finish(l, receiver, leftover, readings, b, out);
+    let _ = hand_over(rt, &out[..end]);
 }
 
 // The whole stream.
-pub fn run(rt: &(impl Input + Print + Eprint)) -> Ended
+pub fn run(rt: &(impl Input + Print + Eprint)) -> Result<(), Stop>
     ensures { Ran result }
 {
     let mut input = [0u8; 4096];
-    let mut at = [0u64; 8000];
-    let mut lo = [0u32; 8000];
-    let mut hz = [0.0f64; 8000];
-    let mut tuned = [0u64; 64];
-    let mut freq = [0u32; 64];
-    let mut samples = [0.0f32; 12000];
-    let mut events = [0u8; 30720];
-    let mut scratch32 = [0.0f32; 12000];
-    let mut scratch64 = [0.0f64; 8000];
-    let mut out = [0u8; 33024];
-    let listener = fresh();
-    let receiver = SigfoxReceiver::new(RATE);
-    let mut s = Reading {
-        filled: 0,
-        more: true,
-        going: true,
-        refused: 0,
-        listener,
-        receiver,
+    let no_reading = Reading {
+        at: 0,
+        lo: 0,
+        hz: 0.0,
     };
-    let mut left = MOST_READS;
-    while left > 0 && s.more {
-        s = turn(
+    let no_tuning = Tuning { at: 0, freq: 0 };
+    let mut readings = [no_reading; 8000];
+    let mut tunings = [no_tuning; 64];
+    let mut b = Buffers {
+        samples: [0.0; 12000],
+        events: [0; 30720],
+        scratch32: [0.0; 12000],
+        scratch64: [0.0; 8000],
+    };
+    let mut out = [0u8; 33024];
+    let mut listener = fresh();
+    let mut receiver = SigfoxReceiver::new(RATE);
+    let mut filled = 0;
+    for _ in 0..MOST_READS {
+        let n = turn(
             rt,
-            s,
+            filled,
+            &mut listener,
+            &mut receiver,
             &mut input,
-            &mut at,
-            &mut lo,
-            &mut hz,
-            &mut tuned,
-            &mut freq,
-            &mut samples,
-            &mut events,
-            &mut scratch32,
-            &mut scratch64,
+            &mut readings,
+            &mut tunings,
+            &mut b,
             &mut out,
-        );
-        left -= 1;
+        )?;
+        filled = (filled + n) % BUFFER;
+        if n == 0 {
+            break;
+        }
     }
     conclude(
-        rt,
-        s,
-        &at,
-        &lo,
-        &hz,
-        &tuned,
-        &freq,
-        &input,
-        &mut samples,
-        &mut events,
-        &mut scratch32,
-        &mut scratch64,
-        &mut out,
-    )
+        rt, filled, listener, receiver, &readings, &tunings, &input, &mut b, &mut out,
+    );
+    Ok(())
 }

@@ -2,6 +2,7 @@
 ghost use Rattle.std.specs.Prelude.{◌≡◌, List, ◌++◌, ℕ, ◌+◌, ◌^◌, ◌≤◌, ◌<◌, length};
 ghost use Rattle.limits.specs.Answer.{cause_of};
 ghost use Rattle.ledger.specs.Ledger.{by_frames, Ledger, push_raw};
+ghost use Rattle.frequency_lists.specs.declared.Tuning.{Tuning};
 ghost use Rattle.frequency.specs.Lent.{Lists, lists};
 ghost use Rattle.frequency_grown.specs.Rising.{Single};
 ghost use Rattle.listening_lines.specs.Text.{widest, Added};
@@ -14,8 +15,11 @@ ghost use Rattle.listening.specs.Hand.{out_places, begun_as, passed_as, state_of
 
 use crate::{Brought, Listener};
 use frequency::FrequencyTracker;
+use frequency_lists::{Reading, Tuning};
 use limits::Refusal;
-use listening_records::Told;
+use listening_lines::Line;
+use listening_receiver::Buffers;
+use listening_records::{Told, Tracked};
 use receiver::SigfoxReceiver;
 
 // Samples per second.
@@ -47,15 +51,13 @@ fn pass(l: &mut Listener)
     l.samples += SAMPLES;
 }
 
-// `R number` behind the text, where there was a refusal.
-fn add_refused(out: &mut [u8], at: usize, went: Result<(), Refusal>) -> usize
-    requires { at + widest ≤ length out.old }
-    ensures added { Added out.old at (refusal_text (cause_of went)) result out.new }
-    ensures upper_bound { result ≤ at + widest }
+// `R number`, where there was a refusal.
+fn refused_line(went: Result<(), Refusal>) -> Line
+    ensures { result ≡ refusal_text (cause_of went) }
 {
     match went {
-        Ok(()) => at,
-        Err(refusal) => listening_lines::add_refusal(out, at, refusal),
+        Ok(()) => Line::new(),
+        Err(refusal) => listening_lines::refusal_line(refusal),
     }
 }
 
@@ -65,20 +67,15 @@ fn receive(
     receiver: &mut SigfoxReceiver,
     end: usize,
     raw: &[u8],
-    at: &[u64; 8000],
-    lo: &[u32; 8000],
-    hz: &[f64; 8000],
-    samples: &mut [f32; 12000],
-    events: &mut [u8; 30720],
-    scratch32: &mut [f32; 12000],
-    scratch64: &mut [f64; 8000],
+    readings: &[Reading; 8000],
+    b: &mut Buffers,
     out: &mut [u8],
 ) -> Brought
-    requires standing { Standing receiver.old samples.old }
+    requires standing { Standing receiver.old b.old.samples }
     requires end_le_widest { (end ≤ widest) × (out_places ≤ length out.old) × (l.old.passed ≤ 2 ^ 53) × (l.old.frames + most < 2 ^ 64) × (l.old.messages + most < 2 ^ 64) }
-    ensures goes { (g : Ledger by_frames) (tuned freq old text : List ℕ) → StandsFor receiver.old samples.old g → Added old 0 text end out.old
-        → Goes (received (state_of l.old (lists at.now lo.now hz.now tuned freq) g) text (push_raw raw.now))
-        old (stepped result l.new receiver.new) (lists at.now lo.now hz.now tuned freq) samples.new out.new }
+    ensures goes { (g : Ledger by_frames) (tunings : List Tuning) (old text : List ℕ) → StandsFor receiver.old b.old.samples g → Added old 0 text end out.old
+        → Goes (received (state_of l.old (lists readings.now tunings) g) text (push_raw raw.now))
+        old (stepped result l.new receiver.new) (lists readings.now tunings) b.new.samples out.new }
     ensures receives { Receives l.old (stepped result l.new receiver.new) out.old out.new }
 {
     let mut told = Told {
@@ -86,13 +83,17 @@ fn receive(
         messages: l.messages,
         end,
     };
-    let went = listening_receiver::hear(
-        &mut told, receiver, l.started, l.passed, l.tracker, raw, at, lo, hz, samples, events,
-        scratch32, scratch64, out,
-    );
+    let q = Tracked {
+        started: l.started,
+        passed: l.passed,
+        tracker: l.tracker,
+        readings,
+    };
+    let went = listening_receiver::hear(&mut told, receiver, q, raw, b, out);
     l.frames = told.frames;
     l.messages = told.messages;
-    let last = add_refused(out, told.end, went);
+    let line = refused_line(went);
+    let last = line.add_to(out, told.end);
     Brought { end: last, went }
 }
 
@@ -102,36 +103,22 @@ fn track(
     now_hz: u32,
     cfo: u16,
     dbm: &[f32],
-    at: &mut [u64; 8000],
-    lo: &mut [u32; 8000],
-    hz: &mut [f64; 8000],
-    tuned: &mut [u64; 64],
-    freq: &mut [u32; 64],
+    readings: &mut [Reading; 8000],
+    tunings: &mut [Tuning; 64],
     scratch: &mut [f64; 8000],
     out: &mut [u8],
 ) -> Brought
-    requires { (Single l.old.tracker (lists at.old lo.old hz.old tuned.old freq.old)) × (Room most l.old) × (out_places ≤ length out.old) }
+    requires { (Single l.old.tracker (lists readings.old tunings.old)) × (Room most l.old) × (out_places ≤ length out.old) }
     ensures by_index { (raw : List ℕ) → Follows
-        (λ (g : Ledger by_frames). turned (state_of l.old (lists at.old lo.old hz.old tuned.old freq.old) g) raw
-        (turn reading_places now_hz dbm.now cfo l.old.tracker (lists at.old lo.old hz.old tuned.old freq.old)))
-        raw (followed result l.new) (lists at.new lo.new hz.new tuned.new freq.new) out.old out.new }
-    ensures leads { Leads l.old (followed result l.new) (lists at.new lo.new hz.new tuned.new freq.new) out.old out.new }
+        (λ (g : Ledger by_frames). turned (state_of l.old (lists readings.old tunings.old) g) raw
+        (turn reading_places now_hz dbm.now cfo l.old.tracker (lists readings.old tunings.old)))
+        raw (followed result l.new) (lists readings.new tunings.new) out.old out.new }
+    ensures leads { Leads l.old (followed result l.new) (lists readings.new tunings.new) out.old out.new }
 {
     l.started = true;
-    match listening_tracker::track(
-        &mut l.tracker,
-        now_hz,
-        dbm,
-        cfo,
-        at,
-        lo,
-        hz,
-        tuned,
-        freq,
-        scratch,
-    ) {
+    match listening_tracker::track(&mut l.tracker, now_hz, dbm, cfo, readings, tunings, scratch) {
         Err(refusal) => {
-            let end = listening_lines::add_refusal(out, 0, refusal);
+            let end = listening_lines::refusal_line(refusal).add_to(out, 0);
             Brought {
                 end,
                 went: Err(refusal),
@@ -139,7 +126,7 @@ fn track(
         }
         Ok(tune) => {
             l.samples += SAMPLES;
-            let end = listening_lines::add_tune(out, 0, tune);
+            let end = listening_lines::tune_line(tune).add_to(out, 0);
             Brought { end, went: Ok(()) }
         }
     }
@@ -149,19 +136,16 @@ fn track(
 fn follow(
     l: &mut Listener,
     bytes: &[u8],
-    at: &mut [u64; 8000],
-    lo: &mut [u32; 8000],
-    hz: &mut [f64; 8000],
-    tuned: &mut [u64; 64],
-    freq: &mut [u32; 64],
+    readings: &mut [Reading; 8000],
+    tunings: &mut [Tuning; 64],
     scratch: &mut [f64; 8000],
     out: &mut [u8],
 ) -> Brought
-    requires { (Single l.old.tracker (lists at.old lo.old hz.old tuned.old freq.old)) × (Room most l.old) × (out_places ≤ length out.old) × (length bytes.now ≡ 16) }
+    requires { (Single l.old.tracker (lists readings.old tunings.old)) × (Room most l.old) × (out_places ≤ length out.old) × (length bytes.now ≡ 16) }
     ensures follows { Follows
-        (λ (g : Ledger by_frames). program.step (state_of l.old (lists at.old lo.old hz.old tuned.old freq.old) g) bytes.now)
-        (raw_of bytes.now) (followed result l.new) (lists at.new lo.new hz.new tuned.new freq.new) out.old out.new }
-    ensures leads { Leads l.old (followed result l.new) (lists at.new lo.new hz.new tuned.new freq.new) out.old out.new }
+        (λ (g : Ledger by_frames). program.step (state_of l.old (lists readings.old tunings.old) g) bytes.now)
+        (raw_of bytes.now) (followed result l.new) (lists readings.new tunings.new) out.old out.new }
+    ensures leads { Leads l.old (followed result l.new) (lists readings.new tunings.new) out.old out.new }
 {
     let now_hz = endian::get::<u32>(bytes, 10);
     let waits = !l.started & (now_hz == 0);
@@ -176,7 +160,7 @@ fn follow(
     let mut dbm = [0.0f32; 8];
     receiver_samples::dbm_of_all(&bytes[..8], &mut dbm);
     begin(l, now_hz);
-    track(l, now_hz, cfo, &dbm, at, lo, hz, tuned, freq, scratch, out)
+    track(l, now_hz, cfo, &dbm, readings, tunings, scratch, out)
 }
 
 // A record of 16 bytes: the text that it brings stands at the start of `out` then.
@@ -184,40 +168,21 @@ pub fn record_step(
     l: &mut Listener,
     receiver: &mut SigfoxReceiver,
     bytes: &[u8],
-    at: &mut [u64; 8000],
-    lo: &mut [u32; 8000],
-    hz: &mut [f64; 8000],
-    tuned: &mut [u64; 64],
-    freq: &mut [u32; 64],
-    samples: &mut [f32; 12000],
-    events: &mut [u8; 30720],
-    scratch32: &mut [f32; 12000],
-    scratch64: &mut [f64; 8000],
+    readings: &mut [Reading; 8000],
+    tunings: &mut [Tuning; 64],
+    b: &mut Buffers,
     out: &mut [u8],
 ) -> Brought
-    requires standing { Standing receiver.old samples.old }
-    requires single { (Single l.old.tracker (lists at.old lo.old hz.old tuned.old freq.old)) × (Room most l.old) × (out_places ≤ length out.old) × (length bytes.now ≡ 16) }
-    ensures goes { (g : Ledger by_frames) → StandsFor receiver.old samples.old g
-        → Goes (program.step (state_of l.old (lists at.old lo.old hz.old tuned.old freq.old) g) bytes.now)
-        out.old (stepped result l.new receiver.new) (lists at.new lo.new hz.new tuned.new freq.new) samples.new out.new }
-    ensures steps { Steps l.old (stepped result l.new receiver.new) (lists at.new lo.new hz.new tuned.new freq.new) out.old out.new }
+    requires standing { Standing receiver.old b.old.samples }
+    requires single { (Single l.old.tracker (lists readings.old tunings.old)) × (Room most l.old) × (out_places ≤ length out.old) × (length bytes.now ≡ 16) }
+    ensures goes { (g : Ledger by_frames) → StandsFor receiver.old b.old.samples g
+        → Goes (program.step (state_of l.old (lists readings.old tunings.old) g) bytes.now)
+        out.old (stepped result l.new receiver.new) (lists readings.new tunings.new) b.new.samples out.new }
+    ensures steps { Steps l.old (stepped result l.new receiver.new) (lists readings.new tunings.new) out.old out.new }
 {
-    let f = follow(l, bytes, at, lo, hz, tuned, freq, scratch64, out);
+    let f = follow(l, bytes, readings, tunings, &mut b.scratch64, out);
     match f.went {
-        Ok(()) => receive(
-            l,
-            receiver,
-            f.end,
-            &bytes[..8],
-            at,
-            lo,
-            hz,
-            samples,
-            events,
-            scratch32,
-            scratch64,
-            out,
-        ),
+        Ok(()) => receive(l, receiver, f.end, &bytes[..8], readings, b, out),
         Err(_) => f,
     }
 }

@@ -1,15 +1,15 @@
 -- Texts behind each other in a buffer, and the digits of numbers. Assumes nothing.
 use Prim.Native.Nat.{ℕ, zero, suc, ◌+◌, ◌-◌, ◌*◌, ◌/◌, ◌%◌, ◌^◌, ◌≤◌, ◌<◌, min, max}
 use mathlib.Core.Path.{◌≡◌, refl, ap, sym, ◌∙◌}
-use mathlib.Core.Bool.{Bool, true, false, cond}
+use mathlib.Core.Bool.{Bool, true, false}
 use mathlib.Core.List.{List, [], ◌∷◌, ◌++◌, append_assoc, append-nil}
 use native.Mathlib.Omega.{arith}
 use native.Mathlib.Numerals.{add-one}
 use native.Mathlib.Nat.{mod-eq_of_lt, pow-suc, pow-le-pow_right, le-div_iff_mul-le, div-lt_iff_lt-mul}
 use borrow.Author.Tests.{lt-ltb, le-ltb, ltb-true, ltb-false}
 use lib.Dec.{ltb}
-use lib.ListN.{length, take, drop, get_or, set, length-set, length-append}
-use lib.Seq.{take-suc, take-suc-set, take-length, drop-drop, drop-set-lt}
+use lib.ListN.{length, take, drop, get_or, length-append}
+use lib.Seq.{take-suc, drop-drop}
 use Rattle.io.specs.Digits.{hex_digit_ascii, last_digits, IsDigitCount}
 use Rattle.listening_lines.specs.Text.{decimal_by, decimal, hex, hex_bytes, Added}
 
@@ -42,19 +42,6 @@ decimal-digits (suc f) (suc k) n le lt lo =
     let h : 10 ≤ n = omega arith in
     let d : ltb (n % 10) 10 ≡ true = lt-ltb (n % 10) 10 (omega arith) in
     rw (le-ltb n 10 h, d, ← decimal-digits f k (n / 10) (omega arith) ((div-lt_iff_lt-mul {k = 10} {x = n} {y = 10 ^ suc k} (omega arith)).1 high) (λ z. (le-div_iff_mul-le {k = 10} {x = 10 ^ k} {y = n} (omega arith)).1 low)) refl
-
-pub decimal_by_length : (k n : ℕ) → length (decimal_by k n) ≤ k
-unfolding decimal_by
-decimal_by_length zero n = omega arith
-decimal_by_length (suc k) n = both (decimal_by_length k (n / 10)) (ltb n 10)
-  where
-    both : length (decimal_by k (n / 10)) ≤ k → (b : Bool) → length (cond b ((48 + n) ∷ []) (decimal_by k (n / 10) ++ ((48 + n % 10) ∷ []))) ≤ suc k
-    both h true = omega arith
-    both h false = rw (length-append (decimal_by k (n / 10)) ((48 + n % 10) ∷ [])) (omega arith)
-
-pub decimal-length : (n : ℕ) → length (decimal n) ≤ 20
-unfolding decimal
-decimal-length n = decimal_by_length 20 n
 
 -- ---- hexadecimal digits
 
@@ -107,15 +94,6 @@ decimal_of n (suc k) lt h =
 -- no text
 pub nothing : (old : List ℕ) (at : ℕ) → Added old at [] at old
 nothing old at = record { end = omega arith; front = sym (append-nil (take at old)); rest = refl; room = refl }
-
--- one byte
-pub one_byte : (old : List ℕ) (at b : ℕ) → at + 1 ≤ length old → Added old at (b ∷ []) (at + 1) (set old at b)
-one_byte old at b h = record {
-  end = refl;
-  front = rw (add-one, take-suc-set old at b (omega arith)) refl;
-  rest = drop-set-lt (at + 1) old at b (omega arith);
-  room = length-set old at b;
-}
 
 -- the same text, written otherwise
 pub as_text : {old new a b : List ℕ} {at r : ℕ} → a ≡ b → Added old at a r new → Added old at b r new

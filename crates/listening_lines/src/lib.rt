@@ -1,128 +1,103 @@
-// The lines of `listen` as text (01, frequency.rs): each is put into a lent buffer, behind what stands there.
+// The lines of `listen` as text (01, frequency.rs).
 #![tactic(auto)]
 
-mod writing; // text and numbers behind what stands in a buffer
+mod line; // a line as it is built
 
-ghost use Rattle.std.specs.Prelude.{◌≡◌, ◌+◌, ◌≤◌, length};
-ghost use Rattle.limits.specs.Limits.{record_size};
+ghost use Rattle.std.specs.Prelude.{◌≡◌, ◌+◌, ◌≤◌, ◌++◌, length};
 ghost use Rattle.limits.specs.Refusals.{number_of};
-ghost use Rattle.listening_lines.specs.Text.{Added, hex, widest};
+ghost use Rattle.listening_lines.specs.Text.{widest};
 ghost use Rattle.listening_lines.specs.Lines.{tune_line, payload_text, hz_text, sender_text, message_line, refusal_line, end_line};
 
-use crate::writing::{add_byte, add_field, add_head, add_hex, add_number};
+pub use crate::line::Line;
 use limits::Refusal;
-use record::read;
+use record::read::EventRecord;
 
-// The room of a line: no line is longer.
-pub const WIDEST: usize = 128;
-
-// `T hz`, where the receiver is to be tuned anew.
-pub fn add_tune(out: &mut [u8], at: usize, to: Option<u32>) -> usize
-    requires { at + widest ≤ length out.old }
-    ensures added { Added out.old at (tune_line to) result out.new }
-    ensures upper_bound { result ≤ at + widest }
+// `T hz`; no line where the receiver is not to be tuned anew.
+pub fn tune_line(to: Option<u32>) -> Line
+    ensures { result ≡ tune_line to }
 {
     match to {
-        None => at,
+        None => Line::new(),
         Some(hz) => {
-            let next = add_head(out, at, b'T');
-            add_field(out, next, u64::from(hz), b'\n')
+            let mut line = Line::head(b'T');
+            line.put_field(u64::from(hz), b'\n');
+            line
         }
     }
 }
 
-// A byte in two hexadecimal digits.
-fn add_hex_byte(out: &mut [u8], at: usize, b: u8) -> usize
-    requires { at + 16 ≤ length out.old }
-    ensures added { Added out.old at (hex 2 b) result out.new }
-    ensures value { result ≡ at + 2 }
+// `M device counter ranks `
+fn sender(event: EventRecord) -> Line
+    ensures text { result ≡ sender_text event.entry.bytes.now }
+    ensures upper_bound { length result ≤ 64 }
 {
-    add_hex(out, at, u64::from(b), 2)
+    let mut line = Line::head(b'M');
+    line.put_hex(u64::from(event.device()), 8);
+    line.put_byte(b' ');
+    line.put_field(u64::from(event.counter()), b' ');
+    line.put_field(u64::from(event.rank()), b' ');
+    line
 }
 
 // The payload in hexadecimal digits, or `-`.
-fn add_payload(out: &mut [u8], at: usize, event: &[u8]) -> usize
-    requires { (at + 48 ≤ length out.old) × (record_size ≤ length event.now) }
-    ensures added { Added out.old at (payload_text event.now) result out.new }
-    ensures upper_bound { result ≤ at + 24 }
+fn put_payload(line: &mut Line, event: EventRecord)
+    requires { length line.old + 48 ≤ widest }
+    ensures text { line.new ≡ line.old ++ payload_text event.entry.bytes.now }
+    ensures upper_bound { length line.new ≤ length line.old + 24 }
 {
-    let n = read::payload_len_of(event);
+    let n = event.payload_len();
     if n == 0 {
-        return add_byte(out, at, b'-');
+        line.put_byte(b'-');
+        return;
     }
-    let mut next = at;
     let end = 16 + usize::from(n.min(12));
-    for b in &event[16..end] {
-        next = add_hex_byte(out, next, *b);
+    for b in &event.bytes[16..end] {
+        line.put_hex(u64::from(*b), 2);
     }
-    next
 }
 
 // The answer of `frame1`, or `-`.
-fn add_hz(out: &mut [u8], at: usize, answer: Option<u32>) -> usize
-    requires { at + 20 ≤ length out.old }
-    ensures added { Added out.old at (hz_text answer) result out.new }
-    ensures upper_bound { result ≤ at + 20 }
+fn put_hz(line: &mut Line, answer: Option<u32>)
+    requires { length line.old + 20 ≤ widest }
+    ensures text { line.new ≡ line.old ++ hz_text answer }
+    ensures upper_bound { length line.new ≤ length line.old + 20 }
 {
     match answer {
-        None => add_byte(out, at, b'-'),
-        Some(hz) => add_number(out, at, u64::from(hz)),
+        None => line.put_byte(b'-'),
+        Some(hz) => line.put_number(u64::from(hz)),
     }
 }
 
-// `R number`
-pub fn add_refusal(out: &mut [u8], at: usize, refusal: Refusal) -> usize
-    requires { at + widest ≤ length out.old }
-    ensures added { Added out.old at (refusal_line (number_of refusal)) result out.new }
-    ensures upper_bound { result ≤ at + widest }
+// `M device counter ranks payload hz`
+pub fn message_line(event: EventRecord, answer: Option<u32>) -> Line
+    ensures { result ≡ message_line event.entry.bytes.now answer }
 {
-    let next = add_head(out, at, b'R');
+    let mut line = sender(event);
+    put_payload(&mut line, event);
+    line.put_byte(b' ');
+    put_hz(&mut line, answer);
+    line.put_byte(b'\n');
+    line
+}
+
+// `R number`
+pub fn refusal_line(refusal: Refusal) -> Line
+    ensures { result ≡ refusal_line (number_of refusal) }
+{
+    let mut line = Line::head(b'R');
     let number = u8::from(refusal);
-    add_field(out, next, u64::from(number), b'\n')
+    line.put_field(u64::from(number), b'\n');
+    line
 }
 
 // `E samples frames messages leftover-bytes`
-pub fn add_end(
-    out: &mut [u8],
-    at: usize,
-    samples: u64,
-    frames: u64,
-    messages: u64,
-    leftover: usize,
-) -> usize
-    requires { at + widest ≤ length out.old }
-    ensures added { Added out.old at (end_line samples frames messages leftover) result out.new }
-    ensures upper_bound { result ≤ at + widest }
+pub fn end_line(samples: u64, frames: u64, messages: u64, leftover: usize) -> Line
+    ensures { result ≡ end_line samples frames messages leftover }
 {
-    let a = add_head(out, at, b'E');
-    let b = add_field(out, a, samples, b' ');
-    let c = add_field(out, b, frames, b' ');
-    let d = add_field(out, c, messages, b' ');
-    add_field(out, d, leftover as u64, b'\n')
-}
-
-// `M device counter ranks `
-fn add_sender(out: &mut [u8], at: usize, event: &[u8]) -> usize
-    requires { (at + 64 ≤ length out.old) × (record_size ≤ length event.now) }
-    ensures added { Added out.old at (sender_text event.now) result out.new }
-    ensures upper_bound { result ≤ at + 64 }
-{
-    let a = add_head(out, at, b'M');
-    let b = add_hex(out, a, u64::from(read::device_of(event)), 8);
-    let c = add_byte(out, b, b' ');
-    let d = add_field(out, c, u64::from(read::counter_of(event)), b' ');
-    add_field(out, d, u64::from(read::rank_of(event)), b' ')
-}
-
-// `M device counter ranks payload hz`
-pub fn add_message(out: &mut [u8], at: usize, event: &[u8], answer: Option<u32>) -> usize
-    requires { (at + widest ≤ length out.old) × (record_size ≤ length event.now) }
-    ensures added { Added out.old at (message_line event.now answer) result out.new }
-    ensures upper_bound { result ≤ at + widest }
-{
-    let a = add_sender(out, at, event);
-    let b = add_payload(out, a, event);
-    let c = add_byte(out, b, b' ');
-    let d = add_hz(out, c, answer);
-    add_byte(out, d, b'\n')
+    let mut line = Line::head(b'E');
+    line.put_field(samples, b' ');
+    line.put_field(frames, b' ');
+    line.put_field(messages, b' ');
+    line.put_field(leftover as u64, b'\n');
+    line
 }

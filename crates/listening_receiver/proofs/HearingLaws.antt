@@ -1,11 +1,9 @@
 -- A call's answer told, by the ledger that the port stands for. Assumes nothing.
-use Prim.Native.Nat.{ℕ, zero, suc, ◌+◌, ◌*◌, ◌≤◌}
+use Prim.Native.Nat.{ℕ, zero, suc, ◌*◌, ◌≤◌}
 use mathlib.Core.Path.{◌≡◌, refl, sym, ap, ◌∙◌, subst}
-use mathlib.Core.Bool.{Bool}
-use mathlib.Core.List.{List, [], ◌∷◌, ◌++◌}
+use mathlib.Core.List.{List, [], ◌∷◌}
 use native.Mathlib.Omega.{arith}
 use lib.ListN.{length, drop, length-append, length-drop, length-replicate}
-use lib.Ieee.{Float}
 use Rattle.floats.specs.Number.{num}
 use Rattle.limits.specs.Limits.{record_size}
 use Rattle.demod.specs.Capture.{joined}
@@ -17,7 +15,6 @@ use Rattle.ledger.specs.Records.{with_records}
 use Rattle.ledger.specs.Records as records
 use Rattle.ledger.proofs.Basics.{Every}
 use Rattle.ledger.proofs.Seeing.{RecordSized}
-use Rattle.frequency.specs.declared.FrequencyTracker.{FrequencyTracker}
 use Rattle.receiver.specs.declared.SigfoxReceiver.{SigfoxReceiver}
 use Rattle.std.proofs.Common.{Result, Ok, Err}
 use Rattle.limits.specs.declared.Refusal.{Refusal}
@@ -25,11 +22,12 @@ use Rattle.limits.specs.Refusals.{number_of}
 use Rattle.limits.specs.Answer.{cause_of}
 use Rattle.limits.proofs.AnswerLaws.{number-positive}
 use Rattle.receiver.specs.Calls.{Memory, Received, received, Answered}
-use Rattle.history.specs.Runs.{Request, call_of, Typed, Exchange, Did, attempt_of}
+use Rattle.history.specs.Runs.{Request, call_of, Typed, Exchange, attempt_of}
 use Rattle.history.proofs.Calls as calls
-use Rattle.listening_records.specs.Emission.{Emission, Asked, emitted_all, Tells, Grown}
+use Rattle.listening_records.specs.Emission.{Emission, Asked, asked, emitted_all, Tells, Grown}
 use Rattle.listening_records.specs.declared.Told.{Told}
-use Rattle.listening_receiver.specs.Hearing.{rate, most, attempt, call_refusal, call_records, ledger_after, heard_by, heard}
+use Rattle.listening_records.specs.declared.tracked.Tracked.{Tracked}
+use Rattle.listening_receiver.specs.Hearing.{rate, most, call_refusal, call_records, ledger_after, heard_by, heard}
 use Rattle.listening_receiver.specs.Standing.{silence, StandsFor, count_of}
 
 pub silence-length : length silence ≡ 12000
@@ -123,11 +121,11 @@ module _ (s : SigfoxReceiver) (q : Request) (typed : Typed q) (before after : Me
       omega (arith, n, k, e)
 
   -- and they are told
-  pub call_told : (a : Result ℕ Refusal) (s' : SigfoxReceiver) (on : Bool) (passed : ℕ) (t : FrequencyTracker) (at lo : List ℕ) (hz : List Float) (room k : ℕ) (p : Emission) (old out' : List ℕ) (start : ℕ) (u : Told) → r ≡ received a s' → room ≡ 8000
-      → Tells (heard_by (cause_of a) (record { started = on; passed = passed; tracker = t; at = at; lo = lo; hz = hz; room = room }) p (records.records_in (count_of a) after.events)) old start k u out'
-      → Tells (heard (record { started = on; passed = passed; tracker = t; at = at; lo = lo; hz = hz; room = 8000 }) p l (call_of q)) old start k u out'
+  pub call_told : (a : Result ℕ Refusal) (s' : SigfoxReceiver) (u : Tracked) (room k : ℕ) (p : Emission) (old out' : List ℕ) (start : ℕ) (t : Told) → r ≡ received a s' → room ≡ 8000
+      → Tells (heard_by (cause_of a) (asked u room) p (records.records_in (count_of a) after.events)) old start k t out'
+      → Tells (heard (asked u 8000) p l (call_of q)) old start k t out'
   unfolding heard
-  call_told a s' on passed t at lo hz room k p old out' start u same z h =
+  call_told a s' u room k p old out' start t same z h =
       let c : cause_of a ≡ call_refusal l (call_of q) = sym (received-refused a s') ∙ ap (λ (x : Received). x.refused) (sym same) ∙ refused_is in
       let n : records.records_in (count_of a) after.events ≡ call_records l (call_of q) =
       ap (λ (i : ℕ). records.records_in i after.events) (sym (received-count a s') ∙ ap (λ (x : Received). x.count) (sym same)) ∙ records_are in

@@ -1,16 +1,16 @@
 -- One record more. Assumes nothing.
-use Rattle.std.proofs.Common.{Option, None, Some}
-use Prim.Native.Nat.{ℕ, zero, suc, ◌+◌, ◌-◌, ◌*◌, ◌≤◌, ◌<◌}
+use Rattle.std.proofs.Common.{Option, None}
+use Prim.Native.Nat.{ℕ, zero, suc, ◌+◌, ◌-◌, ◌*◌, ◌<◌}
 use mathlib.Core.Path.{◌≡◌, refl, sym, ap, ◌∙◌}
-use mathlib.Core.Bool.{Bool, true, false, cond}
+use mathlib.Core.Bool.{Bool, true, false}
 use mathlib.Core.List.{List, [], ◌∷◌, ◌++◌}
 use native.Mathlib.Omega.{arith}
 use borrow.Author.Tests.{eq-eqb, ne_eqb}
-use lib.Dec.{eqb}
 use lib.Ieee.{Float, binary64, of_bits, of_int, round}
 use Rattle.floats.specs.Number.{num}
+use Rattle.frequency_lists.specs.declared.Reading.{Reading}
 use Rattle.frequency.specs.declared.FrequencyTracker.{FrequencyTracker}
-use lib.ListN.{length, take, drop}
+use lib.ListN.{take, drop}
 use lib.Seq.{drop-drop}
 use Rattle.limits.specs.Limits.{record_size}
 use Rattle.ledger.specs.Records.{records_in}
@@ -22,7 +22,8 @@ use Rattle.listening_lines.specs.Text.{Added}
 use Rattle.listening_lines.specs.Lines.{message_line}
 use Rattle.listening_lines.proofs.TextLaws.{behind}
 use Rattle.listening_records.specs.declared.Told.{Told}
-use Rattle.listening_records.specs.Emission.{Emission, Asked, earlier, spans_in, downlink_in, with_frame, with_line, with_message, answer_for, emitted, emitted_all, Tells, Within, Grown}
+use Rattle.listening_records.specs.declared.tracked.Tracked.{Tracked}
+use Rattle.listening_records.specs.Emission.{Emission, Asked, asked, earlier, spans_in, downlink_in, with_frame, with_line, with_message, answer_for, emitted, emitted_all, Tells, Within, Grown}
 
 pub line_told : (p : Emission) (old out out' : List ℕ) (start r : ℕ) (t : Told) (e : List ℕ) (a : (Option ℕ)) → Added out t.end (message_line e a) r out' → Tells p old start 0 t out
     → Tells (with_line e a p) old start 0 (record { frames = t.frames; messages = t.messages + 1; end = r }) out'
@@ -48,7 +49,7 @@ unfolding answer_for
 not_started q e h = rw h refl
 
 pub answered : (q : Asked) (e : List ℕ) → q.started ≡ true
-    → frame1_answer q.tracker q.at q.lo q.hz q.room (spans_in (earlier q.passed) e) (downlink_in e) ≡ answer_for q e
+    → frame1_answer q.tracker q.readings q.room (spans_in (earlier q.passed) e) (downlink_in e) ≡ answer_for q e
 unfolding answer_for
 answered q e h = rw h refl
 
@@ -72,10 +73,6 @@ frame_told p old out start t h = record { refused = refl; frames = ap (λ (n : �
 -- the same emission, written otherwise
 pub as_told : {p u : Emission} {old out : List ℕ} {start k : ℕ} {t : Told} → p ≡ u → Tells p old start k t out → Tells u old start k t out
 as_told {p} {u} {old} {out} {start} {k} {t} g h = rw g at h
-
--- and the same number of a refusal
-pub as_refused : {p : Emission} {old out : List ℕ} {start k n : ℕ} {t : Told} → k ≡ n → Tells p old start k t out → Tells p old start n t out
-as_refused {p} {old} {out} {start} {k} {n} {t} g h = rw g at h
 
 -- the last record comes after the others
 pub emitted_last : (q : Asked) (p : Emission) (es : List (List ℕ)) (e : List ℕ) → emitted q (emitted_all q p es) e ≡ emitted_all q p (es ++ (e ∷ []))
@@ -130,14 +127,13 @@ unfolding emitted_all records_in
 none_told q p events = refl
 
 -- a turn of the loop over a call's records
-pub turn_told : (started : Bool) (passed : ℕ) (t : FrequencyTracker) (at lo : List ℕ) (hz : List Float) (room room' : ℕ) (p : Emission) (old out out' : List ℕ) (start i k : ℕ) (events e : List ℕ) (m r : Told)
+pub turn_told : (q : Tracked) (room room' : ℕ) (p : Emission) (old out out' : List ℕ) (start i k : ℕ) (events e : List ℕ) (m r : Told)
     → room' ≡ room → e ≡ take record_size (drop (record_size * i) events)
-    → Tells (emitted_all (record { started = started; passed = passed; tracker = t; at = at; lo = lo; hz = hz; room = room }) p (records_in i events)) old start 0 m out
-    → ((u : Emission) → Tells u old start 0 m out → Tells (emitted (record { started = started; passed = passed; tracker = t; at = at; lo = lo; hz = hz; room = room' }) u e) old start k r out')
-    → Tells (emitted_all (record { started = started; passed = passed; tracker = t; at = at; lo = lo; hz = hz; room = room }) p (records_in (i + 1) events)) old start k r out'
-turn_told started passed t at lo hz room room' p old out out' start i k events e m r x y h f =
-    let q : Asked = record { started = started; passed = passed; tracker = t; at = at; lo = lo; hz = hz; room = room } in
-    as_told (emitted_last q p (records_in i events) (take record_size (drop (record_size * i) events)) ∙ ap (emitted_all q p) (records_more i events)) (rw (x, y) at (f _ h))
+    → Tells (emitted_all (asked q room) p (records_in i events)) old start 0 m out
+    → ((u : Emission) → Tells u old start 0 m out → Tells (emitted (asked q room') u e) old start k r out')
+    → Tells (emitted_all (asked q room) p (records_in (i + 1) events)) old start k r out'
+turn_told q room room' p old out out' start i k events e m r x y h f =
+    as_told (emitted_last (asked q room) p (records_in i events) (take record_size (drop (record_size * i) events)) ∙ ap (emitted_all (asked q room) p) (records_more i events)) (rw (x, y) at (f _ h))
 
 -- a record of the event buffer, as the code takes it
 pub record_part : (i : ℕ) (events : List ℕ) → take (120 * i + 120 - 120 * i) (drop (120 * i) events) ≡ take record_size (drop (record_size * i) events)

@@ -5,13 +5,15 @@ use Rattle.std.specs.Float.Ieee.{sub, div}
 use Rattle.floats.specs.Number.{num}
 use Rattle.record.specs.declared.FrameSpan.{FrameSpan}
 use Rattle.record.specs.Record.{frame_kind}
-use Rattle.record.specs.Readers.{kind_of, flags_of, span_rank_of, span_time_of, span_end_of}
+use Rattle.record.specs.Readers.{kind_of, flags_of, span_at}
+use Rattle.frequency_lists.specs.declared.Reading.{Reading}
 use Rattle.frequency.specs.declared.FrequencyTracker.{FrequencyTracker}
 use Rattle.limits.specs.Answer.{Answer, refused, accepted}
 use Rattle.frequency.specs.Calls.{frame1_answer}
 use Rattle.listening_lines.specs.Text.{Added, widest}
 use Rattle.listening_lines.specs.Lines.{message_line}
 use Rattle.listening_records.specs.declared.Told.{Told}
+use Rattle.listening_records.specs.declared.tracked.Tracked.{Tracked}
 
 -- the number of a refusal or 0, what was counted ("E samples frames messages"), and the text of the lines
 pub record Emission : Type 0 where
@@ -25,8 +27,11 @@ abbrev pub earlier : ℕ → Float
 earlier passed = div binary64 (num passed) (num 1000)
 
 -- a message's spans and flag, read off its record, its times earlier by that; the rank is as it is
+abbrev pub shifted : Float → FrameSpan → FrameSpan
+shifted by s = record { rank = s.rank; time = sub binary64 s.time by; end = sub binary64 s.end by }
+
 abbrev pub span_in : Float → List ℕ → ℕ → FrameSpan
-span_in by e i = record { rank = span_rank_of e i; time = sub binary64 (span_time_of e i) by; end = sub binary64 (span_end_of e i) by }
+span_in by e i = shifted by (span_at e i)
 
 abbrev pub spans_in : Float → List ℕ → List FrameSpan
 spans_in by e = span_in by e 0 ∷ span_in by e 1 ∷ span_in by e 2 ∷ []
@@ -53,15 +58,16 @@ pub record Asked : Type 0 where
   pub started : Bool
   pub passed : ℕ
   pub tracker : FrequencyTracker
-  pub at : List ℕ
-  pub lo : List ℕ
-  pub hz : List Float
+  pub readings : List Reading
   pub room : ℕ
+
+abbrev pub asked : Tracked → ℕ → Asked
+asked q room = record { started = q.started; passed = q.passed; tracker = q.tracker; readings = q.readings.now; room = room }
 
 -- the answer of `frame1` for a message; 02, request 04: "A message written while no frequency has come prints `-` for hz"
 unfoldable pub answer_for : Asked → List ℕ → Answer (Option ℕ)
 answer_for q e =
-    cond q.started (frame1_answer q.tracker q.at q.lo q.hz q.room (spans_in (earlier q.passed) e) (downlink_in e)) (accepted None)
+    cond q.started (frame1_answer q.tracker q.readings q.room (spans_in (earlier q.passed) e) (downlink_in e)) (accepted None)
 
 -- one record; nothing after a refusal
 unfoldable pub emitted : Asked → Emission → List ℕ → Emission

@@ -11,7 +11,7 @@ use Rattle.listening_records.specs.Emission.{Emission, Asked, earlier, span_in, 
 
 -- whatever the tracker is
 abbrev unheard : FrequencyTracker → Asked
-unheard t = record { started = false; passed = 8; tracker = t; at = []; lo = []; hz = []; room = 0 }
+unheard t = record { started = false; passed = 8; tracker = t; readings = []; room = 0 }
 
 -- what was counted before, and the refusal or 0
 abbrev before : ℕ → Emission

@@ -1,16 +1,19 @@
 // What a call's records make `listen` print and count (01, frequency.rs): a frame is counted, a message counted and printed.
 #![tactic(auto)]
 
+mod tracked; // what `frame1` is asked of
+
 ghost use Rattle.std.specs.Prelude.{◌≡◌, ℕ, ◌+◌, ◌*◌, ◌^◌, ◌≤◌, ◌<◌, List, length};
 ghost use Rattle.limits.specs.Limits.{record_size};
 ghost use Rattle.limits.specs.Answer.{said, cause_of};
 ghost use Rattle.listening_lines.specs.Text.{widest};
-ghost use Rattle.listening_records.specs.Emission.{Emission, span_in, spans_in, earlier, downlink_in, answer_for, with_line, emitted, emitted_all, Tells, Within, Grown};
+ghost use Rattle.listening_records.specs.Emission.{Emission, asked, shifted, spans_in, earlier, downlink_in, answer_for, with_line, emitted, emitted_all, Tells, Within, Grown};
 ghost use Rattle.ledger.specs.Records.{records_in};
 
-use frequency::FrequencyTracker;
+pub use crate::tracked::Tracked;
 use limits::Refusal;
-use record::{FrameSpan, read};
+use record::FrameSpan;
+use record::read::EventRecord;
 
 // Samples per second.
 const RATE: f64 = 1_000.0;
@@ -23,26 +26,25 @@ pub struct Told {
     pub end: usize,
 }
 
-// A message's span i, in seconds of the tracker.
-fn span_of(event: &[u8], i: usize, by: f64) -> FrameSpan
-    requires { (record_size ≤ length event.now) × (i < 3) }
-    ensures { result ≡ span_in by event.now i }
+// A span in seconds of the tracker.
+fn span_of(span: FrameSpan, by: f64) -> FrameSpan
+    ensures { result ≡ shifted by span }
 {
     FrameSpan {
-        rank: read::span_rank_of(event, i),
-        time: read::span_time_of(event, i) - by,
-        end: read::span_end_of(event, i) - by,
+        rank: span.rank,
+        time: span.time - by,
+        end: span.end - by,
     }
 }
 
 // A message's spans, for `frame1`.
-fn spans_of(event: &[u8], by: f64) -> [FrameSpan; 3]
-    requires { record_size ≤ length event.now }
-    ensures { result ≡ spans_in by event.now }
+fn spans_of(event: EventRecord, by: f64) -> [FrameSpan; 3]
+    ensures { result ≡ spans_in by event.entry.bytes.now }
 {
-    let first = span_of(event, 0, by);
-    let second = span_of(event, 1, by);
-    let third = span_of(event, 2, by);
+    let spans = event.spans();
+    let first = span_of(spans[0], by);
+    let second = span_of(spans[1], by);
+    let third = span_of(spans[2], by);
     [first, second, third]
 }
 
@@ -55,68 +57,54 @@ fn earlier(passed: u64) -> f64
 }
 
 // Whether the message asks for a downlink: byte 2 includes the value 1.
-fn downlink_of(event: &[u8]) -> bool
-    requires { record_size ≤ length event.now }
-    ensures { result ≡ downlink_in event.now }
+fn downlink_of(event: EventRecord) -> bool
+    ensures { result ≡ downlink_in event.entry.bytes.now }
 {
-    read::flags_of(event) % 2 == 1
+    event.flags() % 2 == 1
 }
 
 // What `frame1` answers for a message; nothing while no frequency has come.
-fn answer_for(
-    started: bool,
-    passed: u64,
-    tracker: FrequencyTracker,
-    event: &[u8],
-    at: &[u64; 8000],
-    lo: &[u32; 8000],
-    hz: &[f64; 8000],
-    scratch: &mut [f64],
-) -> Result<Option<u32>, Refusal>
-    requires { (record_size ≤ length event.now) × (passed ≤ 2 ^ 53) }
-    ensures { said result ≡ answer_for (record { started = started; passed = passed; tracker = tracker; at = at.now; lo = lo.now; hz = hz.now; room = length scratch.old }) event.now }
+fn answer_for(q: Tracked, event: EventRecord, scratch: &mut [f64]) -> Result<Option<u32>, Refusal>
+    ensures { said result ≡ answer_for (asked q.entry (length scratch.old)) event.entry.bytes.now }
 {
-    if !started {
+    if !q.started {
         return Ok(None);
     }
-    let spans = spans_of(event, earlier(passed));
-    tracker.frame1(spans, downlink_of(event), at, lo, hz, scratch)
+    let spans = spans_of(event, earlier(q.passed));
+    q.tracker
+        .frame1(spans, downlink_of(event), q.readings, scratch)
 }
 
 // A message's line behind the text.
-fn tell_line(t: &mut Told, event: &[u8], answer: Option<u32>, out: &mut [u8])
-    requires { (record_size ≤ length event.now) × (t.old.end + widest ≤ length out.old) × (t.old.messages + 1 < 2 ^ 64) }
+fn tell_line(t: &mut Told, event: EventRecord, answer: Option<u32>, out: &mut [u8])
+    requires { (t.old.end + widest ≤ length out.old) × (t.old.messages + 1 < 2 ^ 64) }
     ensures by_index { (old : List ℕ) (start : ℕ) (p : Emission) → Tells p old start 0 t.old out.old
-        → Tells (with_line event.now answer p) old start 0 t.new out.new }
+        → Tells (with_line event.entry.bytes.now answer p) old start 0 t.new out.new }
     ensures within { Within t.old t.new out.old out.new }
 {
-    t.end = listening_lines::add_message(out, t.end, event, answer);
+    let line = listening_lines::message_line(event, answer);
+    t.end = line.add_to(out, t.end);
     t.messages += 1;
 }
 
 // One record.
 fn tell(
     t: &mut Told,
-    started: bool,
-    passed: u64,
-    tracker: FrequencyTracker,
-    event: &[u8],
-    at: &[u64; 8000],
-    lo: &[u32; 8000],
-    hz: &[f64; 8000],
+    q: Tracked,
+    event: EventRecord,
     scratch: &mut [f64],
     out: &mut [u8],
 ) -> Result<(), Refusal>
-    requires { (record_size ≤ length event.now) × (t.old.end + widest ≤ length out.old) × (t.old.frames + 1 < 2 ^ 64) × (t.old.messages + 1 < 2 ^ 64) × (passed ≤ 2 ^ 53) }
+    requires { (t.old.end + widest ≤ length out.old) × (t.old.frames + 1 < 2 ^ 64) × (t.old.messages + 1 < 2 ^ 64) }
     ensures by_index { (old : List ℕ) (start : ℕ) (p : Emission) → Tells p old start 0 t.old out.old
-        → Tells (emitted (record { started = started; passed = passed; tracker = tracker; at = at.now; lo = lo.now; hz = hz.now; room = length scratch.old }) p event.now) old start (cause_of result) t.new out.new }
+        → Tells (emitted (asked q.entry (length scratch.old)) p event.entry.bytes.now) old start (cause_of result) t.new out.new }
     ensures within { Within t.old t.new out.old out.new }
 {
-    if read::kind_of(event) == record::FRAME {
+    if event.kind() == record::FRAME {
         t.frames += 1;
         return Ok(());
     }
-    let answer = answer_for(started, passed, tracker, event, at, lo, hz, scratch)?;
+    let answer = answer_for(q, event, scratch)?;
     tell_line(t, event, answer, out);
     Ok(())
 }
@@ -124,37 +112,21 @@ fn tell(
 // A call's records, in order; nothing after a refusal.
 pub fn tell_all(
     t: &mut Told,
-    started: bool,
-    passed: u64,
-    tracker: FrequencyTracker,
+    q: Tracked,
     count: usize,
     events: &[u8],
-    at: &[u64; 8000],
-    lo: &[u32; 8000],
-    hz: &[f64; 8000],
     scratch: &mut [f64],
     out: &mut [u8],
 ) -> Result<(), Refusal>
-    requires { (record_size * count ≤ length events.now) × (t.old.end + widest * count ≤ length out.old) × (t.old.frames + count < 2 ^ 64) × (t.old.messages + count < 2 ^ 64) × (passed ≤ 2 ^ 53) }
+    requires { (record_size * count ≤ length events.now) × (t.old.end + widest * count ≤ length out.old) × (t.old.frames + count < 2 ^ 64) × (t.old.messages + count < 2 ^ 64) }
     ensures by_index { (old : List ℕ) (start : ℕ) (p : Emission) → Tells p old start 0 t.old out.old
-        → Tells (emitted_all (record { started = started; passed = passed; tracker = tracker; at = at.now; lo = lo.now; hz = hz.now; room = length scratch.old }) p (records_in count events.now)) old start (cause_of result) t.new out.new }
+        → Tells (emitted_all (asked q.entry (length scratch.old)) p (records_in count events.now)) old start (cause_of result) t.new out.new }
     ensures grown { Grown count t.old t.new out.old out.new }
 {
     for i in 0..count {
         let from = limits::RECORD * i;
         let to = from + limits::RECORD;
-        tell(
-            t,
-            started,
-            passed,
-            tracker,
-            &events[from..to],
-            at,
-            lo,
-            hz,
-            scratch,
-            out,
-        )?;
+        tell(t, q, EventRecord::new(&events[from..to]), scratch, out)?;
     }
     Ok(())
 }

@@ -9,6 +9,8 @@ use native.Mathlib.Omega.{arith}
 use borrow.Author.Tests.{eq-eqb, ne_eqb}
 use lib.ListN.{length}
 use lib.Ieee.{Float}
+use Rattle.frequency_lists.specs.declared.Reading.{Reading}
+use Rattle.frequency_lists.specs.declared.Tuning.{Tuning}
 use Rattle.frequency.specs.declared.FrequencyTracker.{FrequencyTracker}
 use Rattle.limits.specs.declared.Refusal.{Refusal}
 use Rattle.limits.specs.Refusals.{number_of}
@@ -18,7 +20,7 @@ use Rattle.frequency.specs.Lent.{Lists, lists, tracker, packed, stored}
 use Rattle.frequency.specs.Order.{cause_tuned, cause_samples, cause_cfo, cause_next}
 use Rattle.frequency.specs.Tracker.{tuned, samples, cfo, next_tuning, after_tuning}
 use Rattle.frequency.specs.Calls.{TunedEnd, SamplesEnd, CfoEnd, NextEnd, tune_of}
-use Rattle.frequency.proofs.Grown.{sound, counts_of}
+use Rattle.frequency.proofs.Grown.{sound}
 use Rattle.frequency_grown.specs.Rising.{Single}
 use Rattle.frequency_grown.proofs.RisingLaws.{single-grown}
 use Rattle.listening_tracker.specs.Turn.{Turn, stop, on, unless, next_turn, cfo_turn, samples_turn, tuned_turn, turn, Turned}
@@ -79,19 +81,18 @@ module _ (x : Answer) (y : FrequencyTracker) (n : Lists) where
   unfolding samples_turn
   samples_on s t dbm l m reg room e h = past (cause_samples s l dbm) s l _ x y n (sym e.refusal) (rw (e.state refl, e.lists refl) at h)
 
-  module _ (s : FrequencyTracker) (hz : ℕ) (dbm : List Float) (at lo : List ℕ) (hzs : List Float) (tun fre tun' fre' : List ℕ) (reg room : ℕ) where
-    pub tuned-stop : (e : Refusal) → IsErrAnd x (λ z. z ≡ e) → TunedEnd s hz tun fre (number_of e) y tun' fre' → n ≡ lists at lo hzs tun' fre' → Turned (tuned_turn room hz dbm reg s (lists at lo hzs tun fre)) x y n
+  module _ (s : FrequencyTracker) (hz : ℕ) (dbm : List Float) (rs : List Reading) (ts ts' : List Tuning) (reg room : ℕ) where
+    pub tuned-stop : (e : Refusal) → IsErrAnd x (λ z. z ≡ e) → TunedEnd s hz ts (number_of e) y ts' → n ≡ lists rs ts' → Turned (tuned_turn room hz dbm reg s (lists rs ts)) x y n
     unfolding tuned_turn
     tuned-stop e i h same =
         let z = number-positive e in
-        let q = h.same_lent z in
-        rw (← h.refusal) (at_stop (number_of e) s (lists at lo hzs tun fre) n _ x y z (stops x e s y i (h.same_state z)) (same ∙ rw (q.0, q.1) refl))
+        rw (← h.refusal) (at_stop (number_of e) s (lists rs ts) n _ x y z (stops x e s y i (h.same_state z)) (same ∙ rw (h.same_lent z) refl))
 
-    pub tuned_on : (t : FrequencyTracker) → TunedEnd s hz tun fre 0 t tun' fre' → Single s (lists at lo hzs tun fre) → Turned (samples_turn room dbm reg t (lists at lo hzs tun' fre')) x y n → Turned (tuned_turn room hz dbm reg s (lists at lo hzs tun fre)) x y n
+    pub tuned_on : (t : FrequencyTracker) → TunedEnd s hz ts 0 t ts' → Single s (lists rs ts) → Turned (samples_turn room dbm reg t (lists rs ts')) x y n → Turned (tuned_turn room hz dbm reg s (lists rs ts)) x y n
     unfolding tuned_turn
     tuned_on t e g h =
-        let b = (counts_of s (lists at lo hzs tun fre) (sound (single-grown g))).beside in
-        past (cause_tuned s tun fre hz) s (lists at lo hzs tun fre) _ x y n (sym e.refusal) (rw (e.state refl at lo hzs b, e.lent refl at lo hzs b) at h)
+        let b = (sound (single-grown g)).counts.readings in
+        past (cause_tuned s ts hz) s (lists rs ts) _ x y n (sym e.refusal) (rw (e.state refl rs b, e.lent refl rs b) at h)
 
   -- a record whose receiver frequency is 0, and one whose isn't
   module _ (room hz : ℕ) (dbm : List Float) (reg : ℕ) (s : FrequencyTracker) (l : Lists) where

@@ -39,7 +39,7 @@ samples_turn room dbm reg s l = let u = samples (tracker s l) dbm in unless (cau
 -- `tuned` with the record's receiver frequency, and what follows
 unfoldable pub tuned_turn : ℕ → ℕ → List Float → ℕ → FrequencyTracker → Lists → Turn
 unfolding samples_turn
-tuned_turn room hz dbm reg s l = let u = tuned (tracker s l) hz in unless (cause_tuned s l.tuned l.freq hz) s l (samples_turn room dbm reg (packed u) (stored u l))
+tuned_turn room hz dbm reg s l = let u = tuned (tracker s l) hz in unless (cause_tuned s l.tunings hz) s l (samples_turn room dbm reg (packed u) (stored u l))
 
 -- a record of the tracker; 02, request 04: "A later 0 feeds both, but `tuned` isn't called for it"
 unfoldable pub turn : ℕ → ℕ → List Float → ℕ → FrequencyTracker → Lists → Turn

@@ -1,6 +1,6 @@
 -- A range of offsets, and the shift that leaves few of them.
 -- Assumes nothing.
-use Rattle.std.proofs.Common.{◌≡◌, ℕ, ◌+◌, ◌*◌, ◌/◌, ◌%◌, ◌^◌, ◌<◌, ◌≤◌, ◌∙◌, ⊎_elim, mod-eq_of_lt, div-lt_iff_lt-mul, le-div_iff_mul-le, add-one, arith, pow_pos, pow_mono}
+use Rattle.std.proofs.Common.{◌≡◌, ℕ, ◌+◌, ◌-◌, ◌*◌, ◌%◌, ◌^◌, ◌<◌, ◌≤◌, ◌∙◌, ⊎_elim, mod-eq_of_lt, arith, pow_pos, pow_mono, pow-add, ap}
 use lib.Pow.{pow-lt}
 use Rattle.order.specs.Search.{bins}
 use Rattle.order.proofs.Rank.{less_or_not}
@@ -9,11 +9,19 @@ module _ (span s : ℕ) where
   pub shift-lt : (m : ℕ) → 2 ^ s ≤ span → span < 2 ^ m → s < m
   shift-lt m a b = ⊎_elim (λ h. h) (λ h. absurd (omega (arith, pow_mono {i = m} {j = s} h))) (less_or_not s m)
 
-  pub shift-next : bins ≤ span / 2 ^ s → 2 ^ (s + 1) ≤ span
-  shift-next h = rw add-one (omega (arith, (le-div_iff_mul-le {k = 2 ^ s} {x = bins} {y = span} (pow_pos s)).0 h))
+-- of the s + 1 digits of a number the first 11 are kept
+pub shift-fits : (span s : ℕ) → 2 ^ s ≤ span → span < 2 * 2 ^ s → (span < bins * 2 ^ (s + 1 - 11)) × (2 ^ (s + 1 - 11) ≤ span)
+shift-fits span s a b = ⊎_elim few many (less_or_not s 10)
+  where
+    few : s < 10 → (span < bins * 2 ^ (s + 1 - 11)) × (2 ^ (s + 1 - 11) ≤ span)
+    few h =
+        let none : s + 1 - 11 ≡ 0 = omega arith in
+        rw none (omega (arith, pow_mono {i = s} {j = 10} (omega arith)), omega (arith, pow_pos s))
 
-  pub shift-enough : span / 2 ^ s < bins → span < bins * 2 ^ s
-  shift-enough h = (div-lt_iff_lt-mul {k = 2 ^ s} {x = span} {y = bins} (pow_pos s)).0 h
+    many : 10 ≤ s → (span < bins * 2 ^ (s + 1 - 11)) × (2 ^ (s + 1 - 11) ≤ span)
+    many h =
+        let split : 2 ^ s ≡ 2 ^ (s + 1 - 11) * 2 ^ 10 = ap (λ (n : ℕ). 2 ^ n) (omega arith) ∙ pow-add 2 (s + 1 - 11) 10 in
+        (omega (arith, split), omega (arith, split))
 
 -- a shift to the left that loses nothing
 pub shl_kept : (x s m : ℕ) → x * 2 ^ s < m → (x * 2 ^ s) % m ≡ x * 2 ^ s

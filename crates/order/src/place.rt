@@ -1,11 +1,12 @@
 // Floats and their places in the total order of their format.
 #![tactic(auto)]
 
-ghost use Rattle.std.specs.Prelude.{◌≡◌, ℕ, ◌+◌, ◌-◌, ◌%◌, ◌^◌, ◌<◌, ◌≤◌, List, length, nat_lt, slice_index_or};
+ghost use Rattle.std.specs.Prelude.{◌≡◌, ℕ, ◌+◌, ◌-◌, ◌%◌, ◌^◌, ◌<◌, ◌≤◌, Bool, T, List, length, nat_lt, slice_index_or};
 ghost use Rattle.std.specs.Float.{binary32, binary64};
 ghost use Rattle.std.proofs.Common.{rules};
-ghost use Rattle.order.specs.Order.{key, kth, Numbers, Held, kth_is};
+ghost use Rattle.order.specs.Order.{key, kth, Numbers, held};
 ghost use Rattle.order.specs.Sorted.{sorted};
+ghost use Rattle.order.specs.Search.{Each};
 
 // A place: a whole number of `width` bits.
 pub trait Place: Copy {
@@ -97,8 +98,8 @@ pub trait Ranked: Copy {
     ghost kth: { List Self → ℕ → Self };
 
     ghost Numbers: { List Self → Type 0 };
-    // a number that the format holds
-    ghost Held: { Self → Type 0 };
+    // whether it has a place
+    ghost held: { Self → Bool };
 
     type At: Place;
 
@@ -106,22 +107,26 @@ pub trait Ranked: Copy {
     const SHORT: usize;
 
     fn place(self) -> Self::At
-        requires { Held self }
+        requires { T (held self) }
         ensures { Self.At.number result ≡ key self };
 
     // The number that has a place.
     fn at(place: Self::At) -> Self
-        requires { (x : Self) × Held x × (key x ≡ Self.At.number place) }
-        ensures { (x : Self) → Held x → key x ≡ Self.At.number place → result ≡ x };
+        requires { (x : Self) × T (held x) × (key x ≡ Self.At.number place) }
+        ensures { (x : Self) → T (held x) → key x ≡ Self.At.number place → result ≡ x };
 
-    // What a slice tells of each of its numbers; nothing is done.
-    fn known(xs: &[Self])
-        requires { Numbers xs.now }
-        ensures { (i : ℕ) (d : Self) → i < length xs.now → Held (slice_index_or xs.now i d) };
+    // A list of them, each of which has a place.
+    fn placed(items: &[Self]) -> Placed<'_, Self>
+        requires { Numbers items.now }
+        ensures same { result.items.now ≡ items.now }
+        ensures kth_is { (k : ℕ) (d : Self) → k < length items.now → kth items.now k ≡ slice_index_or (sorted key items.now) k d };
+}
 
-    ghost small: { (x : Self) → Held x → key x < 2 ^ Self.At.width };
-
-    ghost kth_is: { (l : List Self) (k : ℕ) (d : Self) → k < length (sorted key l) → kth l k ≡ slice_index_or (sorted key l) k d };
+// Numbers that all have a place.
+#[derive(Drop)]
+pub struct Placed<'a, N: Ranked> {
+    pub items: &'a [N],
+    pub ghost held: { Each (λ x. T (N.held x) × (N.key x < 2 ^ N.At.width)) items.now },
 }
 
 // The place of +0; the numbers with the sign set come before it.
@@ -136,11 +141,7 @@ impl Ranked for f32 {
 
     ghost Numbers = { Numbers };
 
-    ghost Held = { Held binary32 };
-
-    ghost small = { λ x h. h.2 };
-
-    ghost kth_is = { kth_is binary32 };
+    ghost held = { held binary32 };
 
     type At = u32;
 
@@ -159,7 +160,9 @@ impl Ranked for f32 {
         }
     }
 
-    fn known(_xs: &[f32]) {}
+    fn placed(items: &[f32]) -> Placed<'_, f32> {
+        Placed { items }
+    }
 }
 
 // Shorter lists of f64 take half of the time or less by ranks.
@@ -170,11 +173,7 @@ impl Ranked for f64 {
 
     ghost Numbers = { Numbers };
 
-    ghost Held = { Held binary64 };
-
-    ghost small = { λ x h. h.2 };
-
-    ghost kth_is = { kth_is binary64 };
+    ghost held = { held binary64 };
 
     type At = u64;
 
@@ -193,5 +192,7 @@ impl Ranked for f64 {
         }
     }
 
-    fn known(_xs: &[f64]) {}
+    fn placed(items: &[f64]) -> Placed<'_, f64> {
+        Placed { items }
+    }
 }

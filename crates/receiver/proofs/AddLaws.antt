@@ -1,5 +1,4 @@
 -- A push that only adds its samples: what the fillings and the end of the call would make of it. Assumes nothing.
-use mathlib.Core.Bool.{false}
 use mathlib.Core.List.{List, [], ◌∷◌, append-nil}
 use mathlib.Core.Path.{◌≡◌, ◌∙◌, ap, refl, sym}
 use Prim.Native.Nat.{ℕ, ◌+◌, ◌-◌, ◌<◌}
@@ -17,6 +16,7 @@ use Rattle.receiver_starts.proofs.StartLaws.{starts_same}
 use Rattle.receiver_waiting.specs.Waiting as waiting
 use Rattle.receiver_waiting.specs.Waiting.{waiting_of}
 use Rattle.receiver_waiting.specs.declared.Waiting.{Waiting}
+use Rattle.receiver_waiting.specs.declared.Leaving.TheVariants.{CompleteAt}
 use Rattle.receiver_waiting.proofs.WaitingLaws.{none_expires}
 use Rattle.receiver_scan.specs.declared.Scanned.{Scanned}
 use Rattle.receiver.specs.Calls.{Received}
@@ -24,7 +24,7 @@ use Rattle.receiver.specs.Running.{Passes, Answers, Addable, Adds, Added}
 use Rattle.receiver.specs.declared.SigfoxReceiver.{SigfoxReceiver}
 use Rattle.receiver.proofs.StateLaws.{order-parts}
 use Rattle.receiver.proofs.FillLaws.{fill-turn, fill-still}
-use Rattle.receiver.proofs.RunLaws.{Done, allIn, lastBuffer, held-is, waiting_few, fill_start, fill_end, ends_push, ended}
+use Rattle.receiver.proofs.RunLaws.{Done, all_in, last_buffer, held-is, waiting_few, fill_start, fill_end, ends_push, ended}
 
 -- ---- what is not full drops nothing
 
@@ -74,8 +74,8 @@ module _ (s : SigfoxReceiver) (xs samples : List Float) (old : List ℕ) (scratc
     -- one filling, without a drop or a scan
     done : Done s (push xs) samples old (s.held + length xs) s.base (s.unscanned + length xs) given after old
     done =
-        let a = allIn s samples old scratch xs in
-        let b = lastBuffer s samples old scratch xs in
+        let a = all_in s samples old scratch xs in
+        let b = last_buffer s samples old scratch xs in
         let h : s.held < capacity s.rate = omega (arith, d.some, d.fits) in
         let n : length xs ≡ room s.rate s.held xs = omega (arith, d.fits) in
         let z : s.base + (s.held - s.held) ≡ s.base = omega arith in
@@ -94,7 +94,7 @@ module _ (s : SigfoxReceiver) (xs samples : List Float) (old : List ℕ) (scratc
         record {
           ended =
               rw h.answer
-              (ended s (allIn s samples old scratch xs) old (s.held + length xs) s.base (s.unscanned + length xs) given old done.under mark (push xs) false (ends_push xs) 0 old
+              (ended s (all_in s samples old scratch xs) old (s.held + length xs) s.base (s.unscanned + length xs) given old done.under mark (push xs) (CompleteAt time) (ends_push xs time) 0 old
               (λ rs was z e b. rw (none.0, append-nil rs) (e, b)) s.starts s.waiting
               (starts_same s.starts p.remembers)
               (rw none.1 (waiting_same s.waiting (ap (λ (k : causes.Counts). k.waiting) p.counts))));

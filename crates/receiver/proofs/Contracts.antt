@@ -8,8 +8,9 @@ use borrow.Fn.World.{ArgsD, ResD}
 use borrow.Fn.Kinds.{ended_of}
 use denote.Triple.Clauses.{AtExit}
 use Rattle.ledger.specs.Ledger as call
+use Rattle.shifts.specs.Shifts.{schedule}
 use Rattle.receiver.specs.State.{new_state}
-use Rattle.receiver.specs.Calls.{Answered, received}
+use Rattle.receiver.specs.Calls.{Answered, memory, received}
 use Rattle.receiver.specs.contracts.SigfoxReceiver.new as new-fn
 use Rattle.receiver.proofs.SigfoxReceiver.new.Kinds as new-kinds
 use Rattle.receiver.proofs.SigfoxReceiver.new.Reads as new-reads
@@ -32,30 +33,21 @@ NewTells =
 
 abbrev pub PushTells : Type 0
 PushTells =
-    (κs : Lfts 7) (a : ArgsD push-fn.signature κs) (r : ResD push-fn.signature κs) (s : AtExit (ended_of 7 push-kinds.ps push-kinds.r) κs)
+    (κs : Lfts 9) (a : ArgsD push-fn.signature κs) (r : ResD push-fn.signature κs) (s : AtExit (ended_of 9 push-kinds.ps push-kinds.r) κs)
     → push-reads.Learnt κs a r s
-    → Answered a.0.now (call.push a.1.0.now) (record { shifts = a.1.1.0; closed = a.1.1.1.0.now })
-    (record { samples = a.1.1.1.1.0.now; events = a.1.1.1.1.1.0.now; scratch32 = a.1.1.1.1.1.1.0.now; scratch64 = a.1.1.1.1.1.1.1.0.now })
-    (record { samples = s.1.1.1.1.0.now; events = s.1.1.1.1.1.0.now; scratch32 = s.1.1.1.1.1.1.0.now; scratch64 = s.1.1.1.1.1.1.1.0.now })
-    (received r s.0.now)
+    → Answered a.0.now (call.push a.1.0.now) (schedule a.1.1.0.now) (memory a.1.1.1.0.now) (memory s.1.1.1.0.now) (received r s.0.now)
 
 abbrev pub PushRawTells : Type 0
 PushRawTells =
-    (κs : Lfts 7) (a : ArgsD raw-fn.signature κs) (r : ResD raw-fn.signature κs) (s : AtExit (ended_of 7 raw-kinds.ps raw-kinds.r) κs)
+    (κs : Lfts 9) (a : ArgsD raw-fn.signature κs) (r : ResD raw-fn.signature κs) (s : AtExit (ended_of 9 raw-kinds.ps raw-kinds.r) κs)
     → raw-reads.Learnt κs a r s
-    → Answered a.0.now (call.push_raw a.1.0.now) (record { shifts = a.1.1.0; closed = a.1.1.1.0.now })
-    (record { samples = a.1.1.1.1.0.now; events = a.1.1.1.1.1.0.now; scratch32 = a.1.1.1.1.1.1.0.now; scratch64 = a.1.1.1.1.1.1.1.0.now })
-    (record { samples = s.1.1.1.1.0.now; events = s.1.1.1.1.1.0.now; scratch32 = s.1.1.1.1.1.1.0.now; scratch64 = s.1.1.1.1.1.1.1.0.now })
-    (received r s.0.now)
+    → Answered a.0.now (call.push_raw a.1.0.now) (schedule a.1.1.0.now) (memory a.1.1.1.0.now) (memory s.1.1.1.0.now) (received r s.0.now)
 
 abbrev pub FlushTells : Type 0
 FlushTells =
-    (κs : Lfts 6) (a : ArgsD flush-fn.signature κs) (r : ResD flush-fn.signature κs) (s : AtExit (ended_of 6 flush-kinds.ps flush-kinds.r) κs)
+    (κs : Lfts 8) (a : ArgsD flush-fn.signature κs) (r : ResD flush-fn.signature κs) (s : AtExit (ended_of 8 flush-kinds.ps flush-kinds.r) κs)
     → flush-reads.Learnt κs a r s
-    → Answered a.0.now call.flush (record { shifts = a.1.0; closed = a.1.1.0.now })
-    (record { samples = a.1.1.1.0.now; events = a.1.1.1.1.0.now; scratch32 = a.1.1.1.1.1.0.now; scratch64 = a.1.1.1.1.1.1.0.now })
-    (record { samples = s.1.1.1.0.now; events = s.1.1.1.1.0.now; scratch32 = s.1.1.1.1.1.0.now; scratch64 = s.1.1.1.1.1.1.0.now })
-    (received r s.0.now)
+    → Answered a.0.now call.flush (schedule a.1.0.now) (memory a.1.1.0.now) (memory s.1.1.0.now) (received r s.0.now)
 
 -- ---- the statement, and its proof: what is learnt is `Answered` itself
 
@@ -65,17 +57,17 @@ pub record Contracts : Type 0 where
   pub push-raw-tells : PushRawTells
   pub flush-tells : FlushTells
   pub new_asks-nothing : (κs : Lfts 0) (a : ArgsD new-fn.signature κs) → new-reads.Asked κs a
-  pub push-asks-nothing : (κs : Lfts 7) (a : ArgsD push-fn.signature κs) → push-reads.Asked κs a
-  pub push-raw-asks-nothing : (κs : Lfts 7) (a : ArgsD raw-fn.signature κs) → raw-reads.Asked κs a
-  pub flush-asks-nothing : (κs : Lfts 6) (a : ArgsD flush-fn.signature κs) → flush-reads.Asked κs a
+  pub push-asks-nothing : (κs : Lfts 9) (a : ArgsD push-fn.signature κs) → push-reads.Asked κs a
+  pub push-raw-asks-nothing : (κs : Lfts 9) (a : ArgsD raw-fn.signature κs) → raw-reads.Asked κs a
+  pub flush-asks-nothing : (κs : Lfts 8) (a : ArgsD flush-fn.signature κs) → flush-reads.Asked κs a
 
 pub contracts : Contracts
 contracts =
     record {
       new_tells = λ κs a r s p. p;
-      push-tells = λ κs a r s p. p;
-      push-raw-tells = λ κs a r s p. p;
-      flush-tells = λ κs a r s p. p;
+      push-tells = λ κs a r s p. p.1;
+      push-raw-tells = λ κs a r s p. p.1;
+      flush-tells = λ κs a r s p. p.1;
       new_asks-nothing = λ κs a. tt;
       push-asks-nothing = λ κs a. tt;
       push-raw-asks-nothing = λ κs a. tt;

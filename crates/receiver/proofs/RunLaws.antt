@@ -1,5 +1,5 @@
 -- An accepted call from its first sample to its answer: where its scans begin and end, and what its end makes of them. Assumes nothing.
-use mathlib.Core.Bool.{Bool, true, false}
+use mathlib.Core.Bool.{Bool, true}
 use mathlib.Core.List.{List, [], ◌∷◌, ◌++◌, map}
 use mathlib.Core.Path.{◌≡◌, ◌∙◌, refl, sym, ap, ap₂}
 use Prim.Native.Nat.{ℕ, ◌+◌, ◌≤◌}
@@ -32,6 +32,8 @@ use Rattle.receiver_starts.specs.declared.Starts.{Starts}
 use Rattle.receiver_waiting.specs.Waiting.{waiting_of, leaves}
 use Rattle.receiver_waiting.specs.Waiting as waiting
 use Rattle.receiver_waiting.specs.declared.Waiting.{Waiting}
+use Rattle.receiver_waiting.specs.declared.Leaving.{Leaving}
+use Rattle.receiver_waiting.specs.declared.Leaving.TheVariants.{All, CompleteAt}
 use Rattle.receiver_scan.specs.Midway.{Midway, Lent, Within, Does}
 use Rattle.receiver_scan.specs.declared.Scanned.{Scanned}
 use Rattle.receiver_closing.specs.Written.{written}
@@ -80,13 +82,13 @@ module _ (s : SigfoxReceiver) (samples : List Float) (old : List ℕ) (scratch :
         no_cap rate (demod_of rate) (demod_fair rate p.lowest p.highest) entries_lawful (omega (arith, p.lowest)) (ledger_of s samples) c p.order p.accepted
 
   module _ (xs : List Float) where
-    abbrev pub allIn : Ledger by_entry
-    allIn = scans rate (demod_of rate) (ledger_of s samples) (push xs)
+    abbrev pub all_in : Ledger by_entry
+    all_in = scans rate (demod_of rate) (ledger_of s samples) (push xs)
 
-    abbrev pub lastBuffer : Buffer
-    lastBuffer = all_filled rate (length xs) (record { held = s.held; places = samples }) xs
+    abbrev pub last_buffer : Buffer
+    last_buffer = all_filled rate (length xs) (record { held = s.held; places = samples }) xs
 
-    pub fill_start : Passes s (push xs) samples old scratch → FillAt rate xs allIn lastBuffer old samples old s.held s.base s.unscanned (record { starts = s.starts; waiting = s.waiting; count = 0 }) 0
+    pub fill_start : Passes s (push xs) samples old scratch → FillAt rate xs all_in last_buffer old samples old s.held s.base s.unscanned (record { starts = s.starts; waiting = s.waiting; count = 0 }) 0
     unfolding scans_if start_call
     fill_start p =
         let e = held-is (push xs) p in
@@ -113,13 +115,13 @@ module _ (s : SigfoxReceiver) (samples : List Float) (old : List ℕ) (scratch :
         }
 
     pub fill_end : (places : List Float) (now : List ℕ) (held base unscanned : ℕ) (t : Scanned) (from : ℕ)
-        → FillAt rate xs allIn lastBuffer old places now held base unscanned t from → length xs ≤ from
+        → FillAt rate xs all_in last_buffer old places now held base unscanned t from → length xs ≤ from
         → Done s (push xs) samples old held base unscanned t places now
     unfolding samples_after
     fill_end places now held base unscanned t from m h =
         let q : from ≡ length xs = omega (arith, m.inside) in
-        let e : m.ledger ≡ allIn = ledger_end rate (demod_of rate) m.ledger allIn xs from q m.rest in
-        let f = buffer_end rate (record { held = held; places = places }) lastBuffer xs from q m.buffer in
+        let e : m.ledger ≡ all_in = ledger_end rate (demod_of rate) m.ledger all_in xs from q m.rest in
+        let f = buffer_end rate (record { held = held; places = places }) last_buffer xs from q m.buffer in
         record {
           starts = m.within.starts;
           waiting = m.within.waiting;
@@ -175,22 +177,22 @@ module _ (s : SigfoxReceiver) (samples : List Float) (old : List ℕ) (scratch :
 
 -- ---- a call's end
 
-pub ends_push : (xs : List Float) → EndsBy (push xs) false
-unfolding ready
+pub ends_push : (xs : List Float) (t : Float) → EndsBy (push xs) (CompleteAt t) t
+unfolding ready leaves
 ends_push xs t = refl
 
-pub ends_flush : EndsBy flush true
-unfolding ready
+pub ends_flush : (t : Float) → EndsBy flush All t
+unfolding ready leaves
 ends_flush t = refl
 
 -- the messages that leave
-messages_are : (rate : ℕ) (c : Call) (all : Bool) (l : Ledger by_entry) (t : Float) → EndsBy c all → t ≡ now rate l → messages rate c l ≡ chosen (leaves all t) l.waiting
+messages_are : (rate : ℕ) (c : Call) (which : Leaving) (l : Ledger by_entry) (t : Float) → EndsBy c which t → t ≡ now rate l → messages rate c l ≡ chosen (leaves which) l.waiting
 unfolding messages
-messages_are rate c all l t k e = rw e (ap (λ (f : Pending → Bool). chosen f l.waiting) (k (now rate l)))
+messages_are rate c which l t k e = rw (← e) (ap (λ (f : Pending → Bool). chosen f l.waiting) k)
 
-others_are : (rate : ℕ) (c : Call) (all : Bool) (l : Ledger by_entry) (t : Float) → EndsBy c all → t ≡ now rate l
-    → others (ready by_entry c (now rate l)) l.waiting ≡ others (leaves all t) l.waiting
-others_are rate c all l t k e = rw e (ap (λ (f : Pending → Bool). others f l.waiting) (k (now rate l)))
+others_are : (rate : ℕ) (c : Call) (which : Leaving) (l : Ledger by_entry) (t : Float) → EndsBy c which t → t ≡ now rate l
+    → others (ready by_entry c (now rate l)) l.waiting ≡ others (leaves which) l.waiting
+others_are rate c which l t k e = rw (← e) (ap (λ (f : Pending → Bool). others f l.waiting) k)
 
 -- a call's frames have no mark
 pub frames_are : (mark : Float → ℕ) (fs : List Frame) → map (record_of mark) (map of_frame fs) ≡ map frame_bytes fs
@@ -207,12 +209,12 @@ module _ (s : SigfoxReceiver) (l : Ledger by_entry) (old : List ℕ) (held base 
   unfolding now
   time_is = rw (u.holds, u.based) refl
 
-  module _ (mark : Float → ℕ) (c : Call) (all : Bool) (k : EndsBy c all) where
+  module _ (mark : Float → ℕ) (c : Call) (which : Leaving) (k : EndsBy c which time) where
     abbrev leaving : List (List ℕ)
-    leaving = written mark all time (waiting_of t.waiting)
+    leaving = written mark which (waiting_of t.waiting)
 
     leaving-are : leaving ≡ map (record_of mark) (map (event_of by_entry) (messages s.rate c l))
-    leaving-are = rw (u.midway.waiting, messages_are s.rate c all l time k time_is) refl
+    leaving-are = rw (u.midway.waiting, messages_are s.rate c which l time k time_is) refl
 
     records_are : map (record_of mark) (events s.rate c l) ≡ map frame_bytes l.heard ++ leaving
     records_are =
@@ -221,8 +223,8 @@ module _ (s : SigfoxReceiver) (l : Ledger by_entry) (old : List ℕ) (held base 
 
     module _ (n : ℕ) (now : List ℕ)
         (w : (rs : List (List ℕ)) (was : List ℕ) → Sized rs → t.count ≡ length rs → bytes ≡ with_records rs was
-        → (n ≡ length (rs ++ written mark all (seconds s.rate (base + held)) (waiting_of t.waiting)))
-        × (now ≡ with_records (rs ++ written mark all (seconds s.rate (base + held)) (waiting_of t.waiting)) was)) where
+        → (n ≡ length (rs ++ written mark which (waiting_of t.waiting)))
+        × (now ≡ with_records (rs ++ written mark which (waiting_of t.waiting)) was)) where
       wrote : (n ≡ length (map (record_of mark) (events s.rate c l))) × (now ≡ with_records (map (record_of mark) (events s.rate c l)) old)
       wrote =
           rw records_are
@@ -230,38 +232,44 @@ module _ (s : SigfoxReceiver) (l : Ledger by_entry) (old : List ℕ) (held base 
           (u.midway.count ∙ sym (length-map l.heard frame_bytes)) u.midway.events)
 
       pub ended : (a : Starts) (b : Waiting) → a ≡ starts.over s.starts (distances t.starts)
-          → b ≡ waiting.over s.waiting (others (leaves all (seconds s.rate (base + held))) (waiting_of t.waiting))
+          → b ≡ waiting.over s.waiting (others (leaves which) (waiting_of t.waiting))
           → Ended s c mark l old
           (record { refused = 0; count = n; receiver = record { rate = s.rate; held = held; base = base; unscanned = unscanned; starts = a; waiting = b } }) now
       unfolding state_over closed
       ended a b ea eb =
           let x : a ≡ starts.over s.starts (starts.distances_of l.base l.starts) = ea ∙ ap (starts.over s.starts) u.midway.starts in
           let y : b ≡ waiting.over s.waiting (others (ready by_entry c (ledger.now s.rate l)) l.waiting) =
-          eb ∙ rw (u.midway.waiting, others_are s.rate c all l time k time_is) refl in
+          eb ∙ rw (u.midway.waiting, others_are s.rate c which l time k time_is) refl in
           record { answer = rw (wrote.0, u.holds, u.based, u.unseen, x, y) refl; records = wrote.1 }
 
--- the records of a call whose scans are done have room
-pub closable : (mark : Float → ℕ) (s : SigfoxReceiver) (c : Call) (samples places : List Float) (old now : List ℕ) (scratch : List Float) (held base unscanned : ℕ) (t : Scanned) (all : Bool)
-    → Passes s c samples old scratch → Done s c samples old held base unscanned t places now → EndsBy c all → length now ≡ length old
-    → Closable mark s.rate (base + held) t all now
-closable mark s c samples places old now scratch held base unscanned t all p d k e =
+-- a call whose scans are done ends within the stream
+pub ends_within : (s : SigfoxReceiver) (c : Call) (samples places : List Float) (old now : List ℕ) (scratch : List Float) (held base unscanned : ℕ) (t : Scanned)
+    → Passes s c samples old scratch → Done s c samples old held base unscanned t places now → base + held ≤ longest_stream
+ends_within s c samples places old now scratch held base unscanned t p d =
+    let l = ledger_of s samples in
+    let long = (scans-small s.rate (demod_of s.rate) l c (omega (arith, p.lowest)) p.order.room).1 in
+    omega (arith, d.under.holds, d.under.based, ends l c p.order.stream p.accepted, long)
+  where
+    ends : (l : Ledger by_entry) (c : Call) → l.base + length l.held ≤ longest_stream → Accepted s.rate l c → l.base + length l.held + call_size c ≤ longest_stream
+    ends l (push xs) q a = a.stream
+    ends l flush q a = omega arith
+
+-- and its records have room
+pub closable : (mark : Float → ℕ) (s : SigfoxReceiver) (c : Call) (samples places : List Float) (old now : List ℕ) (scratch : List Float) (held base unscanned : ℕ) (t : Scanned) (which : Leaving)
+    → Passes s c samples old scratch → Done s c samples old held base unscanned t places now → EndsBy c which (seconds s.rate (base + held)) → length now ≡ length old
+    → Closable mark t which now
+closable mark s c samples places old now scratch held base unscanned t which p d k e =
     let rate = s.rate in
     let l = ledger_of s samples in
     let w = scans rate (demod_of rate) l c in
     let pos : 1 ≤ rate = omega (arith, p.lowest) in
     let fair = demod_fair rate p.lowest p.highest in
     let few = (bounded rate (demod_of rate) fair entries_lawful pos).events l c p.order p.accepted in
-    let long = (scans-small rate (demod_of rate) l c pos p.order.room).1 in
-    let n : length (written mark all (seconds rate (base + held)) (waiting_of t.waiting)) ≡ length (messages rate c w)
-    = ap length (leaving-are s w old held base unscanned t now d.under mark c all k)
+    let n : length (written mark which (waiting_of t.waiting)) ≡ length (messages rate c w)
+    = ap length (leaving-are s w old held base unscanned t now d.under mark c which k)
     ∙ length-map (map (event_of by_entry) (messages rate c w)) (record_of mark) ∙ length-map (messages rate c w) (event_of by_entry) in
     record {
       starts = d.starts;
       waiting = d.waiting;
-      stream = omega (arith, d.under.holds, d.under.based, ends l c p.order.stream p.accepted, long);
       room = omega (arith, n, few, d.under.midway.count, p.bytes);
     }
-  where
-    ends : (l : Ledger by_entry) (c : Call) → l.base + length l.held ≤ longest_stream → Accepted s.rate l c → l.base + length l.held + call_size c ≤ longest_stream
-    ends l (push xs) q a = a.stream
-    ends l flush q a = omega arith

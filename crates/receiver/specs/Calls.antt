@@ -11,6 +11,7 @@ use Rattle.ledger.specs.Records.{record_of, with_records}
 use Rattle.receiver_samples.specs.Buffer.{all_filled}
 use Rattle.receiver.specs.State.{ledger_of, counts_of, state_over}
 use Rattle.receiver.specs.declared.SigfoxReceiver.{SigfoxReceiver}
+use Rattle.receiver.specs.declared.Lent as declared
 
 -- what is lent to a call: the contents
 pub record Memory : Type 0 where
@@ -19,9 +20,20 @@ pub record Memory : Type 0 where
   pub scratch32 : List Float
   pub scratch64 : List Float
 
+abbrev pub memory : declared.Lent → Memory
+memory l = record { samples = l.samples.now; events = l.events.now; scratch32 = l.scratch32.now; scratch64 = l.scratch64.now }
+
 abbrev pub lengths_of : Memory → Lent
 lengths_of b =
     record { samples = length b.samples; events = length b.events; scratch32 = length b.scratch32; scratch64 = length b.scratch64 }
+
+-- the same references to as many places: a caller reads through its own what a call left
+pub record Same (a b : declared.Lent) : Type 0 where
+  pub samples : b.samples.ghost_name ≡ a.samples.ghost_name
+  pub events : b.events.ghost_name ≡ a.events.ghost_name
+  pub scratch32 : b.scratch32.ghost_name ≡ a.scratch32.ghost_name
+  pub scratch64 : b.scratch64.ghost_name ≡ a.scratch64.ghost_name
+  pub lengths : lengths_of (memory b) ≡ lengths_of (memory a)
 
 -- the number of a call's refusal, 0 for none: 01's causes, on the ledger that the state stands for, and 11
 abbrev pub refusal_of : SigfoxReceiver → Call → Schedule → Memory → ℕ

@@ -1,5 +1,5 @@
 -- Scaffolding. An accepted call under way: what the code has of it stands for a ledger. Assumes nothing.
-use Rattle.std.specs.Prelude.{◌≡◌, Bool, true, false, List, map, ℕ, ◌+◌, ◌*◌, ◌≤◌, ◌<◌, length, Float}
+use Rattle.std.specs.Prelude.{◌≡◌, true, false, List, map, ℕ, ◌+◌, ◌*◌, ◌≤◌, ◌<◌, length, Float}
 use Rattle.std.proofs.Math.Seq.{paste}
 use Rattle.limits.specs.Limits.{lowest_rate, highest_rate, longest_stream, record_size, events_size, scratch64}
 use Rattle.ledger.specs.Ledger.{Ledger, Call, by_entry, capacity, seconds, ready, scans, closed, events}
@@ -12,6 +12,7 @@ use Rattle.shifts.specs.Shifts.{Schedule}
 use Rattle.receiver_starts.specs.Starts.{distances, starts_ok}
 use Rattle.receiver_starts.specs.declared.Starts.{Starts}
 use Rattle.receiver_waiting.specs.Waiting.{waiting_of, leaves, any_expires}
+use Rattle.receiver_waiting.specs.declared.Leaving.{Leaving}
 use Rattle.receiver_scan.specs.Midway.{Midway}
 use Rattle.receiver_scan.specs.declared.Scanned.{Scanned}
 use Rattle.receiver_closing.specs.Written.{written}
@@ -39,16 +40,15 @@ pub record Under (l : Ledger by_entry) (old : List ℕ) (held base unscanned : �
   pub unseen : unscanned ≡ l.unscanned
   pub midway : Midway l old t.starts t.waiting t.count now
 
--- what the end of a call asks at the sample `end`: the starts and the messages are within their arrays, and the records of those that leave have room
-pub record Closable (mark : Float → ℕ) (rate end : ℕ) (t : Scanned) (all : Bool) (events : List ℕ) : Type 0 where
+-- what the end of a call asks: the starts and the messages are within their arrays, and the records of those that leave have room
+pub record Closable (mark : Float → ℕ) (t : Scanned) (which : Leaving) (events : List ℕ) : Type 0 where
   pub starts : t.starts.count ≤ most_starts
   pub waiting : t.waiting.count ≤ open_places
-  pub stream : end ≤ longest_stream
-  pub room : record_size * (t.count + length (written mark all (seconds rate end) (waiting_of t.waiting))) ≤ length events
+  pub room : record_size * (t.count + length (written mark which (waiting_of t.waiting))) ≤ length events
 
--- a push writes the messages that are complete, a flush all
-abbrev pub EndsBy : Call → Bool → Type 0
-EndsBy c all = (t : Float) → ready by_entry c t ≡ leaves all t
+-- a push writes the messages that are complete at its time, a flush all
+abbrev pub EndsBy : Call → Leaving → Float → Type 0
+EndsBy c which t = ready by_entry c t ≡ leaves which
 
 -- the answer to an accepted call c on the state s whose scans left l, and its records with their marks
 pub record Ended (s : SigfoxReceiver) (c : Call) (mark : Float → ℕ) (l : Ledger by_entry) (old : List ℕ) (r : Received) (now : List ℕ) : Type 0 where

@@ -9,7 +9,6 @@ use Rattle.receiver_waiting.specs.Waiting as waiting
 use Rattle.receiver_starts.specs.declared.Starts.{Starts}
 use Rattle.receiver_waiting.specs.declared.Waiting.{Waiting}
 use Rattle.receiver.specs.declared.SigfoxReceiver.{SigfoxReceiver}
-use Rattle.receiver.specs.declared.Lengths.{Lengths}
 
 -- the ledger that a state and its sample buffer stand for
 abbrev pub ledger_of : SigfoxReceiver → List Float → Ledger by_entry
@@ -43,9 +42,6 @@ state_over s l =
       starts = starts.over s.starts (starts.distances_of l.base l.starts);
       waiting = waiting.over s.waiting l.waiting;
     }
-
-abbrev pub lent_of : Lengths → Lent
-lent_of b = record { samples = b.samples; events = b.events; scratch32 = b.scratch32; scratch64 = b.scratch64 }
 
 -- ---- 01's order of a state, by its parts
 

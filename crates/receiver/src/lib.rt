@@ -7,8 +7,9 @@ ghost use Rattle.limits.specs.Answer.{cause_of};
 ghost use Rattle.ledger.specs.Ledger.{capacity, push, push_raw, flush};
 ghost use Rattle.ledger.specs.Causes.{most_starts, too_short, cause};
 ghost use Rattle.ledger.specs.Room.{open_places};
-ghost use Rattle.receiver.specs.State.{new_state, ledger_of, counts_of, lent_of, numbers_ok, samples_ok, given_cause, messages_cause, state_cause};
-ghost use Rattle.receiver.specs.Calls.{Answered, received};
+ghost use Rattle.shifts.specs.Shifts.{schedule};
+ghost use Rattle.receiver.specs.State.{new_state, ledger_of, counts_of, numbers_ok, samples_ok, given_cause, messages_cause, state_cause};
+ghost use Rattle.receiver.specs.Calls.{Answered, Same, memory, lengths_of, received};
 ghost use Rattle.receiver.specs.Running.{Quiet, OnlyAdds};
 
 pub mod run; // an accepted call
@@ -17,7 +18,7 @@ use ledger::Pending;
 use limits::Refusal;
 use receiver_starts::Starts;
 use receiver_waiting::Waiting;
-use shifts::Shifts;
+use shifts::Given;
 
 // Rate, samples held in the lent buffer, absolute index of its first, samples not looked at yet, remembered starts, open messages.
 #[derive(Clone, Copy)]
@@ -30,13 +31,13 @@ pub struct SigfoxReceiver {
     pub waiting: Waiting,
 }
 
-// Lengths of what is lent: samples, events, scratch.
-#[derive(Clone, Copy)]
-pub struct Lengths {
-    pub samples: usize,
-    pub events: usize,
-    pub scratch32: usize,
-    pub scratch64: usize,
+// What is lent to a call: samples of the stream (the receiver's buffer), events, and scratch.
+#[derive(Drop)]
+pub struct Lent<'a, 'b, 'c, 'd> {
+    pub samples: &'a mut [f32],
+    pub events: &'b mut [u8],
+    pub scratch32: &'c mut [f32],
+    pub scratch64: &'d mut [f64],
 }
 
 impl SigfoxReceiver {
@@ -57,86 +58,46 @@ impl SigfoxReceiver {
     }
 
     // Samples in dBm; what is complete is written to the events, and how many records that is answered (receiver.rs `push`).
-    pub fn push(
-        &mut self,
-        dbm: &[f32],
-        shifts: Shifts,
-        closed: &[u32],
-        samples: &mut [f32],
-        events: &mut [u8],
-        scratch32: &mut [f32],
-        scratch64: &mut [f64],
-    ) -> Result<usize, Refusal>
-        ensures { Answered self.old (push dbm.now) (record { shifts = shifts; closed = closed.now })
-            (record { samples = samples.entry.now; events = events.old; scratch32 = scratch32.old; scratch64 = scratch64.old })
-            (record { samples = samples.exit.now; events = events.new; scratch32 = scratch32.new; scratch64 = scratch64.new }) (received result self.new) }
+    pub fn push(&mut self, dbm: &[f32], given: &Given, lent: &mut Lent) -> Result<usize, Refusal>
+        ensures same { Same lent.old lent.new }
+        ensures answered { Answered self.old (push dbm.now) (schedule given.now) (memory lent.old) (memory lent.new) (received result self.new) }
     {
-        let lent = Lengths {
-            samples: samples.len(),
-            events: events.len(),
-            scratch32: scratch32.len(),
-            scratch64: scratch64.len(),
-        };
-        places(self);
-        check_push(self, dbm, samples, lent)?;
-        shifts::check(shifts, closed)?;
-        Ok(run::hear(self, dbm, shifts, closed, samples, events, scratch64))
+        lengths_known(self);
+        check_push(self, dbm, lent)?;
+        given.check()?;
+        let samples = &mut *lent.samples;
+        let events = &mut *lent.events;
+        let scratch64 = &mut *lent.scratch64;
+        Ok(run::hear(self, dbm, given, samples, events, scratch64))
     }
 
     // Raw samples, -2 times dBm each (receiver.rs `push_raw`).
-    pub fn push_raw(
-        &mut self,
-        raw: &[u8],
-        shifts: Shifts,
-        closed: &[u32],
-        samples: &mut [f32],
-        events: &mut [u8],
-        scratch32: &mut [f32],
-        scratch64: &mut [f64],
-    ) -> Result<usize, Refusal>
-        ensures { Answered self.old (push_raw raw.now) (record { shifts = shifts; closed = closed.now })
-            (record { samples = samples.entry.now; events = events.old; scratch32 = scratch32.old; scratch64 = scratch64.old })
-            (record { samples = samples.exit.now; events = events.new; scratch32 = scratch32.new; scratch64 = scratch64.new }) (received result self.new) }
+    pub fn push_raw(&mut self, raw: &[u8], given: &Given, lent: &mut Lent) -> Result<usize, Refusal>
+        ensures same { Same lent.old lent.new }
+        ensures answered { Answered self.old (push_raw raw.now) (schedule given.now) (memory lent.old) (memory lent.new) (received result self.new) }
     {
-        let lent = Lengths {
-            samples: samples.len(),
-            events: events.len(),
-            scratch32: scratch32.len(),
-            scratch64: scratch64.len(),
-        };
-        places(self);
-        check_push_raw(self, raw, samples, lent)?;
-        shifts::check(shifts, closed)?;
+        lengths_known(self);
+        check_push_raw(self, raw, lent)?;
+        given.check()?;
+        let samples = &mut *lent.samples;
+        let events = &mut *lent.events;
+        let scratch32 = &mut *lent.scratch32;
+        let scratch64 = &mut *lent.scratch64;
         receiver_samples::dbm_of_all(raw, scratch32);
-        let dbm = &scratch32[..raw.len()];
-        Ok(run::hear(self, dbm, shifts, closed, samples, events, scratch64))
+        let dbm: &[f32] = scratch32;
+        let dbm = &dbm[..raw.len()];
+        Ok(run::hear(self, dbm, given, samples, events, scratch64))
     }
 
     // Whether a push of these raw samples is accepted and only adds them to those held: then `add_raw` does it.
-    pub fn adds_raw(
-        &self,
-        raw: &[u8],
-        shifts: Shifts,
-        closed: &[u32],
-        samples: &[f32],
-        events: &[u8],
-        scratch32: &[f32],
-        scratch64: &[f64],
-    ) -> bool
-        ensures { result ≡ true → OnlyAdds self.now (push_raw raw.now) (record { shifts = shifts; closed = closed.now }) (length raw.now)
-            (record { samples = samples.entry.now; events = events.now; scratch32 = scratch32.now; scratch64 = scratch64.now }) }
+    pub fn adds_raw(&self, raw: &[u8], given: &Given, lent: &Lent) -> bool
+        ensures { result ≡ true → OnlyAdds self.now (push_raw raw.now) (schedule given.now) (length raw.now) (memory lent.now) }
     {
-        let lent = Lengths {
-            samples: samples.len(),
-            events: events.len(),
-            scratch32: scratch32.len(),
-            scratch64: scratch64.len(),
-        };
         let n = raw.len();
-        if !quiet(self, samples, lent, n) {
+        if !quiet(self, lent, n) {
             return false;
         }
-        if shifts::check(shifts, closed).is_err() {
+        if given.check().is_err() {
             return false;
         }
         let held = self.held + n;
@@ -146,56 +107,36 @@ impl SigfoxReceiver {
     }
 
     // `push_raw` where `adds_raw` says so.
-    pub fn add_raw(
-        &mut self,
-        raw: &[u8],
-        shifts: Shifts,
-        closed: &[u32],
-        samples: &mut [f32],
-        events: &mut [u8],
-        scratch32: &mut [f32],
-        scratch64: &mut [f64],
-    )
-        requires { OnlyAdds self.old (push_raw raw.now) (record { shifts = shifts; closed = closed.now }) (length raw.now)
-            (record { samples = samples.now; events = events.old; scratch32 = scratch32.old; scratch64 = scratch64.old }) }
-        ensures { Answered self.old (push_raw raw.now) (record { shifts = shifts; closed = closed.now })
-            (record { samples = samples.entry.now; events = events.old; scratch32 = scratch32.old; scratch64 = scratch64.old })
-            (record { samples = samples.exit.now; events = events.new; scratch32 = scratch32.new; scratch64 = scratch64.new }) (received (Ok 0) self.new) }
+    pub fn add_raw(&mut self, raw: &[u8], given: &Given, lent: &mut Lent)
+        requires { OnlyAdds self.old (push_raw raw.now) (schedule given.now) (length raw.now) (memory lent.old) }
+        ensures same { Same lent.old lent.new }
+        ensures answered { Answered self.old (push_raw raw.now) (schedule given.now) (memory lent.old) (memory lent.new) (received (Ok 0) self.new) }
     {
-        places(self);
+        lengths_known(self);
+        let samples = &mut *lent.samples;
+        let scratch32 = &mut *lent.scratch32;
         receiver_samples::dbm_of_all(raw, scratch32);
-        run::add(self, &scratch32[..raw.len()], samples);
+        let dbm: &[f32] = scratch32;
+        run::add(self, &dbm[..raw.len()], samples);
     }
 
     // What has been heard so far is decoded and every open message written (receiver.rs `flush`).
-    pub fn flush(
-        &mut self,
-        shifts: Shifts,
-        closed: &[u32],
-        samples: &mut [f32],
-        events: &mut [u8],
-        scratch32: &mut [f32],
-        scratch64: &mut [f64],
-    ) -> Result<usize, Refusal>
-        ensures { Answered self.old flush (record { shifts = shifts; closed = closed.now })
-            (record { samples = samples.entry.now; events = events.old; scratch32 = scratch32.old; scratch64 = scratch64.old })
-            (record { samples = samples.exit.now; events = events.new; scratch32 = scratch32.new; scratch64 = scratch64.new }) (received result self.new) }
+    pub fn flush(&mut self, given: &Given, lent: &mut Lent) -> Result<usize, Refusal>
+        ensures same { Same lent.old lent.new }
+        ensures answered { Answered self.old flush (schedule given.now) (memory lent.old) (memory lent.new) (received result self.new) }
     {
-        let lent = Lengths {
-            samples: samples.len(),
-            events: events.len(),
-            scratch32: scratch32.len(),
-            scratch64: scratch64.len(),
-        };
-        places(self);
-        check_flush(self, samples, lent)?;
-        shifts::check(shifts, closed)?;
-        Ok(run::hear_all(self, samples, shifts, closed, events, scratch64))
+        lengths_known(self);
+        check_flush(self, lent)?;
+        given.check()?;
+        let samples = &mut *lent.samples;
+        let events = &mut *lent.events;
+        let scratch64 = &mut *lent.scratch64;
+        Ok(run::hear_all(self, samples, given, events, scratch64))
     }
 }
 
 // The arrays' lengths are their types', which no reader of a count behind a reference knows.
-fn places(s: &SigfoxReceiver)
+fn lengths_known(s: &SigfoxReceiver)
     ensures { (length s.now.starts.at ≡ most_starts) × (length s.now.waiting.messages ≡ open_places) }
 {
     let _starts: &[i32] = &s.starts.at;
@@ -203,14 +144,14 @@ fn places(s: &SigfoxReceiver)
 }
 
 // Whether a lent slice is short.
-pub fn too_short(rate: u32, lent: Lengths) -> bool
-    ensures { result ≡ too_short rate (lent_of lent) }
+pub fn too_short(rate: u32, lent: &Lent) -> bool
+    ensures { result ≡ too_short rate (lengths_of (memory lent.now)) }
 {
     let capacity = receiver_samples::capacity(rate);
-    let samples = lent.samples < capacity;
-    let events = lent.events < limits::EVENTS;
-    let scratch32 = lent.scratch32 < capacity;
-    let scratch64 = lent.scratch64 < limits::SCRATCH64;
+    let samples = lent.samples.len() < capacity;
+    let events = lent.events.len() < limits::EVENTS;
+    let scratch32 = lent.scratch32.len() < capacity;
+    let scratch64 = lent.scratch64.len() < limits::SCRATCH64;
     samples | (events | (scratch32 | scratch64))
 }
 
@@ -242,8 +183,8 @@ fn samples_in_order(s: &SigfoxReceiver, samples: &[f32]) -> bool
 // ---- causes
 
 // Causes 1 to 3 of a call that hands in n samples.
-pub fn check_given(rate: u32, lent: Lengths, n: usize) -> Result<(), Refusal>
-    ensures { cause_of result ≡ given_cause rate (lent_of lent) n }
+pub fn check_given(rate: u32, lent: &Lent, n: usize) -> Result<(), Refusal>
+    ensures { cause_of result ≡ given_cause rate (lengths_of (memory lent.now)) n }
 {
     if !limits::rate_ok(rate) {
         return Err(Refusal::BadRate);
@@ -303,14 +244,13 @@ fn check_state(s: &SigfoxReceiver, samples: &[f32], n: usize) -> Result<(), Refu
 }
 
 // Whether no cause but the messages' applies to a push of n samples, there is room for them without a drop, and no scan is due.
-fn quiet(s: &SigfoxReceiver, samples: &[f32], lent: Lengths, n: usize) -> bool
-    requires { lent.samples ≡ length samples.now }
-    ensures { result ≡ true → Quiet s.now.rate s.now.held s.now.base s.now.unscanned s.now.starts samples.now (lent_of lent) n }
+fn quiet(s: &SigfoxReceiver, lent: &Lent, n: usize) -> bool
+    ensures { result ≡ true → Quiet s.now.rate s.now.held s.now.base s.now.unscanned s.now.starts lent.now.samples.now (lengths_of (memory lent.now)) n }
 {
     if check_given(s.rate, lent, n).is_err() {
         return false;
     }
-    if !samples_in_order(s, samples) {
+    if !samples_in_order(s, lent.samples) {
         return false;
     }
     if check_stream(s.base, s.held, n).is_err() {
@@ -320,43 +260,30 @@ fn quiet(s: &SigfoxReceiver, samples: &[f32], lent: Lengths, n: usize) -> bool
 }
 
 // The cause of a push, the first by number.
-pub fn check_push(
-    s: &SigfoxReceiver,
-    dbm: &[f32],
-    samples: &[f32],
-    lent: Lengths,
-) -> Result<(), Refusal>
-    requires { lent.samples ≡ length samples.now }
-    ensures { cause_of result ≡ cause s.now.rate (lent_of lent) (counts_of s.now) (ledger_of s.now samples.now) (push dbm.now) }
+pub fn check_push(s: &SigfoxReceiver, dbm: &[f32], lent: &Lent) -> Result<(), Refusal>
+    ensures { cause_of result ≡ cause s.now.rate (lengths_of (memory lent.now)) (counts_of s.now) (ledger_of s.now lent.now.samples.now) (push dbm.now) }
 {
     check_given(s.rate, lent, dbm.len())?;
     if !limits::all_dbm(dbm) {
         return Err(Refusal::BadSample);
     }
-    check_state(s, samples, dbm.len())
+    check_state(s, lent.samples, dbm.len())
 }
 
 // The cause of a push of raw bytes: all of them are valid samples.
-pub fn check_push_raw(
-    s: &SigfoxReceiver,
-    raw: &[u8],
-    samples: &[f32],
-    lent: Lengths,
-) -> Result<(), Refusal>
-    requires { lent.samples ≡ length samples.now }
-    ensures { cause_of result ≡ cause s.now.rate (lent_of lent) (counts_of s.now) (ledger_of s.now samples.now) (push_raw raw.now) }
+pub fn check_push_raw(s: &SigfoxReceiver, raw: &[u8], lent: &Lent) -> Result<(), Refusal>
+    ensures { cause_of result ≡ cause s.now.rate (lengths_of (memory lent.now)) (counts_of s.now) (ledger_of s.now lent.now.samples.now) (push_raw raw.now) }
 {
     check_given(s.rate, lent, raw.len())?;
-    check_state(s, samples, raw.len())
+    check_state(s, lent.samples, raw.len())
 }
 
 // The cause of a flush.
-pub fn check_flush(s: &SigfoxReceiver, samples: &[f32], lent: Lengths) -> Result<(), Refusal>
-    requires { lent.samples ≡ length samples.now }
-    ensures { cause_of result ≡ cause s.now.rate (lent_of lent) (counts_of s.now) (ledger_of s.now samples.now) flush }
+pub fn check_flush(s: &SigfoxReceiver, lent: &Lent) -> Result<(), Refusal>
+    ensures { cause_of result ≡ cause s.now.rate (lengths_of (memory lent.now)) (counts_of s.now) (ledger_of s.now lent.now.samples.now) flush }
 {
     check_given(s.rate, lent, 0)?;
-    if !samples_in_order(s, samples) {
+    if !samples_in_order(s, lent.samples) {
         return Err(Refusal::BadState);
     }
     check_messages(&s.waiting)

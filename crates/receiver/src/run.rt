@@ -1,17 +1,19 @@
 // An accepted call: its samples come in by fillings, with drops and scans, and at its end the messages that leave are written.
 ghost use Rattle.std.specs.Prelude.{◌≡◌, true, List, ℕ, ◌+◌, ◌*◌, ◌≤◌, ◌<◌, length, Ok};
 ghost use Rattle.limits.specs.Limits.{highest_rate};
-ghost use Rattle.ledger.specs.Ledger.{Ledger, Call, by_entry, capacity, push, flush, tail};
+ghost use Rattle.ledger.specs.Ledger.{Ledger, Call, by_entry, capacity, push, flush, seconds, tail};
 ghost use Rattle.ledger.specs.Room.{scan_if};
 ghost use Rattle.ledger.specs.Demodulation.{demod_of};
 ghost use Rattle.receiver_scan.specs.Midway.{Lent, Within, Does};
-ghost use Rattle.shifts.specs.Shifts.{mark_of};
+ghost use Rattle.shifts.specs.Shifts.{schedule, mark_by};
 ghost use Rattle.receiver.specs.Calls.{received};
 ghost use Rattle.receiver.specs.Running.{Passes, Under, Closable, EndsBy, Ended, Answers, Addable, Adds, Added};
 
 use crate::SigfoxReceiver;
-use receiver_scan::Scanned;
-use shifts::Shifts;
+use limits::rated::Samples;
+use receiver_scan::{Held, Scanned};
+use receiver_waiting::Leaving;
+use shifts::Given;
 
 // 0.3 s in samples, rounded: so long ago a burst ended that is taken (TAIL_S).
 fn tail(rate: u32) -> usize
@@ -33,7 +35,14 @@ fn scan_tail(
     requires { Lent rate base (tail rate) held.now events.old scratch.old × Within t.old }
     ensures { Does (scan_if rate (demod_of rate) (tail rate)) held.now base t.old events.old t.new events.new }
 {
-    receiver_scan::scan(held, rate, base, tail(rate), t, events, scratch);
+    let samples = Samples { dbm: held, rate };
+    let wait = tail(rate);
+    let held = Held {
+        samples,
+        base,
+        wait,
+    };
+    receiver_scan::scan(held, t, events, scratch);
 }
 
 // The end of a call on the state s: the messages that leave are written, the others kept (`expire`).
@@ -43,19 +52,15 @@ fn finish(
     base: u64,
     unscanned: usize,
     t: &Scanned,
-    all: bool,
-    shifts: Shifts,
-    closed: &[u32],
+    leaving: Leaving,
+    given: &Given,
     events: &mut [u8],
 ) -> usize
-    requires { Closable (mark_of shifts closed.now) s.old.rate (base + held) t.now all events.old }
-    ensures { (c : Call) (l : Ledger by_entry) (old : List ℕ) → EndsBy c all → Under l old held base unscanned t.now events.old → Ended s.old c (mark_of shifts closed.now) l old (received (Ok result) s.new) events.new }
+    requires { Closable (mark_by (schedule given.now)) t.now leaving events.old }
+    ensures { (c : Call) (l : Ledger by_entry) (old : List ℕ) → EndsBy c leaving (seconds s.old.rate (base + held)) → Under l old held base unscanned t.now events.old → Ended s.old c (mark_by (schedule given.now)) l old (received (Ok result) s.new) events.new }
 {
-    let time = receiver_scan::seconds(s.rate, base + (held as u64));
-    let written = receiver_closing::write_messages(
-        &t.waiting, all, time, shifts, closed, events, t.count,
-    );
-    receiver_waiting::keep(&mut s.waiting, &t.waiting, all, time);
+    let written = receiver_closing::write_messages(&t.waiting, leaving, given, events, t.count);
+    receiver_waiting::keep(&mut s.waiting, &t.waiting, leaving);
     receiver_starts::over(&mut s.starts, &t.starts);
     s.held = held;
     s.base = base;
@@ -118,14 +123,13 @@ fn begin(s: &SigfoxReceiver) -> Scanned
 fn by_fillings(
     s: &mut SigfoxReceiver,
     dbm: &[f32],
-    shifts: Shifts,
-    closed: &[u32],
+    given: &Given,
     samples: &mut [f32],
     events: &mut [u8],
     scratch: &mut [f64],
 ) -> usize
     requires { Passes s.old (push dbm.now) samples.old events.old scratch.old }
-    ensures { Answers s.old (push dbm.now) (mark_of shifts closed.now) samples.old events.old (received (Ok result) s.new) samples.new events.new }
+    ensures { Answers s.old (push dbm.now) (mark_by (schedule given.now)) samples.old events.old (received (Ok result) s.new) samples.new events.new }
 {
     let rate = s.rate;
     let mut held = s.held;
@@ -147,45 +151,53 @@ fn by_fillings(
             unscanned = 0;
         }
     }
-    finish(s, held, base, unscanned, &t, false, shifts, closed, events)
+    let leaving = Leaving::CompleteAt(receiver_scan::seconds(rate, base + (held as u64)));
+    finish(s, held, base, unscanned, &t, leaving, given, events)
 }
 
 // An accepted push.
 pub fn hear(
     s: &mut SigfoxReceiver,
     dbm: &[f32],
-    shifts: Shifts,
-    closed: &[u32],
+    given: &Given,
     samples: &mut [f32],
     events: &mut [u8],
     scratch: &mut [f64],
 ) -> usize
     requires { Passes s.old (push dbm.now) samples.old events.old scratch.old }
-    ensures { Answers s.old (push dbm.now) (mark_of shifts closed.now) samples.old events.old (received (Ok result) s.new) samples.new events.new }
+    ensures { Answers s.old (push dbm.now) (mark_by (schedule given.now)) samples.old events.old (received (Ok result) s.new) samples.new events.new }
 {
     if only_adds(s, dbm.len()) {
         add(s, dbm, samples);
         return 0;
     }
-    by_fillings(s, dbm, shifts, closed, samples, events, scratch)
+    by_fillings(s, dbm, given, samples, events, scratch)
 }
 
 // An accepted flush: a scan that waits for nothing and leaves the count of samples not looked at, then every message is written.
 pub fn hear_all(
     s: &mut SigfoxReceiver,
     samples: &[f32],
-    shifts: Shifts,
-    closed: &[u32],
+    given: &Given,
     events: &mut [u8],
     scratch: &mut [f64],
 ) -> usize
     requires { Passes s.old flush samples.now events.old scratch.old }
-    ensures { Answers s.old flush (mark_of shifts closed.now) samples.now events.old (received (Ok result) s.new) samples.now events.new }
+    ensures { Answers s.old flush (mark_by (schedule given.now)) samples.now events.old (received (Ok result) s.new) samples.now events.new }
 {
     let held = s.held;
     let base = s.base;
     let unscanned = s.unscanned;
     let mut t = begin(s);
-    receiver_scan::scan(&samples[..held], s.rate, base, 0, &mut t, events, scratch);
-    finish(s, held, base, unscanned, &t, true, shifts, closed, events)
+    let looked_at = Samples {
+        dbm: &samples[..held],
+        rate: s.rate,
+    };
+    let all = Held {
+        samples: looked_at,
+        base,
+        wait: 0,
+    };
+    receiver_scan::scan(all, &mut t, events, scratch);
+    finish(s, held, base, unscanned, &t, Leaving::All, given, events)
 }

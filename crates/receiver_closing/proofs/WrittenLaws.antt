@@ -22,6 +22,7 @@ use Rattle.ledger.specs.Records.{Sized, record_of, with_records}
 use Rattle.ledger.specs.declared.Pending.{Pending}
 use Rattle.ledger.proofs.Joined.{sized-append, sized-length, with_more}
 use Rattle.receiver_waiting.specs.Waiting.{leaves}
+use Rattle.receiver_waiting.specs.declared.Leaving.{Leaving}
 use Rattle.receiver_closing.specs.Written.{written, put_if}
 
 either : (b : Bool) → (b ≡ true) ⊎ (b ≡ false)
@@ -41,32 +42,32 @@ finished-size mark p n m = length-message mark (finished p) n m
 abbrev pub adds : Bool → List ℕ → List (List ℕ)
 adds b r = cond b (r ∷ []) []
 
-module _ (mark : Float → ℕ) (all : Bool) (t : Float) where
-  written_next : (l : List Pending) (p : Pending) → written mark all t (l ++ (p ∷ [])) ≡ written mark all t l ++ adds (leaves all t p) (message_record (mark (finished p).time) (finished p))
+module _ (mark : Float → ℕ) (which : Leaving) where
+  written_next : (l : List Pending) (p : Pending) → written mark which (l ++ (p ∷ [])) ≡ written mark which l ++ adds (leaves which p) (message_record (mark (finished p).time) (finished p))
   unfolding chosen record_of
-  written_next [] p = ⊎_elim (λ e. rw e refl) (λ e. rw e refl) (either (leaves all t p))
+  written_next [] p = ⊎_elim (λ e. rw e refl) (λ e. rw e refl) (either (leaves which p))
   written_next (m ∷ l) p =
       ⊎_elim
       (λ e. rw e (ap (λ (k : List (List ℕ)). message_record (mark (finished m).time) (finished m) ∷ k) (written_next l p)))
       (λ e. rw e (written_next l p))
-      (either (leaves all t m))
+      (either (leaves which m))
 
-  fewer : (l : List Pending) (i n : ℕ) → i ≤ n → length (written mark all t (take i l)) ≤ length (written mark all t (take n l))
+  fewer : (l : List Pending) (i n : ℕ) → i ≤ n → length (written mark which (take i l)) ≤ length (written mark which (take n l))
   unfolding chosen
   fewer l zero n h = omega arith
   fewer [] (suc i) n h = omega arith
   fewer (m ∷ l) (suc i) zero h = absurd (not-suc-le-zero h)
   fewer (m ∷ l) (suc i) (suc n) h =
       let k = fewer l i n (le_of_suc-le-suc h) in
-      ⊎_elim (λ e. rw e (omega arith)) (λ e. rw e k) (either (leaves all t m))
+      ⊎_elim (λ e. rw e (omega arith)) (λ e. rw e k) (either (leaves which m))
 
   module _ (ms : List Pending) (count : ℕ) (old : List ℕ) where
     -- the messages before place i are looked at, and k records stand in `now`
     pub record WrittenAt (i k : ℕ) (now : List ℕ) : Type 0 where
-      pub few : k ≡ count + length (written mark all t (take i ms))
+      pub few : k ≡ count + length (written mark which (take i ms))
       pub size : length now ≡ length old
-      pub sized : Sized (written mark all t (take i ms))
-      pub here : now ≡ sets old (record_size * count) (joined (written mark all t (take i ms)))
+      pub sized : Sized (written mark which (take i ms))
+      pub here : now ≡ sets old (record_size * count) (joined (written mark which (take i ms)))
 
     pub written_start : WrittenAt 0 count old
     unfolding joined chosen
@@ -77,32 +78,32 @@ module _ (mark : Float → ℕ) (all : Bool) (t : Float) where
       this = get_or ms i z
 
       abbrev more : List (List ℕ)
-      more = adds (leaves all t this) (message_record (mark (finished this).time) (finished this))
+      more = adds (leaves which this) (message_record (mark (finished this).time) (finished this))
 
-      next : written mark all t (take (i + 1) ms) ≡ written mark all t (take i ms) ++ more
-      next = ap (written mark all t) (rw add-one (take-suc ms i z here)) ∙ written_next (take i ms) this
+      next : written mark which (take (i + 1) ms) ≡ written mark which (take i ms) ++ more
+      next = ap (written mark which) (rw add-one (take-suc ms i z here)) ∙ written_next (take i ms) this
 
-      added : (r : ℕ) (after : List ℕ) → length (message_record (mark (finished this).time) (finished this)) ≡ record_size → r ≡ cond (leaves all t this) (k + 1) k
-          → after ≡ put_if (leaves all t this) (message_record (mark (finished this).time) (finished this)) (record_size * k) now
+      added : (r : ℕ) (after : List ℕ) → length (message_record (mark (finished this).time) (finished this)) ≡ record_size → r ≡ cond (leaves which this) (k + 1) k
+          → after ≡ put_if (leaves which this) (message_record (mark (finished this).time) (finished this)) (record_size * k) now
           → Sized more × (r ≡ k + length more) × (after ≡ sets now (record_size * k) (joined more))
       unfolding joined
       added r after s er ea =
           ⊎_elim
           (λ e. rw e ((s, tt), er ∙ rw e refl, ea ∙ rw (e, append-nil (message_record (mark (finished this).time) (finished this))) refl))
           (λ e. rw e (tt, er ∙ rw e (omega arith), ea ∙ rw e refl))
-          (either (leaves all t this))
+          (either (leaves which this))
 
-      pub written-room : record_size * (count + length (written mark all t ms)) ≤ length old → leaves all t this ≡ true → record_size * (k + 1) ≤ length now
+      pub written-room : record_size * (count + length (written mark which ms)) ≤ length old → leaves which this ≡ true → record_size * (k + 1) ≤ length now
       written-room room e =
           let s : length more ≡ 1 = rw e refl in
-          let f : length (written mark all t (take (i + 1) ms)) ≡ length (written mark all t (take i ms)) + 1 = ap length next ∙ length-append (written mark all t (take i ms)) more ∙ omega arith in
-          let g : length (written mark all t (take (i + 1) ms)) ≤ length (written mark all t ms) = rw (take-length ms) at (fewer ms (i + 1) (length ms) (omega arith)) in
+          let f : length (written mark which (take (i + 1) ms)) ≡ length (written mark which (take i ms)) + 1 = ap length next ∙ length-append (written mark which (take i ms)) more ∙ omega arith in
+          let g : length (written mark which (take (i + 1) ms)) ≤ length (written mark which ms) = rw (take-length ms) at (fewer ms (i + 1) (length ms) (omega arith)) in
           omega (arith, w.few, w.size)
 
-      pub written-turn : (r : ℕ) (after : List ℕ) → length (message_record (mark (finished this).time) (finished this)) ≡ record_size → r ≡ cond (leaves all t this) (k + 1) k
-          → after ≡ put_if (leaves all t this) (message_record (mark (finished this).time) (finished this)) (record_size * k) now → WrittenAt (i + 1) r after
+      pub written-turn : (r : ℕ) (after : List ℕ) → length (message_record (mark (finished this).time) (finished this)) ≡ record_size → r ≡ cond (leaves which this) (k + 1) k
+          → after ≡ put_if (leaves which this) (message_record (mark (finished this).time) (finished this)) (record_size * k) now → WrittenAt (i + 1) r after
       written-turn r after s er ea =
-          let done = written mark all t (take i ms) in
+          let done = written mark which (take i ms) in
           let d : Sized more × (r ≡ k + length more) × (after ≡ sets now (record_size * k) (joined more)) = added r after s er ea in
           let front : length (joined done) ≡ record_size * length done = sized-length done w.sized in
           record {
@@ -117,7 +118,7 @@ module _ (mark : Float → ℕ) (all : Bool) (t : Float) where
 
     -- every place is looked at
     pub written_all : (i k : ℕ) (now : List ℕ) → WrittenAt i k now → i ≡ length ms
-        → (k ≡ count + length (written mark all t ms)) × (now ≡ sets old (record_size * count) (joined (written mark all t ms))) × Sized (written mark all t ms)
+        → (k ≡ count + length (written mark which ms)) × (now ≡ sets old (record_size * count) (joined (written mark which ms))) × Sized (written mark which ms)
     written_all i k now w q = (rw (q, take-length ms) at w.few, rw (q, take-length ms) at w.here, rw (q, take-length ms) at w.sized)
 
 -- records ws behind the records rs of an event buffer

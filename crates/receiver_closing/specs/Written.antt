@@ -5,10 +5,11 @@ use Rattle.ledger.specs.Ledger.{by_entry, chosen, event_of}
 use Rattle.ledger.specs.Records.{record_of}
 use Rattle.ledger.specs.declared.Pending.{Pending}
 use Rattle.receiver_waiting.specs.Waiting.{leaves}
+use Rattle.receiver_waiting.specs.declared.Leaving.{Leaving}
 
 -- with their marks: "a push writes .. the open messages that have three ranks or now − last over 10; a flush, all"
-abbrev pub written : (Float → ℕ) → Bool → Float → List Pending → List (List ℕ)
-written mark all t l = map (record_of mark) (map (event_of by_entry) (chosen (leaves all t) l))
+abbrev pub written : (Float → ℕ) → Leaving → List Pending → List (List ℕ)
+written mark which l = map (record_of mark) (map (event_of by_entry) (chosen (leaves which) l))
 
 -- bytes with a record at a place, where it is written
 abbrev pub put_if : Bool → List ℕ → ℕ → List ℕ → List ℕ

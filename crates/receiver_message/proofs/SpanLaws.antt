@@ -3,22 +3,20 @@ use Rattle.std.proofs.Common.{None, Some, Option}
 use mathlib.Core.Bool.{Bool, ◌&&◌, ◌||◌, cond, false, not, true}
 use mathlib.Core.List.{List, [], ◌∷◌, map}
 use mathlib.Core.Path.{◌∙◌, ◌≡◌, ap, refl, sym}
-use Prim.Native.Nat.{◌*◌, ◌+◌, ◌<◌, ◌≤◌, ℕ}
+use Prim.Native.Nat.{◌<◌, ◌≤◌, ℕ}
 use native.Mathlib.Omega.{arith}
-use lib.Count.{ones, ones_in}
 use lib.Dec.{eqb, leb}
-use lib.Ieee.{Float, binary64, down, eq, fin, inf, is_nan, nan, ne, of_bits, of_int, round, up}
+use lib.Ieee.{Float, binary64, is_nan, nan, of_bits, of_int, round}
 use lib.IntN.{ℤ}
 use lib.ListN.{get_or, length, length-map, set}
-use borrow.Author.Tests.{eq-eqb, le-leb, le-ltb, lt-leb, lt-ltb, ne_eqb}
+use borrow.Author.Tests.{eq-eqb, le-leb, lt-leb, lt-ltb, ne_eqb}
 use Rattle.floats.specs.Number.{num}
 use Rattle.ledger.specs.Causes.{end_nan, span_nan, spans_fit, in_front}
-use Rattle.ledger.specs.Frames.{Frame, rank_of, rssi_of, time_of}
-use Rattle.ledger.specs.Merge.{end_after, estimate, finished, frame_gap_s, has, known_of, later, louder, lower, lowest_later, meet, merge, no_span, open_entry, or_else, place, span_of, three_ranks}
+use Rattle.ledger.specs.Frames.{Frame, rank_of}
+use Rattle.ledger.specs.Merge.{end_after, estimate, frame_gap_s, has, known_of, later, lower, lowest_later, meet, no_span, open_entry, place, span_of}
 use Rattle.record.specs.Spans.{spans_ok}
 use Rattle.receiver_message.specs.Messages.{frame_of}
 use Rattle.record.specs.declared.FrameSpan.{FrameSpan}
-use Rattle.record.specs.declared.SigfoxMessage.{SigfoxMessage}
 use Rattle.ledger.specs.declared.Pending.{Pending}
 use Rattle.frame.specs.declared.UplinkFrame.{UplinkFrame}
 use Rattle.record.specs.declared.Reception.{Reception}
@@ -99,28 +97,6 @@ module _ (f : Frame) (s : FrameSpan) (same : s ≡ span_of f) where
   unfolding meet span_of rank_of
   meet-place l k h e = let g : has (rank_of f) l ≡ false = (rw same at h) in rw (g, e) refl
 
--- ---- three ranks
-
-pub weight-small : (a : Bool) (v x : ℕ) → x ≡ cond a v 0 → x ≤ v
-weight-small true v x e = omega arith
-weight-small false v x e = omega arith
-
-ones_three : (a b c : Bool) → eqb (ones (cond a 1 0 + cond b 2 0 + cond c 4 0)) 3 ≡ a && (b && c)
-unfolding ones ones_in
-ones_three true true true = refl
-ones_three true true false = refl
-ones_three true false true = refl
-ones_three true false false = refl
-ones_three false true true = refl
-ones_three false true false = refl
-ones_three false false true = refl
-ones_three false false false = refl
-
-pub three_ranks_are : (l : List FrameSpan) (a b c : Bool) (x y z : ℕ) → x ≡ cond a 1 0 → y ≡ cond b 2 0 → z ≡ cond c 4 0
-    → a ≡ has 0 l → b ≡ has 1 l → c ≡ has 2 l → eqb (ones (x + y + z)) 3 ≡ three_ranks l
-unfolding three_ranks
-three_ranks_are l a b c x y z ex ey ez ea eb ec = rw (ex, ey, ez, ea, eb, ec) (ones_three (has 0 l) (has 1 l) (has 2 l))
-
 -- ---- the lowest later rank
 
 -- one span before those that are looked at
@@ -192,15 +168,6 @@ unfolding open_entry end_after rank_of
 opened_is f r e s z he hs hz = rw (he, hs, hz, zero_is) refl
 
 -- ---- a given state's messages, and given spans
-
--- a float that differs from itself
-pub nan_is : (x : Float) → ne x x ≡ is_nan x
-unfolding ne eq is_nan
-nan_is nan = refl
-nan_is (inf true) = refl
-nan_is (inf false) = refl
-nan_is (fin true m e) = rw (eq-eqb (m * up e * down e) (m * up e * down e) refl) refl
-nan_is (fin false m e) = rw (eq-eqb (m * up e * down e) (m * up e * down e) refl) refl
 
 and_true : (b : Bool) → b && true ≡ b
 and_true true = refl

@@ -67,21 +67,14 @@ fn meet(spans: [FrameSpan; 3], span: FrameSpan) -> [FrameSpan; 3]
     place(spans, span)
 }
 
-// The value of a rank in the mask: 0 where it is missing.
-fn weight(present: bool, value: u8) -> u8
-    ensures { result ≡ cond present value 0 }
-{
-    if present { value } else { 0 }
-}
-
-// Whether all three ranks are there: three ones in the sum of 1, 2, 4 for ranks 0, 1, 2.
+// Whether all three ranks are there.
 fn three_ranks(spans: [FrameSpan; 3]) -> bool
     ensures { result ≡ three_ranks spans }
 {
-    let zero = weight(has(spans, 0), 1);
-    let one = weight(has(spans, 1), 2);
-    let two = weight(has(spans, 2), 4);
-    u8::count_ones(zero + one + two) == 3
+    let zero = has(spans, 0);
+    let one = has(spans, 1);
+    let two = has(spans, 2);
+    zero & (one & two)
 }
 
 // ---- `merge`

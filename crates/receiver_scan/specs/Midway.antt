@@ -33,6 +33,11 @@ pub record Lent (rate base wait : ℕ) (held : List Float) (e : List ℕ) (x : L
   pub events : events_size ≤ length e
   pub scratch : scratch64 ≤ length x
 
+-- the events and scratch that are lent are as long as a scan asks
+pub record Room (e : List ℕ) (x : List Float) : Type 0 where
+  pub events : events_size ≤ length e
+  pub scratch : scratch64 ≤ length x
+
 -- the counts are within the arrays
 pub record Within (s : Scanned) : Type 0 where
   pub starts : s.starts.count ≤ most_starts

@@ -13,7 +13,7 @@ ghost use Rattle.ledger.specs.Demodulation.{demod_of};
 ghost use Rattle.ledger.specs.Records.{frame_bytes};
 ghost use Rattle.receiver_starts.specs.Starts.{distances};
 ghost use Rattle.receiver_waiting.specs.Waiting.{waiting_of};
-ghost use Rattle.receiver_scan.specs.Midway.{Lent, Within, Does, has_room, takes_at, taken};
+ghost use Rattle.receiver_scan.specs.Midway.{Room, Within, Does, has_room, takes_at, taken};
 
 use bursts::{Burst, BurstOptions};
 use demod::DecodedFrame;
@@ -21,13 +21,22 @@ use ledger::Pending;
 use limits::rated::Samples;
 use receiver_starts::Starts;
 use receiver_waiting::Waiting;
-use record::Reception;
 
 // The records that the event buffer holds.
 const EVENT_PLACES: usize = 256;
 
 // A scan's own shortest burst: the bounds on starts, messages and records rest on it.
-const MIN_MS: f64 = 300.0;
+pub const MIN_MS: f64 = 300.0;
+
+// What a scan looks at: held samples, the absolute index of the first, and how long before the newest a burst is to have ended, in samples.
+#[derive(Clone, Copy)]
+pub struct Held<'a> {
+    pub samples: Samples<'a>,
+    pub base: u64,
+    pub wait: usize,
+    pub ghost stream: { base + length samples.dbm.now ≤ longest_stream },
+    pub ghost waits: { wait ≤ samples.rate },
+}
 
 // What a scan leaves, besides the event buffer; `count` is the records of the call so far.
 #[derive(Clone, Copy)]
@@ -37,7 +46,8 @@ pub struct Scanned {
     pub count: usize,
 }
 
-fn options() -> BurstOptions
+// How a scan looks for bursts.
+pub fn scan_options() -> BurstOptions
     ensures { result ≡ scan_options }
 {
     BurstOptions {
@@ -90,14 +100,7 @@ fn hear(d: DecodedFrame, start: u64, waiting: &mut Waiting, events: &mut [u8], c
         × (events.new ≡ sets events.old (record_size * count) (frame_bytes (frame_at start d))) }
 {
     let f = d.frame;
-    let r = Reception {
-        clock_error_ppm: d.clock_error_ppm,
-        rssi: d.rssi,
-        time: d.time,
-        end: d.end,
-        start,
-        depth: d.depth,
-    };
+    let r = d.reception(start);
     let right = f.crc_ok;
     record::put_frame(f, r, events, limits::RECORD * count);
     if right {
@@ -106,88 +109,62 @@ fn hear(d: DecodedFrame, start: u64, waiting: &mut Waiting, events: &mut [u8], c
 }
 
 // A burst that is taken: its start is remembered, decoded or not.
-fn take_burst(
-    held: &[f32],
-    rate: u32,
-    base: u64,
-    burst: Burst,
-    s: &mut Scanned,
-    events: &mut [u8],
-    scratch: &mut [f64],
-)
-    requires { Lent rate base 0 held.now events.old scratch.old × (burst.start ≤ length held.now) × (burst.end ≤ length held.now)
+fn take_burst(held: Held, burst: Burst, s: &mut Scanned, events: &mut [u8], scratch: &mut [f64])
+    requires { Room events.old scratch.old × (burst.start ≤ length held.samples.dbm.now) × (burst.end ≤ length held.samples.dbm.now)
         × (s.old.starts.count < most_starts) × (s.old.waiting.count < open_places) × (s.old.count < event_places) }
-    ensures { Does (taken rate burst) held.now base s.old events.old s.new events.new }
+    ensures { Does (taken held.entry.samples.rate burst) held.entry.samples.dbm.now held.entry.base s.old events.old s.new events.new }
 {
-    let start = base + (burst.start as u64);
+    let start = held.base + (burst.start as u64);
     receiver_starts::remember(&mut s.starts, receiver_starts::distance(burst.start));
-    let samples = Samples { dbm: held, rate };
-    if let Some(d) = demod::decode_within(samples, burst, seconds(rate, base), scratch) {
+    let t0 = seconds(held.samples.rate, held.base);
+    if let Some(d) = demod::decode_within(held.samples, burst, t0, scratch) {
         hear(d, start, &mut s.waiting, events, s.count);
         s.count += 1;
     }
 }
 
 // A burst is taken where it is to be and there is room.
-fn take_one(
-    held: &[f32],
-    rate: u32,
-    base: u64,
-    wait: usize,
-    burst: Burst,
-    s: &mut Scanned,
-    events: &mut [u8],
-    scratch: &mut [f64],
-)
-    requires { Lent rate base wait held.now events.old scratch.old × (burst.start ≤ length held.now) × (burst.end ≤ length held.now) × Within s.old }
-    ensures { Does (λ l. take_one_if rate (demod_of rate) wait l burst) held.now base s.old events.old s.new events.new }
+fn take_one(held: Held, burst: Burst, s: &mut Scanned, events: &mut [u8], scratch: &mut [f64])
+    requires { Room events.old scratch.old × (burst.start ≤ length held.samples.dbm.now) × (burst.end ≤ length held.samples.dbm.now) × Within s.old }
+    ensures { Does (λ l. take_one_if held.entry.samples.rate (demod_of held.entry.samples.rate) held.entry.wait l burst) held.entry.samples.dbm.now held.entry.base s.old events.old s.new events.new }
 {
     if !has_room(s) {
         return;
     }
-    if takes(rate, wait, &s.starts, held.len(), burst) {
-        take_burst(held, rate, base, burst, s, events, scratch);
+    if takes(
+        held.samples.rate,
+        held.wait,
+        &s.starts,
+        held.samples.dbm.len(),
+        burst,
+    ) {
+        take_burst(held, burst, s, events, scratch);
     }
 }
 
 // The bursts of the held samples, one by one.
-fn take_each(
-    held: &[f32],
-    rate: u32,
-    base: u64,
-    wait: usize,
-    s: &mut Scanned,
-    events: &mut [u8],
-    scratch: &mut [f64],
-)
-    requires { Lent rate base wait held.now events.old scratch.old × Within s.old }
-    ensures { Does (λ l. take_each_if rate (demod_of rate) wait l (held_bursts rate held.now)) held.now base s.old events.old s.new events.new }
+fn take_each(held: Held, s: &mut Scanned, events: &mut [u8], scratch: &mut [f64])
+    requires { Room events.old scratch.old × Within s.old }
+    ensures { Does (λ l. take_each_if held.entry.samples.rate (demod_of held.entry.samples.rate) held.entry.wait l (held_bursts held.entry.samples.rate held.entry.samples.dbm.now)) held.entry.samples.dbm.now held.entry.base s.old events.old s.new events.new }
 {
-    let options = options();
-    let floor = bursts::measured_floor(held);
+    let dbm = held.samples.dbm;
+    let options = scan_options();
+    let floor = bursts::measured_floor(dbm);
     let mut at: usize = 0;
-    while at < held.len() {
-        let Some(b) = bursts::search_bursts(held, rate, options, floor, at, 0) else {
+    while at < dbm.len() {
+        let Some(b) = bursts::search_bursts(dbm, held.samples.rate, options, floor, at, 0) else {
             return;
         };
-        take_one(held, rate, base, wait, b, s, events, scratch);
+        take_one(held, b, s, events, scratch);
         at = b.end;
     }
 }
 
-// A scan of the held samples, whose first has the absolute index `base`: bursts that ended less than `wait` samples before the newest are left.
-pub fn scan(
-    held: &[f32],
-    rate: u32,
-    base: u64,
-    wait: usize,
-    s: &mut Scanned,
-    events: &mut [u8],
-    scratch: &mut [f64],
-)
-    requires { Lent rate base wait held.now events.old scratch.old × Within s.old }
-    ensures { Does (scan_if rate (demod_of rate) wait) held.now base s.old events.old s.new events.new }
+// A scan of the held samples: bursts that ended less than `wait` samples before the newest are left.
+pub fn scan(held: Held, s: &mut Scanned, events: &mut [u8], scratch: &mut [f64])
+    requires { Room events.old scratch.old × Within s.old }
+    ensures { Does (scan_if held.entry.samples.rate (demod_of held.entry.samples.rate) held.entry.wait) held.entry.samples.dbm.now held.entry.base s.old events.old s.new events.new }
 {
-    take_each(held, rate, base, wait, s, events, scratch);
-    receiver_starts::forget(&mut s.starts, rate);
+    take_each(held, s, events, scratch);
+    receiver_starts::forget(&mut s.starts, held.samples.rate);
 }

@@ -1,9 +1,9 @@
 -- Turns of the loops over remembered starts, on plain lists. Assumes nothing.
-use mathlib.Core.Bool.{◌&&◌, true, false}
+use mathlib.Core.Bool.{true, false}
 use mathlib.Core.List.{List, [], ◌++◌, ◌∷◌}
 use mathlib.Core.Logic.{⊎_elim}
 use mathlib.Core.Path.{◌∙◌, ◌≡◌, ap, ap₂, refl, sym}
-use Prim.Native.Nat.{◌*◌, ◌+◌, ◌-◌, ◌/◌, ◌<◌, ◌^◌, ◌≤◌, suc, ℕ}
+use Prim.Native.Nat.{◌*◌, ◌+◌, ◌-◌, ◌<◌, ◌^◌, ◌≤◌, suc, ℕ}
 use native.Mathlib.Numerals.{add-one}
 use native.Mathlib.Omega.{arith}
 use Rattle.std.proofs.lemmas.List.{get_or_at}
@@ -12,8 +12,7 @@ use lib.IntN.{ℤ, pos, negsuc, neg_ℤ, nat_abs, sub_ℕ, ◌+ℤ◌, ◌-ℤ�
 use lib.Signed.{le_z, lt_z, mag}
 use lib.ListN.{drop, get_or, length, length-append, length-map, length-set, set, take, take-append-drop}
 use lib.Seq.{drop-cons, drop-set-lt, length-take-le, take-append_seam, take-suc}
-use borrow.Author.Tests.{le-leb, le-ltb, leb-true, lt-leb, lt-ltb, ltb-false, ltb-true}
-use Rattle.endian.specs.Bytes.{signed_of}
+use borrow.Author.Tests.{le-leb, le-ltb, leb-true, lt-leb, lt-ltb}
 use Rattle.ledger.specs.Ledger.{close, dist}
 use Rattle.ledger.proofs.Basics.{and_true, either}
 use Rattle.receiver_starts.specs.Starts.{distances, over, near_one, lately, moved, all_below, all_from, all_apart}
@@ -21,42 +20,7 @@ use Rattle.receiver_starts.specs.declared.Starts.{Starts}
 use Rattle.receiver_starts.proofs.Places.{laid_over, over_again, store_next, take-few, take_store}
 use Rattle.receiver_starts.proofs.Signed.{ahead, behind, apart_is, below_is, biased_is, from_is, minus_is, sub_same}
 
--- 10 × distance against 3 × rate, without the product
-pub same_is : (rate a b x y : ℕ) → x ≡ a - b → y ≡ b - a → ltb x ((3 * rate + 9) / 10) && ltb y ((3 * rate + 9) / 10) ≡ close rate a b
-same_is rate a b x y ex ey =
-    ⊎_elim
-    (λ p.
-    ⊎_elim
-    (λ q.
-    let u = ltb-true x ((3 * rate + 9) / 10) p in
-    let v = ltb-true y ((3 * rate + 9) / 10) q in
-    rw (p, q) (sym (lt-ltb (10 * dist a b) (3 * rate) (omega arith))))
-    (λ q.
-    let v = ltb-false y ((3 * rate + 9) / 10) q in
-    rw (p, q) (sym (le-ltb (10 * dist a b) (3 * rate) (omega arith))))
-    (either (ltb y ((3 * rate + 9) / 10))))
-    (λ p.
-    let u = ltb-false x ((3 * rate + 9) / 10) p in
-    rw p (sym (le-ltb (10 * dist a b) (3 * rate) (omega arith))))
-    (either (ltb x ((3 * rate + 9) / 10)))
-
 -- ---- a distance by what it is with 2^31 added
-
--- by its pattern of 32 bits
-module _ (n : ℕ) where
-  pub unbiased-low : n < 2 ^ 31 → signed_of 32 (n + 2 ^ 31) ≡ sub_ℕ n (2 ^ 31)
-  unfolding signed_of
-  unbiased-low h =
-      let e : 2 ^ 32 - suc (n + 2 ^ 31) ≡ 2 ^ 31 - suc n = omega arith in
-      rw (le-ltb (n + 2 ^ 31) (2 ^ 31) (omega arith), lt-ltb n (2 ^ 31) h, e) refl
-
-  pub unbiased-high : 2 ^ 31 ≤ n → n < 2 ^ 32 → signed_of 32 (n - 2 ^ 31) ≡ sub_ℕ n (2 ^ 31)
-  unfolding signed_of
-  unbiased-high h k = rw (lt-ltb (n - 2 ^ 31) (2 ^ 31) (omega arith), le-ltb n (2 ^ 31) h) refl
-
-  pub index_is : n < 2 ^ 31 → signed_of 32 n ≡ pos n
-  unfolding signed_of
-  index_is h = rw (lt-ltb n (2 ^ 31) h) refl
 
 abbrev pub Biased : ℤ → ℕ → Type 0
 Biased d r = pos r ≡ d +ℤ pos (2 ^ 31)

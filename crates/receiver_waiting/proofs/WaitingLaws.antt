@@ -30,6 +30,7 @@ use Rattle.ledger.specs.declared.Pending.{Pending}
 use Rattle.frame.specs.declared.UplinkFrame.{UplinkFrame}
 use Rattle.record.specs.declared.Reception.{Reception}
 use Rattle.receiver_waiting.specs.declared.Waiting.{Waiting}
+use Rattle.receiver_waiting.specs.declared.Leaving.TheVariants.{CompleteAt}
 use Rattle.receiver_waiting.specs.declared.Looked.{Looked}
 use Rattle.receiver_waiting.specs.declared.Condition.{Condition}
 
@@ -144,8 +145,8 @@ module _ (l : List Pending) (i : ℕ) (now : Float) (z : Pending) (here : i < le
   expires_miss e = rw (drop-cons l i z here, e, add-one) refl
 
 -- a push keeps every message where none is complete
-pub none_expires : (now : Float) (l : List Pending) → any_expires now l ≡ false → (chosen (leaves false now) l ≡ []) × (others (leaves false now) l ≡ l)
-unfolding any_expires chosen others
+pub none_expires : (now : Float) (l : List Pending) → any_expires now l ≡ false → (chosen (leaves (CompleteAt now)) l ≡ []) × (others (leaves (CompleteAt now)) l ≡ l)
+unfolding any_expires chosen others leaves
 none_expires now [] e = (refl, refl)
 none_expires now (p ∷ l) e =
     let o = basics.or_false (expires now p) (any_expires now l) e in

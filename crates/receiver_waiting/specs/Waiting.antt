@@ -8,6 +8,8 @@ use Rattle.ledger.specs.Room.{open_places}
 use Rattle.ledger.specs.declared.Pending.{Pending}
 use Rattle.record.specs.declared.FrameSpan.{FrameSpan}
 use Rattle.receiver_waiting.specs.declared.Waiting.{Waiting}
+use Rattle.receiver_waiting.specs.declared.Leaving.{Leaving}
+use Rattle.receiver_waiting.specs.declared.Leaving.TheVariants.{All, CompleteAt}
 use Rattle.receiver_waiting.specs.declared.Looked.{Looked}
 use Rattle.receiver_waiting.specs.declared.Condition.{Condition}
 
@@ -24,8 +26,9 @@ find_key d c [] = 0
 find_key d c (p ∷ l) = cond (key_is d c p) 0 (suc (find_key d c l))
 
 -- a push writes the messages that are complete, a flush all
-abbrev pub leaves : Bool → Float → Pending → Bool
-leaves all now p = all || expires now p
+unfoldable pub leaves : Leaving → Pending → Bool
+leaves All p = true
+leaves (CompleteAt now) p = expires now p
 
 unfoldable pub any_expires : Float → List Pending → Bool
 any_expires now [] = false

@@ -88,12 +88,21 @@ pub fn join(w: &mut Waiting, f: UplinkFrame, r: Reception)
 
 // ---- the end of a call
 
-// Whether a message is written: all are, or those that are complete.
-pub fn leaves(p: Pending, all: bool, now: f64) -> bool
-    ensures { result ≡ leaves all now p }
+// Which messages are written: at a flush all, at a push those that are complete at its time.
+#[derive(Clone, Copy)]
+pub enum Leaving {
+    All,
+    CompleteAt(f64),
+}
+
+// Whether a message is one of them.
+pub fn leaves(p: Pending, leaving: Leaving) -> bool
+    ensures { result ≡ leaves leaving p }
 {
-    let complete = receiver_message::expires(p, now);
-    all | complete
+    match leaving {
+        Leaving::All => true,
+        Leaving::CompleteAt(now) => receiver_message::expires(p, now),
+    }
 }
 
 // A place that holds no message.
@@ -150,14 +159,14 @@ pub fn any_expires(messages: &[Pending], now: f64) -> bool
 }
 
 // The messages that are not written, in order, in the first places of another array, whose other places stay as they are.
-pub fn keep(old: &mut Waiting, w: &Waiting, all: bool, now: f64)
+pub fn keep(old: &mut Waiting, w: &Waiting, leaving: Leaving)
     requires { w.now.count ≤ open_places }
-    ensures { old.new ≡ over old.old (others (leaves all now) (waiting_of w.now)) }
+    ensures { old.new ≡ over old.old (others (leaves leaving) (waiting_of w.now)) }
 {
     let n = w.count;
     let mut k: usize = 0;
     for p in &w.messages[..n] {
-        if leaves(*p, all, now) {
+        if leaves(*p, leaving) {
             continue;
         }
         old.messages[k] = *p;

@@ -1,6 +1,6 @@
 -- A record's bytes are written one after the other: runs that follow each other make one run. Assumes nothing.
 use mathlib.Core.Path.{◌≡◌, refl, sym, ap, ap₂, ◌∙◌}
-use mathlib.Core.Bool.{Bool, true, false, cond}
+use mathlib.Core.Bool.{Bool, true, false, cond, not}
 use mathlib.Core.List.{List, [], ◌∷◌, ◌++◌, append_assoc, append-nil}
 use Prim.Native.Nat.{ℕ, ◌+◌, ◌-◌, ◌/◌, ◌%◌, ◌≤◌, ◌<◌}
 use native.Mathlib.Nat.{min-le_right}
@@ -8,7 +8,7 @@ use native.Mathlib.Omega.{arith}
 use lib.Dec.{eqb}
 use lib.ListN.{length, take, length-append, length-replicate, length-take}
 use lib.Seq.{sets, length-sets, take_all, length-take-le}
-use borrow.Author.Tests.{eq-eqb, ne_eqb}
+use borrow.Author.Tests.{ne_eqb}
 use lib.IntN.{ℤ}
 use lib.Ieee.{Float, binary32, binary64}
 use Rattle.endian.specs.Bytes.{bytes_of, bits_of, signed_bits}
@@ -104,13 +104,25 @@ place-bytes n =
 
 -- ---- spans and ranks
 
-pub span_none : (s : FrameSpan) → s.rank ≡ no_rank → spare 16 ≡ span_bytes s
+pub span_none : (s : FrameSpan) → not (eqb s.rank no_rank) ≡ false → spare 16 ≡ span_bytes s
 unfolding span_bytes
-span_none s e = sym (ap (λ (b : Bool). cond b (spare 16) (time_bytes s.time s.end)) (eq-eqb s.rank no_rank e))
+span_none s e = go (eqb s.rank no_rank) e
+  where
+    go : (b : Bool) → not b ≡ false → spare 16 ≡ cond b (spare 16) (time_bytes s.time s.end)
+    go true e = refl
+    go false e = cc
 
-pub span_some : (s : FrameSpan) → (s.rank ≡ no_rank → ⊥) → time_bytes s.time s.end ≡ span_bytes s
+pub span_some : (s : FrameSpan) → not (eqb s.rank no_rank) ≡ true → time_bytes s.time s.end ≡ span_bytes s
 unfolding span_bytes
-span_some s e = sym (ap (λ (b : Bool). cond b (spare 16) (time_bytes s.time s.end)) (ne_eqb s.rank no_rank e))
+span_some s e = go (eqb s.rank no_rank) e
+  where
+    go : (b : Bool) → not b ≡ true → time_bytes s.time s.end ≡ cond b (spare 16) (time_bytes s.time s.end)
+    go true e = cc
+    go false e = refl
+
+pub not_not : (b : Bool) → not (not b) ≡ b
+not_not true = refl
+not_not false = refl
 
 pub rank_none : (r : ℕ) → (r ≡ 0 → ⊥) → (r ≡ 1 → ⊥) → (r ≡ 2 → ⊥) → 0 ≡ rank_bit r
 rank_none r a b c = simp (ne_eqb r 0 a, ne_eqb r 1 b, ne_eqb r 2 c)

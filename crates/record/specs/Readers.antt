@@ -1,8 +1,9 @@
 -- The fields of a record, read back by 01's table: one definition for each. Assumes nothing.
-use Rattle.std.specs.Prelude.{ℕ, ◌+◌, ◌*◌, List, take, drop, ℤ, Float}
+use Rattle.std.specs.Prelude.{ℕ, ◌+◌, ◌*◌, List, [], ◌∷◌, take, drop, ℤ, Float}
 use Rattle.std.specs.Float.{binary32, binary64}
 use Rattle.endian.specs.Bytes.{number_at, signed_of, float_at}
 use Rattle.frame.specs.Fields.{byte_at}
+use Rattle.record.specs.declared.FrameSpan.{FrameSpan}
 
 abbrev pub kind_of : List ℕ → ℕ
 kind_of l = byte_at l 0
@@ -71,3 +72,10 @@ span_end_of l i = float_at binary64 8 l (72 + 16 * i)
 
 abbrev pub start_of : List ℕ → ℕ
 start_of l = number_at 8 l 112
+
+-- a message's span i, and its three
+abbrev pub span_at : List ℕ → ℕ → FrameSpan
+span_at l i = record { rank = span_rank_of l i; time = span_time_of l i; end = span_end_of l i }
+
+abbrev pub spans_of : List ℕ → List FrameSpan
+spans_of l = span_at l 0 ∷ span_at l 1 ∷ span_at l 2 ∷ []

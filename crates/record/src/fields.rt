@@ -1,8 +1,9 @@
 // The numbers that a record's bytes hold: flags, mask, repair (01's table).
 ghost use Rattle.std.specs.Prelude.{◌≡◌, cond, ◌+◌, ◌≤◌, ◌<◌};
-ghost use Rattle.record.specs.Record.{flag, bit_flags, known_flag, rank_bit, repair_number, repair_place, end_of};
+ghost use Rattle.record.specs.Record.{flag, bit_flags, known_flag, frame_flags, message_flags, rank_bit, mask_of, repair_number, repair_place, end_of};
 
-use frame::Repair;
+use crate::SigfoxMessage;
+use frame::{Repair, UplinkFrame};
 
 fn flag_if(w: u8, b: bool) -> u8
     ensures { (result ≡ flag w b) × (result ≤ w) }
@@ -22,24 +23,25 @@ fn bit_flags(bit: Option<bool>) -> u8
 fn known_flag(e: Option<f64>) -> u8
     ensures { (result ≡ known_flag e) × (result ≤ 32) }
 {
-    match e {
-        Some(_) => 32,
-        None => 0,
-    }
+    flag_if(32, e.is_some())
 }
 
 // Byte 2 of a frame.
-pub fn frame_flags(downlink: bool, control: bool, ok: bool, bit: Option<bool>) -> u8
-    ensures { result ≡ flag 1 downlink + flag 2 control + flag 4 ok + bit_flags bit }
+pub fn frame_flags(f: UplinkFrame) -> u8
+    ensures { result ≡ frame_flags f }
 {
-    flag_if(1, downlink) + flag_if(2, control) + flag_if(4, ok) + bit_flags(bit)
+    flag_if(1, f.downlink) + flag_if(2, f.control) + flag_if(4, f.crc_ok) + bit_flags(f.bit)
 }
 
 // Byte 2 of a message, whose CRC is right.
-pub fn message_flags(downlink: bool, control: bool, bit: Option<bool>, e: Option<f64>) -> u8
-    ensures { result ≡ flag 1 downlink + flag 2 control + 4 + bit_flags bit + known_flag e }
+pub fn message_flags(m: SigfoxMessage) -> u8
+    ensures { result ≡ message_flags m }
 {
-    flag_if(1, downlink) + flag_if(2, control) + 4 + bit_flags(bit) + known_flag(e)
+    flag_if(1, m.downlink)
+        + flag_if(2, m.control)
+        + 4
+        + bit_flags(m.bit)
+        + known_flag(m.first_frame_end)
 }
 
 fn rank_bit(rank: u8) -> u8
@@ -55,10 +57,10 @@ fn rank_bit(rank: u8) -> u8
 }
 
 // Byte 1 of a message: 1, 2 and 4 for the ranks of its spans.
-pub fn mask_of(a: u8, b: u8, c: u8) -> u8
-    ensures { result ≡ rank_bit a + rank_bit b + rank_bit c }
+pub fn mask_of(m: SigfoxMessage) -> u8
+    ensures { result ≡ mask_of m }
 {
-    rank_bit(a) + rank_bit(b) + rank_bit(c)
+    rank_bit(m.spans[0].rank) + rank_bit(m.spans[1].rank) + rank_bit(m.spans[2].rank)
 }
 
 // Byte 5: how a frame was repaired.
@@ -89,8 +91,5 @@ pub fn repair_place(how: Option<Repair>) -> usize
 pub fn end_of(e: Option<f64>) -> f64
     ensures { result ≡ end_of e }
 {
-    match e {
-        Some(t) => t,
-        None => 0.0,
-    }
+    e.unwrap_or(0.0)
 }

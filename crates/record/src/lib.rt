@@ -1,10 +1,10 @@
 // The 120-byte event record of 01's table: what makes one of a frame or of a message, what reads its fields, and the C function that decodes bits into one.
 #![tactic(auto)]
 
-ghost use Rattle.std.specs.Prelude.{◌≡◌, ◌+◌, ◌≤◌, length};
+ghost use Rattle.std.specs.Prelude.{◌≡◌, not, eqb, ◌+◌, ◌≤◌, length};
 ghost use Rattle.std.proofs.lemmas.List.Edits.{sets};
 ghost use Rattle.limits.specs.Limits.{record_size};
-ghost use Rattle.record.specs.Record.{frame_head, message_head, frame_record, message_record};
+ghost use Rattle.record.specs.Record.{no_rank, frame_head, message_head, frame_record, message_record};
 ghost use Rattle.record.specs.Decoding.{decode_number, decode_record};
 
 mod fields; // numbers of a record's bytes
@@ -46,6 +46,15 @@ pub struct FrameSpan {
     pub end: f64,
 }
 
+impl FrameSpan {
+    // Whether this place holds a span.
+    pub fn is_there(self) -> bool
+        ensures { result ≡ not (eqb self.rank no_rank) }
+    {
+        self.rank != NO_RANK
+    }
+}
+
 #[derive(Clone, Copy)]
 pub struct SigfoxMessage {
     pub device_id: u32,
@@ -70,12 +79,11 @@ pub struct SigfoxMessage {
 fn frame_head(f: UplinkFrame) -> Head
     ensures { result ≡ frame_head f }
 {
-    let bit = f.bit;
     let how = f.repaired;
     Head {
         kind: FRAME,
         rank: f.rank,
-        flags: frame_flags(f.downlink, f.control, f.crc_ok, bit),
+        flags: frame_flags(f),
         payload_len: f.payload_len,
         auth_len: f.auth_len,
         repair: repair_number(how),
@@ -111,15 +119,10 @@ pub fn put_frame(f: UplinkFrame, r: Reception, out: &mut [u8], at: usize)
 fn message_head(m: SigfoxMessage) -> Head
     ensures { result ≡ message_head m }
 {
-    let bit = m.bit;
-    let end = m.first_frame_end;
-    let a = m.spans[0];
-    let b = m.spans[1];
-    let c = m.spans[2];
     Head {
         kind: MESSAGE,
-        rank: mask_of(a.rank, b.rank, c.rank),
-        flags: message_flags(m.downlink, m.control, bit, end),
+        rank: mask_of(m),
+        flags: message_flags(m),
         payload_len: m.payload_len,
         auth_len: m.auth_len,
         repair: 0,
@@ -132,10 +135,7 @@ pub fn put_message(m: SigfoxMessage, mark: u8, out: &mut [u8], at: usize)
     requires { at + record_size ≤ length out.old }
     ensures { out.new ≡ sets out.old at (message_record mark m) }
 {
-    let end = m.first_frame_end;
-    let a = m.spans[0];
-    let b = m.spans[1];
-    let c = m.spans[2];
+    let [a, b, c] = m.spans;
     let payload = m.payload;
     let auth = m.auth;
     let content = Content {
@@ -151,7 +151,15 @@ pub fn put_message(m: SigfoxMessage, mark: u8, out: &mut [u8], at: usize)
         rssi: m.rssi,
     };
     put_front(out, at, message_head(m), content);
-    put_middle(out, at + 44, a.rank, b.rank, c.rank, m.time, end_of(end));
+    put_middle(
+        out,
+        at + 44,
+        a.rank,
+        b.rank,
+        c.rank,
+        m.time,
+        end_of(m.first_frame_end),
+    );
     put_spans(out, at + 64, a, b, c);
     endian::put(out, at + 112, m.start);
 }

@@ -1,10 +1,12 @@
 // The parts of a record, one function for each run of its bytes (01's table).
 ghost use Rattle.std.specs.Prelude.{◌≡◌, ◌++◌, ◌+◌, ◌≤◌, ◌<◌, length};
 ghost use Rattle.std.proofs.lemmas.List.Edits.{sets};
+ghost use Rattle.endian.specs.Bytes.{bytes_of};
 ghost use Rattle.record.specs.Record.{spare, up_to, head_bytes, mark_bytes, identity_bytes, level_bytes, rank_bytes, time_bytes, span_bytes};
 
 use crate::FrameSpan;
-use frame::bodies::{copy_into, put_byte};
+use endian::LittleEndian;
+use frame::bytes::{copy_into, put_byte};
 
 // Bytes 0 to 7.
 #[derive(Clone, Copy)]
@@ -51,10 +53,10 @@ pub fn put_up_to(out: &mut [u8], at: usize, len: usize, bytes: &[u8])
     ensures { out.new ≡ sets out.old at (up_to len bytes.now) }
 {
     if bytes.len() <= len {
-        copy_into(bytes, 0, bytes.len(), out, at);
+        copy_into(bytes, out, at);
         return;
     }
-    copy_into(bytes, 0, len, out, at);
+    copy_into(&bytes[..len], out, at);
     put_spare(out, at + len, bytes.len() - len);
 }
 
@@ -94,13 +96,13 @@ pub fn put_identity(out: &mut [u8], at: usize, h: Head, x: Content)
     put_marks(out, at + 25, x.marks);
 }
 
-// Bytes 36 to 43.
-pub fn put_levels(out: &mut [u8], at: usize, ppm: i32, rssi: f32)
-    requires { at + 8 ≤ length out.old }
-    ensures { out.new ≡ sets out.old at (level_bytes ppm rssi) }
+// Two numbers, one behind the other: bytes 36 to 43, and a start and an end.
+pub fn put_two<A: LittleEndian, B: LittleEndian>(out: &mut [u8], at: usize, a: A, b: B)
+    requires { at + A.SIZE + B.SIZE ≤ length out.old }
+    ensures { out.new ≡ sets out.old at (bytes_of A.SIZE (A.pattern a) ++ bytes_of B.SIZE (B.pattern b)) }
 {
-    endian::put(out, at, ppm);
-    endian::put(out, at + 4, rssi);
+    endian::put(out, at, a);
+    endian::put(out, at + A::SIZE, b);
 }
 
 // Bytes 44 to 47: the ranks of the spans.
@@ -114,25 +116,16 @@ pub fn put_ranks(out: &mut [u8], at: usize, a: u8, b: u8, c: u8)
     put_byte(out, at + 3, 0);
 }
 
-// A start and an end in seconds, 16 bytes.
-pub fn put_times(out: &mut [u8], at: usize, time: f64, end: f64)
-    requires { at + 16 ≤ length out.old }
-    ensures { out.new ≡ sets out.old at (time_bytes time end) }
-{
-    endian::put(out, at, time);
-    endian::put(out, at + 8, end);
-}
-
 // A span in its 16 bytes, 0 where there is none.
 pub fn put_span(out: &mut [u8], at: usize, s: FrameSpan)
     requires { at + 16 ≤ length out.old }
     ensures { out.new ≡ sets out.old at (span_bytes s) }
 {
-    if s.rank == 255 {
+    if !s.is_there() {
         put_spare(out, at, 16);
         return;
     }
-    put_times(out, at, s.time, s.end);
+    put_two(out, at, s.time, s.end);
 }
 
 // Bytes 64 to 111.
@@ -154,7 +147,7 @@ pub fn put_front(out: &mut [u8], at: usize, h: Head, x: Content)
 {
     put_head(out, at, h);
     put_identity(out, at + 8, h, x);
-    put_levels(out, at + 36, x.ppm, x.rssi);
+    put_two(out, at + 36, x.ppm, x.rssi);
 }
 
 // Bytes 44 to 63.
@@ -163,5 +156,5 @@ pub fn put_middle(out: &mut [u8], at: usize, a: u8, b: u8, c: u8, time: f64, end
     ensures { out.new ≡ sets out.old at (rank_bytes a b c ++ time_bytes time end) }
 {
     put_ranks(out, at, a, b, c);
-    put_times(out, at + 4, time, end);
+    put_two(out, at + 4, time, end);
 }

@@ -1,156 +1,164 @@
-// The fields of a record, each by its reader (01's table).
-ghost use Rattle.std.specs.Prelude.{◌≡◌, ◌≤◌, ◌<◌, length};
+// The fields of an event record, read from its bytes (01's table).
+ghost use Rattle.std.specs.Prelude.{◌≡◌, ◌+◌, ◌≤◌, ◌<◌, length};
 ghost use Rattle.limits.specs.Limits.{record_size};
-ghost use Rattle.record.specs.Readers.{kind_of, rank_of, flags_of, payload_len_of, auth_len_of, repair_of, place_of, device_of, counter_of, depth_of, mark_of, ppm_of, rssi_of, time_of, end_of, start_of, span_rank_of, span_time_of, span_end_of};
+ghost use Rattle.endian.specs.Bytes.{number_at};
+ghost use Rattle.frame.specs.Fields.{byte_at};
+ghost use Rattle.record.specs.Readers.{kind_of, rank_of, flags_of, payload_len_of, auth_len_of, repair_of, place_of, device_of, counter_of, depth_of, mark_of, ppm_of, rssi_of, time_of, end_of, start_of, span_at, spans_of};
 
-// Byte 0: a frame or a message.
-pub fn kind_of(r: &[u8]) -> u8
-    requires { record_size ≤ length r.now }
-    ensures { result ≡ kind_of r.now }
-{
-    r[0]
+use crate::FrameSpan;
+use endian::LittleEndian;
+
+// The bytes of an event record; those past the 120th mean nothing.
+#[derive(Clone, Copy)]
+pub struct EventRecord<'a> {
+    pub bytes: &'a [u8],
+    pub ghost whole: { record_size ≤ length bytes.now },
 }
 
-// The rank of a frame, the mask of a message.
-pub fn rank_of(r: &[u8]) -> u8
-    requires { record_size ≤ length r.now }
-    ensures { result ≡ rank_of r.now }
-{
-    r[1]
-}
+impl<'a> EventRecord<'a> {
+    pub fn new(bytes: &'a [u8]) -> Self
+        requires { record_size ≤ length bytes.now }
+        ensures { result.bytes.now ≡ bytes.now }
+    {
+        EventRecord { bytes }
+    }
 
-// Byte 2.
-pub fn flags_of(r: &[u8]) -> u8
-    requires { record_size ≤ length r.now }
-    ensures { result ≡ flags_of r.now }
-{
-    r[2]
-}
+    fn byte(self, at: usize) -> u8
+        requires { at < record_size }
+        ensures { result ≡ byte_at self.entry.bytes.now at }
+    {
+        self.bytes[at]
+    }
 
-// Byte 3.
-pub fn payload_len_of(r: &[u8]) -> u8
-    requires { record_size ≤ length r.now }
-    ensures { result ≡ payload_len_of r.now }
-{
-    r[3]
-}
+    fn number<T: LittleEndian>(self, at: usize) -> T
+        requires { at + T.SIZE ≤ record_size }
+        ensures { result ≡ T.of_pattern (number_at T.SIZE self.entry.bytes.now at) }
+    {
+        endian::get(self.bytes, at)
+    }
 
-// Byte 4.
-pub fn auth_len_of(r: &[u8]) -> u8
-    requires { record_size ≤ length r.now }
-    ensures { result ≡ auth_len_of r.now }
-{
-    r[4]
-}
+    // A frame or a message.
+    pub fn kind(self) -> u8
+        ensures { result ≡ kind_of self.entry.bytes.now }
+    {
+        self.byte(0)
+    }
 
-// Byte 5: how a frame was repaired.
-pub fn repair_of(r: &[u8]) -> u8
-    requires { record_size ≤ length r.now }
-    ensures { result ≡ repair_of r.now }
-{
-    r[5]
-}
+    // The rank of a frame, the mask of a message.
+    pub fn rank(self) -> u8
+        ensures { result ≡ rank_of self.entry.bytes.now }
+    {
+        self.byte(1)
+    }
 
-// Bytes 6 and 7: at which bit.
-pub fn place_of(r: &[u8]) -> u16
-    requires { record_size ≤ length r.now }
-    ensures { result ≡ place_of r.now }
-{
-    endian::get::<u16>(r, 6)
-}
+    pub fn flags(self) -> u8
+        ensures { result ≡ flags_of self.entry.bytes.now }
+    {
+        self.byte(2)
+    }
 
-// Bytes 8 to 11.
-pub fn device_of(r: &[u8]) -> u32
-    requires { record_size ≤ length r.now }
-    ensures { result ≡ device_of r.now }
-{
-    endian::get::<u32>(r, 8)
-}
+    pub fn payload_len(self) -> u8
+        ensures { result ≡ payload_len_of self.entry.bytes.now }
+    {
+        self.byte(3)
+    }
 
-// Bytes 12 and 13.
-pub fn counter_of(r: &[u8]) -> u16
-    requires { record_size ≤ length r.now }
-    ensures { result ≡ counter_of r.now }
-{
-    endian::get::<u16>(r, 12)
-}
+    pub fn auth_len(self) -> u8
+        ensures { result ≡ auth_len_of self.entry.bytes.now }
+    {
+        self.byte(4)
+    }
 
-// Half decibels of the dips' depth; 0 where there were none.
-pub fn depth_of(r: &[u8]) -> u8
-    requires { record_size ≤ length r.now }
-    ensures { result ≡ depth_of r.now }
-{
-    r[33]
-}
+    // How a frame was repaired.
+    pub fn repair(self) -> u8
+        ensures { result ≡ repair_of self.entry.bytes.now }
+    {
+        self.byte(5)
+    }
 
-// The mark of a message: 1 inside its shifts, 2 outside, 0 where no start second was given.
-pub fn mark_of(r: &[u8]) -> u8
-    requires { record_size ≤ length r.now }
-    ensures { result ≡ mark_of r.now }
-{
-    r[34]
-}
+    // At which bit.
+    pub fn place(self) -> u16
+        ensures { result ≡ place_of self.entry.bytes.now }
+    {
+        self.number(6)
+    }
 
-// Bytes 36 to 39: the clock error.
-pub fn ppm_of(r: &[u8]) -> i32
-    requires { record_size ≤ length r.now }
-    ensures { result ≡ ppm_of r.now }
-{
-    endian::get::<i32>(r, 36)
-}
+    pub fn device(self) -> u32
+        ensures { result ≡ device_of self.entry.bytes.now }
+    {
+        self.number(8)
+    }
 
-// Bytes 40 to 43, in dBm.
-pub fn rssi_of(r: &[u8]) -> f32
-    requires { record_size ≤ length r.now }
-    ensures { result ≡ rssi_of r.now }
-{
-    endian::get::<f32>(r, 40)
-}
+    pub fn counter(self) -> u16
+        ensures { result ≡ counter_of self.entry.bytes.now }
+    {
+        self.number(12)
+    }
 
-// Bytes 48 to 55, in seconds of the stream.
-pub fn time_of(r: &[u8]) -> f64
-    requires { record_size ≤ length r.now }
-    ensures { result ≡ time_of r.now }
-{
-    endian::get::<f64>(r, 48)
-}
+    // Half decibels of the dips' depth; 0 where there were none.
+    pub fn depth(self) -> u8
+        ensures { result ≡ depth_of self.entry.bytes.now }
+    {
+        self.byte(33)
+    }
 
-// The end of a frame, the first-frame end of a message.
-pub fn end_of(r: &[u8]) -> f64
-    requires { record_size ≤ length r.now }
-    ensures { result ≡ end_of r.now }
-{
-    endian::get::<f64>(r, 56)
-}
+    // The mark of a message: 1 inside its shifts, 2 outside, 0 where no start second was given.
+    pub fn mark(self) -> u8
+        ensures { result ≡ mark_of self.entry.bytes.now }
+    {
+        self.byte(34)
+    }
 
-// Bytes 112 to 119: the first sample of a frame.
-pub fn start_of(r: &[u8]) -> u64
-    requires { record_size ≤ length r.now }
-    ensures { result ≡ start_of r.now }
-{
-    endian::get::<u64>(r, 112)
-}
+    // The clock error.
+    pub fn ppm(self) -> i32
+        ensures { result ≡ ppm_of self.entry.bytes.now }
+    {
+        self.number(36)
+    }
 
-// The rank of span i, 255 for none.
-pub fn span_rank_of(r: &[u8], i: usize) -> u8
-    requires { (record_size ≤ length r.now) × (i < 3) }
-    ensures { result ≡ span_rank_of r.now i }
-{
-    r[44 + i]
-}
+    // In dBm.
+    pub fn rssi(self) -> f32
+        ensures { result ≡ rssi_of self.entry.bytes.now }
+    {
+        self.number(40)
+    }
 
-// When span i begins.
-pub fn span_time_of(r: &[u8], i: usize) -> f64
-    requires { (record_size ≤ length r.now) × (i < 3) }
-    ensures { result ≡ span_time_of r.now i }
-{
-    endian::get::<f64>(r, 64 + 16 * i)
-}
+    // In seconds of the stream.
+    pub fn time(self) -> f64
+        ensures { result ≡ time_of self.entry.bytes.now }
+    {
+        self.number(48)
+    }
 
-// When span i ends.
-pub fn span_end_of(r: &[u8], i: usize) -> f64
-    requires { (record_size ≤ length r.now) × (i < 3) }
-    ensures { result ≡ span_end_of r.now i }
-{
-    endian::get::<f64>(r, 72 + 16 * i)
+    // The end of a frame, the first-frame end of a message.
+    pub fn end(self) -> f64
+        ensures { result ≡ end_of self.entry.bytes.now }
+    {
+        self.number(56)
+    }
+
+    // The first sample of a frame.
+    pub fn start(self) -> u64
+        ensures { result ≡ start_of self.entry.bytes.now }
+    {
+        self.number(112)
+    }
+
+    // A message's spans.
+    pub fn spans(self) -> [FrameSpan; 3]
+        ensures { result ≡ spans_of self.entry.bytes.now }
+    {
+        [self.span(0), self.span(1), self.span(2)]
+    }
+
+    fn span(self, i: usize) -> FrameSpan
+        requires { i < 3 }
+        ensures { result ≡ span_at self.entry.bytes.now i }
+    {
+        FrameSpan {
+            rank: self.byte(44 + i),
+            time: self.number(64 + 16 * i),
+            end: self.number(72 + 16 * i),
+        }
+    }
 }

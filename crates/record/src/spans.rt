@@ -2,7 +2,7 @@
 ghost use Rattle.std.specs.Prelude.{◌≡◌, ◌∷◌, []};
 ghost use Rattle.record.specs.Spans.{span_ok, place_ok, spans_ok};
 
-use crate::{FrameSpan, NO_RANK};
+use crate::FrameSpan;
 
 // Whether cause 9 does not apply to a span.
 pub fn span_ok(s: FrameSpan) -> bool
@@ -17,8 +17,7 @@ pub fn span_ok(s: FrameSpan) -> bool
 pub fn place_ok(s: FrameSpan) -> bool
     ensures { result ≡ place_ok s }
 {
-    let none = s.rank == NO_RANK;
-    none | span_ok(s)
+    !s.is_there() | span_ok(s)
 }
 
 // The same of a message's three places.

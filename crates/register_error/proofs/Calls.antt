@@ -6,28 +6,30 @@ use mathlib.Core.List.{List, [], ◌∷◌, ◌++◌, map}
 use Prim.Native.Nat.{ℕ, zero, suc, ◌+◌, ◌^◌, ◌<◌}
 use native.Mathlib.Omega.{arith}
 use lib.Dec.{ltb}
+use Rattle.std.proofs.lemmas.List.{map-append}
 use lib.ListN.{length}
 use lib.Ieee.{Float}
 use Rattle.limits.specs.Answer.{accepted, answer, said_by}
 use Rattle.cfo.specs.Cfo.{reading_hz}
 use Rattle.frequency_signal.specs.Seconds.{settling, kept as within}
 use Rattle.frequency_signal.specs.Heard.{heard}
-use Rattle.frequency_lists.specs.Lists.{Reading, Tuning, cfo_every, last_or, readings_from}
+use Rattle.frequency_lists.specs.declared.Reading.{Reading}
+use Rattle.frequency_lists.specs.declared.Tuning.{Tuning}
+use Rattle.frequency_lists.specs.Lists.{cfo_every, last_or, readings_from}
 use Rattle.frequency_lists.specs.Marks.{retained}
 use Rattle.frequency_lists.proofs.Gather.{map-retained}
-use Rattle.frequency_measure.specs.Measured.{readings_of, frame1}
+use Rattle.frequency_measure.specs.Measured.{frame1}
 use Rattle.record.specs.declared.FrameSpan.{FrameSpan}
 use Rattle.record.specs.Spans.{spans_ok}
 use Rattle.frequency.specs.declared.FrequencyTracker.{FrequencyTracker}
-use Rattle.frequency.specs.Lent.{Lists, lists, tunings_of, tracker, packed, stored}
+use Rattle.frequency.specs.Lent.{Lists, lists, tracker, packed, stored}
 use Rattle.frequency.specs.Order.{cause_frame}
 use Rattle.frequency.specs.Calls.{fresh, held_readings}
 use Rattle.frequency.specs.Grown.{Grown, new, tuned, samples, cfo, next}
 use Rattle.frequency.specs.Tracker as T
-use Rattle.frequency.proofs.Grown.{sound, counts_of, unpack}
+use Rattle.frequency.proofs.Grown.{sound, unpack}
 use Rattle.frequency.proofs.Grown as G
 use Rattle.frequency.proofs.Contracts.{contracts}
-use Rattle.frequency.proofs.Held.{map-append}
 use Rattle.register_error.specs.Bound.{RawReading, step, reading_of, U32, DirectPath, Answers, asked, least, Bound}
 use Rattle.register_error.specs.Calls.{Holds, raw_from, raw_of, GrownHolds, Called, CallsBound, TrackersBound, CallClaims}
 use Rattle.register_error.proofs.Bound.{claims}
@@ -97,7 +99,7 @@ unfolding T.after_tuning
 next_kept u k = record { base = k.base; freqs = k.freqs; los = k.los }
 
 new_kept : (rate base : ℕ) (st : Float) (l : Lists) → base < 2 ^ 32 → Kept (tracker (fresh rate base st) l)
-unfolding tracker readings_of tunings_of
+unfolding tracker
 new_kept rate base st l h = record { base = h; freqs = tt; los = tt }
 
 -- ---- every reading is of the value that `cfo` was given
@@ -149,7 +151,7 @@ unfolding T.after_tuning
 next_made u held h = h
 
 new_made : (rate base : ℕ) (st : Float) (l : Lists) → Made (tracker (fresh rate base st) l) []
-unfolding tracker readings_of
+unfolding tracker
 new_made rate base st l e = refl
 
 -- ---- by the calls
@@ -164,17 +166,17 @@ after u l t m held k e f =
 both : {s : FrequencyTracker} {l : Lists} (g : Grown s l) → Both (tracker s l) (raw_of g)
 unfolding raw_of Both
 both (new rate base st l h e) = (new_kept rate base st l h, new_made rate base st l)
-both (tuned {s} {t} {l} f tun fre h g c) =
-    let b = (counts_of s l (sound g)).beside in
-    after (T.tuned (tracker s l) f) l t (lists l.at l.lo l.hz tun fre) (raw_of g) (tuned_kept (tracker s l) f h (both g).0, tuned_made (tracker s l) (raw_of g) f (both g).1)
-    (c.state refl l.at l.lo l.hz b) (c.lent refl l.at l.lo l.hz b)
+both (tuned {s} {t} {l} f ts h g c) =
+    let b = (sound g).counts.readings in
+    after (T.tuned (tracker s l) f) l t (lists l.readings ts) (raw_of g) (tuned_kept (tracker s l) f h (both g).0, tuned_made (tracker s l) (raw_of g) f (both g).1)
+    (c.state refl l.readings b) (c.lent refl l.readings b)
 both (samples {s} {t} {l} {m} dbm g c) =
     after (T.samples (tracker s l) dbm) l t m (raw_of (samples dbm g c)) (samples_kept (tracker s l) dbm (both g).0, samples_made (tracker s l) (raw_of g) dbm (both g).1) (c.state refl) (c.lists refl)
 both (cfo {s} {t} {l} {m} raw g c) =
     after (T.cfo (tracker s l) raw) l t m (raw_of (cfo raw g c)) (cfo_kept (tracker s l) raw (both g).0, cfo_made (tracker s l) (raw_of g) raw (both g).1) (c.state refl) (c.lists refl)
 both (next {s} {t} {l} out out' tune g c) =
     subst (λ (x : FrequencyTracker). Both (tracker x l) (raw_of g)) (sym (c.state refl))
-    (subst (λ (x : T.Tracker). Both x (raw_of g)) (sym (G.same s l (counts_of s l (sound g)))) (next_kept (tracker s l) (both g).0, next_made (tracker s l) (raw_of g) (both g).1))
+    (subst (λ (x : T.Tracker). Both x (raw_of g)) (sym (G.same s l (sound g).counts)) (next_kept (tracker s l) (both g).0, next_made (tracker s l) (raw_of g) (both g).1))
 
 small : (l : List RawReading) → Each (λ (x : Reading). x.lo < 2 ^ 32) (map reading_of l) → U32 l
 small [] h = tt
@@ -184,7 +186,7 @@ pub grown-holds : GrownHolds
 unfolding tracker Both
 grown-holds s l g e =
     let b = both g in
-    let h : held_readings s l.at l.lo l.hz ≡ map reading_of (raw_of g) = b.1 e in
+    let h : held_readings s l.readings ≡ map reading_of (raw_of g) = b.1 e in
     (h, small (raw_of g) (subst (Each (λ (x : Reading). x.lo < 2 ^ 32)) h b.0.los))
 
 -- ---- the calls
@@ -198,10 +200,10 @@ answers : (s : FrequencyTracker) (l : Lists) (raw : List RawReading) (spans : Li
     → Holds s l raw → Called s l spans downlink a out out' → Answers s.rate raw spans downlink a
 unfolding said_by
 answers s l raw spans downlink a out out' h c =
-    let k = cause_frame s l.at l.lo l.hz (length out) (spans_ok spans) in
+    let k = cause_frame s l.readings (length out) (spans_ok spans) in
     record {
       path = subst (λ (z : List Reading). DirectPath s.rate z spans downlink) h c.path;
-      answer = ap (λ (z : List Reading). frame1 s.rate z spans downlink) (sym h) ∙ told (frame1 s.rate (held_readings s l.at l.lo l.hz) spans downlink) k a c.call.says;
+      answer = ap (λ (z : List Reading). frame1 s.rate z spans downlink) (sym h) ∙ told (frame1 s.rate (held_readings s l.readings) spans downlink) k a c.call.says;
     }
 
 calls : (more : ℕ) → Bound more → CallsBound more

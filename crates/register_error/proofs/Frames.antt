@@ -11,7 +11,8 @@ use Rattle.std.proofs.lemmas.Option.{none-some}
 use lib.ListN.{length, length-map}
 use lib.Ieee.{Float}
 use Rattle.cfo.specs.Cfo.{round_hz}
-use Rattle.frequency_lists.specs.Lists.{Reading, last_or}
+use Rattle.frequency_lists.specs.declared.Reading.{Reading}
+use Rattle.frequency_lists.specs.Lists.{last_or}
 use Rattle.frequency_lists.specs.Marks.{retained}
 use Rattle.frequency_measure.specs.Measured.{fewest, measured, median, inside, first_of, past_of, near, frame_of, frame_frequency, direct, of_rank}
 use Rattle.frequency_measure.specs.declared.FrameFrequency.{FrameFrequency}

@@ -3,7 +3,8 @@
 use Rattle.std.specs.Prelude.{ℕ, ◌+◌, ◌*◌, ◌^◌, ◌≤◌, ◌<◌, ◌≡◌, Bool, cond, List, [], ◌∷◌, map, eqb, ℤ, pos, ◌-ℤ◌, nat_abs, Float, Some}
 use Rattle.floats.specs.Number.{near}
 use Rattle.cfo.specs.Cfo.{signed, reading_hz}
-use Rattle.frequency_lists.specs.Lists.{Reading, last_or}
+use Rattle.frequency_lists.specs.declared.Reading.{Reading}
+use Rattle.frequency_lists.specs.Lists.{last_or}
 use Rattle.frequency_lists.specs.Marks.{retained}
 use Rattle.frequency_measure.specs.Measured.{first_of, past_of, inside, direct, of_rank, frame1}
 use Rattle.record.specs.declared.FrameSpan.{FrameSpan}

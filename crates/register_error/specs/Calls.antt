@@ -2,7 +2,8 @@
 use Rattle.std.specs.Prelude.{ℕ, ◌+◌, ◌≡◌, Bool, cond, ◌&&◌, List, [], ◌∷◌, ◌++◌, map, ltb, length, Float, Some, Ok}
 use Rattle.frequency_signal.specs.Seconds.{settling, kept}
 use Rattle.frequency_signal.specs.Heard.{heard}
-use Rattle.frequency_lists.specs.Lists.{Tuning, cfo_every, last_or}
+use Rattle.frequency_lists.specs.declared.Tuning.{Tuning}
+use Rattle.frequency_lists.specs.Lists.{cfo_every, last_or}
 use Rattle.frequency_lists.specs.Marks.{retained}
 use Rattle.record.specs.declared.FrameSpan.{FrameSpan}
 use Rattle.frequency.specs.declared.FrequencyTracker.{FrequencyTracker}
@@ -17,7 +18,7 @@ use Rattle.register_error.specs.Bound.{RawReading, step, reading_of, frame1_read
 
 -- the readings that the tracker holds are those of these register values
 abbrev pub Holds : FrequencyTracker → Lists → List RawReading → Type 0
-Holds s l raw = held_readings s l.at l.lo l.hz ≡ map reading_of raw
+Holds s l raw = held_readings s l.readings ≡ map reading_of raw
 
 -- the values of a line that `cfo` makes readings of: one in 8 samples from `at` on, without those while a tuning settles
 unfoldable pub raw_from : ℕ → Bool → ℕ → ℕ → ℕ → List ℕ → List RawReading
@@ -30,7 +31,7 @@ raw_from rate more since lo at (v ∷ vs) =
 unfoldable pub raw_of : {s : FrequencyTracker} {l : Lists} → Grown s l → List RawReading
 unfolding raw_from
 raw_of (new rate base st l h e) = []
-raw_of (tuned f tun fre h g c) = raw_of g
+raw_of (tuned f ts h g c) = raw_of g
 raw_of (samples {s} {t} {l} {m} dbm g c) =
     let u = tracker s l in
     retained (map (kept u.rate (heard u.rate u.signal dbm).n) (map (λ (r : RawReading). r.at) (raw_of g))) (raw_of g)
@@ -47,8 +48,8 @@ GrownHolds = (s : FrequencyTracker) (l : Lists) (g : Grown s l) → s.step_hz �
 
 -- a call, as frame1's contract has it, that answers a Hz by the direct path
 pub record Called (s : FrequencyTracker) (l : Lists) (spans : List FrameSpan) (downlink : Bool) (a : ℕ) (out out' : List Float) : Type 0 where
-  pub path : DirectPath s.rate (held_readings s l.at l.lo l.hz) spans downlink
-  pub call : Frame1End s spans downlink l.at l.lo l.hz out (Ok (Some a)) out'
+  pub path : DirectPath s.rate (held_readings s l.readings) spans downlink
+  pub call : Frame1End s spans downlink l.readings out (Ok (Some a)) out'
 
 -- on any two trackers that hold readings of register values, given states too
 abbrev pub CallsBound : ℕ → Type 0

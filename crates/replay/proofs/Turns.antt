@@ -1,7 +1,7 @@
 -- Turns of the loops that store numbers and spell bytes, on plain lists. Assumes nothing.
 use mathlib.Core.Path.{◌≡◌, refl, sym, ap, subst, ◌∙◌}
 use mathlib.Core.Bool.{Bool, true, false, cond}
-use mathlib.Core.List.{List, ◌∷◌}
+use mathlib.Core.List.{List}
 use Prim.Native.Nat.{ℕ, suc, ◌+◌, ◌-◌, ◌*◌, ◌/◌, ◌%◌, ◌≤◌, ◌<◌}
 use native.Mathlib.Numerals.{add-one}
 use native.Mathlib.Omega.{arith}
@@ -12,10 +12,6 @@ use Rattle.floats.specs.Number.{num}
 use Rattle.endian.specs.Bytes.{bits_of, number_at}
 use Rattle.replay.specs.Numbers.{numbers_from}
 use Rattle.replay.specs.Text.{plain_bits, hex_digit, hex_text}
-use Rattle.replay.specs.Front.{Front}
-
-pub front : {A : Type 0} (n : ℕ) (xs : List A) → n ≤ length xs → Front n xs
-front n xs h = (h, sym (length-take-le n xs h))
 
 -- the zero of the code, by its pattern
 pub zero32_is : of_bits binary32 0 ≡ num 0

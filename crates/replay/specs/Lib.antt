@@ -1,4 +1,3 @@
 -- The definitions that the contracts of `replay` cite.
 pub mod Text
 pub mod Numbers
-pub mod Front

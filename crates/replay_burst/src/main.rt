@@ -3,12 +3,11 @@
 
 use bursts::Burst;
 use demod::DecodedFrame;
-use limits::Refusal;
 use record::Reception;
-use replay::Head;
+use replay::Unanswered;
 
 // The record is the C function's, with the clock error and the depth set.
-fn print_frame(rt: &impl Print, d: DecodedFrame) -> bool {
+fn print_frame(rt: &impl Print, d: DecodedFrame) {
     let mut out = [0u8; 120];
     let found = d.frame;
     let clock = Reception {
@@ -27,15 +26,7 @@ fn print_frame(rt: &impl Print, d: DecodedFrame) -> bool {
     replay::print_f64(rt, d.end);
     replay::print(rt, b" ");
     replay::print_f32(rt, d.rssi);
-    replay::print_end(rt)
-}
-
-fn print_answer(rt: &impl Print, answer: Result<Option<DecodedFrame>, Refusal>) -> bool {
-    match answer {
-        Err(refusal) => replay::print_refusal(rt, refusal),
-        Ok(None) => replay::print_none(rt),
-        Ok(Some(decoded)) => print_frame(rt, decoded),
-    }
+    replay::print_end(rt);
 }
 
 fn burst_of(head: &[u8; 36]) -> Burst {
@@ -47,35 +38,21 @@ fn burst_of(head: &[u8; 36]) -> Burst {
     }
 }
 
-fn case(rt: &(impl Input + Print), head: &[u8; 36]) -> bool {
+fn case(rt: &(impl Input + Print), head: &[u8; 36]) -> Result<(), Unanswered> {
     let mut dbm = [0.0f32; 48001];
     let mut scratch32 = [0.0f32; 48000];
     let mut scratch64 = [0.0f64; limits::SCRATCH64];
-    let Some(n) = replay::read_list(rt, &mut dbm) else {
-        return replay::print_short(rt);
-    };
+    let dbm = replay::read_list(rt, &mut dbm)?;
     let rate = endian::get::<u32>(head, 0);
     let t0 = endian::get::<f64>(head, 4);
     let burst = burst_of(head);
-    print_answer(
-        rt,
-        demod::decode_burst(&dbm[..n], rate, burst, t0, &mut scratch32, &mut scratch64),
-    )
-}
-
-fn turn(rt: &(impl Input + Print)) -> bool {
-    let mut head = [0u8; 36];
-    match replay::read_head(rt, &mut head) {
-        Head::End => false,
-        Head::Cut => replay::print_short(rt),
-        Head::Whole => case(rt, &head),
+    match demod::decode_burst(dbm, rate, burst, t0, &mut scratch32, &mut scratch64)? {
+        None => replay::print_none(rt),
+        Some(decoded) => print_frame(rt, decoded),
     }
+    Ok(())
 }
 
 fn main(rt: HostRuntime) {
-    for _ in 0..replay::MOST_CASES {
-        if !turn(&rt) {
-            return;
-        }
-    }
+    replay::run(&rt, |head: [u8; 36]| case(&rt, &head));
 }

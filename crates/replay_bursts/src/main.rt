@@ -3,7 +3,7 @@
 
 use bursts::{Burst, BurstOptions};
 use limits::Refusal;
-use replay::Head;
+use replay::Unanswered;
 
 // What a case hands to `find_bursts` besides its samples.
 #[derive(Clone, Copy)]
@@ -18,45 +18,30 @@ fn next(dbm: &[f32], asked: Asked, from: usize) -> Result<Option<Burst>, Refusal
     bursts::find_bursts(dbm, asked.rate, asked.options, asked.floor, from)
 }
 
-fn print_burst(rt: &impl Print, b: Burst) -> bool {
-    replay::print_number(rt, b.start as u64);
+fn print_burst(rt: &impl Print, b: Burst) {
+    replay::print_number(rt, b.start);
     replay::print(rt, b" ");
-    replay::print_number(rt, b.end as u64);
+    replay::print_number(rt, b.end);
     replay::print(rt, b" ");
     replay::print_f32(rt, b.peak_dbm);
     replay::print(rt, b" ");
     replay::print_f32(rt, b.floor_dbm);
-    replay::print_end(rt)
+    replay::print_end(rt);
 }
 
-// Goes through the bursts, which are no more than the samples, and counts them; prints them where it is to.
-fn walk(rt: &impl Print, dbm: &[f32], asked: Asked, show: bool) -> usize {
+// Goes through the bursts, which are no more than the samples, and says how many there are.
+fn walk<F: Fn(Burst)>(dbm: &[f32], asked: Asked, each: F) -> Result<usize, Refusal>
+    requires { F.IsAlwaysCallable each }
+{
     let mut from: usize = 0;
     for n in 0..dbm.len() {
-        let Ok(Some(b)) = next(dbm, asked, from) else {
-            return n;
+        let Some(b) = next(dbm, asked, from)? else {
+            return Ok(n);
         };
-        if show {
-            print_burst(rt, b);
-        }
+        each(b);
         from = b.end;
     }
-    dbm.len()
-}
-
-fn print_bursts(rt: &impl Print, dbm: &[f32], asked: Asked, noise: f32) -> bool {
-    match next(dbm, asked, 0) {
-        Err(refusal) => replay::print_refusal(rt, refusal),
-        Ok(_) => {
-            replay::print(rt, b"B ");
-            replay::print_number(rt, walk(rt, dbm, asked, false) as u64);
-            replay::print(rt, b" ");
-            replay::print_f32(rt, noise);
-            replay::print_end(rt);
-            walk(rt, dbm, asked, true);
-            true
-        }
-    }
+    Ok(dbm.len())
 }
 
 // The floor given, or where it is to be measured the noise floor.
@@ -79,31 +64,22 @@ fn asked_of(head: &[u8; 33], noise: f32) -> Asked {
     }
 }
 
-fn case(rt: &(impl Input + Print), head: &[u8; 33]) -> bool {
+fn case(rt: &(impl Input + Print), head: &[u8; 33]) -> Result<(), Unanswered> {
     let mut dbm = [0.0f32; 48001];
     let mut scratch = [0.0f32; 48001];
-    let Some(n) = replay::read_list(rt, &mut dbm) else {
-        return replay::print_short(rt);
-    };
-    match bursts::noise_floor(&dbm[..n], &mut scratch) {
-        Err(refusal) => replay::print_refusal(rt, refusal),
-        Ok(noise) => print_bursts(rt, &dbm[..n], asked_of(head, noise), noise),
-    }
-}
-
-fn turn(rt: &(impl Input + Print)) -> bool {
-    let mut head = [0u8; 33];
-    match replay::read_head(rt, &mut head) {
-        Head::End => false,
-        Head::Cut => replay::print_short(rt),
-        Head::Whole => case(rt, &head),
-    }
+    let dbm = replay::read_list(rt, &mut dbm)?;
+    let noise = bursts::noise_floor(dbm, &mut scratch)?;
+    let asked = asked_of(head, noise);
+    let count = walk(dbm, asked, |_| {})?;
+    replay::print(rt, b"B ");
+    replay::print_number(rt, count);
+    replay::print(rt, b" ");
+    replay::print_f32(rt, noise);
+    replay::print_end(rt);
+    walk(dbm, asked, |b| print_burst(rt, b))?;
+    Ok(())
 }
 
 fn main(rt: HostRuntime) {
-    for _ in 0..replay::MOST_CASES {
-        if !turn(&rt) {
-            return;
-        }
-    }
+    replay::run(&rt, |head: [u8; 33]| case(&rt, &head));
 }

@@ -1,130 +1,79 @@
 // Nearest messages of grips, and messages on air in a lent list: a line for the answer, and one for what was kept of the list (docs/REPLAY.md, `grip`).
 #![tactic(auto)]
 
-ghost use Rattle.std.specs.Prelude.{◌≤◌, length};
-
-use limits::Refusal;
-use replay::Head;
+use replay::Unanswered;
 
 // The longest list that is lent.
 const MOST_PLACES: usize = 1000;
 
-fn print_nearest(rt: &impl Print, answer: Result<Option<usize>, Refusal>) -> bool {
-    match answer {
-        Ok(Some(n)) => {
-            replay::print(rt, b"N ");
-            replay::print_number(rt, n as u64);
-            replay::print_end(rt)
-        }
-        Ok(None) => replay::print_none(rt),
-        Err(refusal) => replay::print_refusal(rt, refusal),
-    }
-}
-
-fn nearest(rt: &(impl Input + Print)) -> bool {
+fn nearest(rt: &(impl Input + Print)) -> Result<(), Unanswered> {
     let mut head = [0u8; 16];
-    if !replay::read_part(rt, &mut head) {
-        return replay::print_short(rt);
-    }
+    replay::read_part(rt, &mut head)?;
     let mut records = [0u8; 120000];
-    let Some(n) = replay::read_bytes(rt, &mut records) else {
-        return replay::print_short(rt);
-    };
+    let records = replay::read_bytes(rt, &mut records)?;
     let time = endian::get::<f64>(&head, 0);
     let within = endian::get::<f64>(&head, 8);
-    print_nearest(rt, grip::nearest_message(&records[..n], time, within))
-}
-
-// How many places from one on up to another hold the fill.
-fn print_kept(rt: &impl Print, numbers: &[u32], from: usize, places: usize, fill: u32) -> bool
-    requires { places ≤ length numbers.now }
-{
-    let mut count: u64 = 0;
-    for i in from..places {
-        if numbers[i] == fill {
-            count = std::num::wrapping_add_u64(count, 1);
+    match grip::nearest_message(records, time, within)? {
+        None => replay::print_none(rt),
+        Some(n) => {
+            replay::print(rt, b"N ");
+            replay::print_number(rt, n);
+            replay::print_end(rt);
         }
     }
-    replay::print(rt, b"K ");
-    replay::print_number(rt, count);
-    replay::print_end(rt)
+    Ok(())
 }
 
-// The first n numbers, of those that the list can hold, in a line.
-fn print_numbers(rt: &impl Print, numbers: &[u32], n: usize) {
+// Numbers in a line, `none` where there are none.
+fn print_numbers(rt: &impl Print, numbers: &[u32]) {
+    if numbers.is_empty() {
+        replay::print_none(rt);
+        return;
+    }
     replay::print(rt, b"A");
-    for number in numbers.iter().take(n) {
+    for number in numbers {
         replay::print(rt, b" ");
-        replay::print_number(rt, u64::from(*number));
+        replay::print_number(rt, *number);
     }
     replay::print_end(rt);
 }
 
-// The call, on the first places of a list.
-fn hear_into(
-    rt: &impl Print,
-    records: &[u8],
-    instant: f64,
-    numbers: &mut [u32],
-    places: usize,
-    fill: u32,
-) -> bool
-    requires { places ≤ length numbers.old }
-{
-    let air = grip::on_air(records, instant, &mut numbers[..places]);
-    match air {
+// The call on a list.
+fn hear_into(rt: &impl Print, records: &[u8], instant: f64, numbers: &mut [u32], fill: u32) {
+    match grip::on_air(records, instant, numbers) {
         Err(refusal) => {
             replay::print_refusal(rt, refusal);
-            print_kept(rt, numbers, 0, places, fill)
+            replay::print_kept(rt, numbers, fill);
         }
         Ok(n) => {
-            if n == 0 {
-                replay::print_none(rt);
-            } else {
-                print_numbers(rt, numbers, n);
-            }
-            print_kept(rt, numbers, n, places, fill)
+            let (heard, rest) = numbers.split_at(n.min(numbers.len()));
+            print_numbers(rt, heard);
+            replay::print_kept(rt, rest, fill);
         }
     }
 }
 
-fn on_air(rt: &(impl Input + Print)) -> bool {
+fn on_air(rt: &(impl Input + Print)) -> Result<(), Unanswered> {
     let mut head = [0u8; 14];
-    if !replay::read_part(rt, &mut head) {
-        return replay::print_short(rt);
-    }
+    replay::read_part(rt, &mut head)?;
     let mut records = [0u8; 120000];
-    let Some(n) = replay::read_bytes(rt, &mut records) else {
-        return replay::print_short(rt);
-    };
+    let records = replay::read_bytes(rt, &mut records)?;
     let instant = endian::get::<f64>(&head, 0);
     let fill = endian::get::<u32>(&head, 10);
     let mut numbers = [fill; 1000];
     let places = usize::from(endian::get::<u16>(&head, 8)).min(MOST_PLACES);
-    hear_into(rt, &records[..n], instant, &mut numbers, places, fill)
+    hear_into(rt, records, instant, &mut numbers[..places], fill);
+    Ok(())
 }
 
-fn case(rt: &(impl Input + Print), kind: u8) -> bool {
+fn case(rt: &(impl Input + Print), kind: u8) -> Result<(), Unanswered> {
     match kind {
         0 => nearest(rt),
         1 => on_air(rt),
-        _ => replay::print_short(rt),
-    }
-}
-
-fn turn(rt: &(impl Input + Print)) -> bool {
-    let mut kind = [0u8; 1];
-    match replay::read_head(rt, &mut kind) {
-        Head::End => false,
-        Head::Cut => replay::print_short(rt),
-        Head::Whole => case(rt, kind[0]),
+        _ => Err(Unanswered::Short),
     }
 }
 
 fn main(rt: HostRuntime) {
-    for _ in 0..replay::MOST_CASES {
-        if !turn(&rt) {
-            return;
-        }
-    }
+    replay::run(&rt, |kind: [u8; 1]| case(&rt, kind[0]));
 }

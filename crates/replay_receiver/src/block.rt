@@ -1,25 +1,14 @@
 // The block behind a call's arguments: start second, windows and closed dates.
-ghost use Rattle.std.specs.Prelude.{IfSome};
-ghost use Rattle.replay.specs.Front.{Front};
+use replay::Unanswered;
+use shifts::{Given, Shifts, Window};
 
-use shifts::{Shifts, Window};
-
-// What a call is given of shifts. Its closed dates stand in front of a list.
-#[derive(Clone, Copy)]
-pub struct Block {
-    pub shifts: Shifts,
-    pub dates: usize,
-}
-
-// The windows that a call takes: those past the last place are read over. None where the input ends first.
-fn read_windows(rt: &impl Input, n: usize) -> Option<[Window; 32]> {
+// The windows that a call takes: those past the last place are read over.
+fn read_windows(rt: &impl Input, n: usize) -> Result<[Window; 32], Unanswered> {
     let none = Window { start: 0, end: 0 };
     let mut windows = [none; 32];
     for i in 0..n {
         let mut part = [0u8; 4];
-        if !replay::read_part(rt, &mut part) {
-            return None;
-        }
+        replay::read_part(rt, &mut part)?;
         if i < shifts::MOST_WINDOWS {
             windows[i] = Window {
                 start: endian::get(&part, 0),
@@ -27,28 +16,19 @@ fn read_windows(rt: &impl Input, n: usize) -> Option<[Window; 32]> {
             };
         }
     }
-    Some(windows)
+    Ok(windows)
 }
 
-// A count, and that many closed dates, at the front of the list; those past its last place are read over.
-fn read_dates(rt: &impl Input, closed: &mut [u32]) -> Option<usize>
-    ensures { IfSome result (λ n. Front n closed.new) }
-{
+// A count, and that many closed dates; those for which the list has no place are read over.
+fn read_dates<'a>(rt: &impl Input, closed: &'a mut [u32]) -> Result<&'a [u32], Unanswered> {
     let mut count = [0u8; 2];
-    if !replay::read_part(rt, &mut count) {
-        return None;
-    }
+    replay::read_part(rt, &mut count)?;
     replay::read_n(rt, endian::get::<u16>(&count, 0) as usize, closed)
 }
 
-// None where the input ends first.
-fn read_behind(rt: &impl Input, closed: &mut [u32]) -> Option<Block>
-    ensures { IfSome result (λ b. Front b.dates closed.new) }
-{
+fn read_behind<'a>(rt: &impl Input, closed: &'a mut [u32]) -> Result<Given<'a>, Unanswered> {
     let mut head = [0u8; 6];
-    if !replay::read_part(rt, &mut head) {
-        return None;
-    }
+    replay::read_part(rt, &mut head)?;
     let start = if head[0] == 0 {
         None
     } else {
@@ -56,26 +36,27 @@ fn read_behind(rt: &impl Input, closed: &mut [u32]) -> Option<Block>
     };
     let count = usize::from(head[5]);
     let windows = read_windows(rt, count)?;
-    let dates = read_dates(rt, closed)?;
-    Some(Block {
+    Ok(Given {
         shifts: Shifts {
             start,
             windows,
             count,
         },
-        dates,
+        closed: read_dates(rt, closed)?,
     })
 }
 
-// What stands behind the arguments; no shifts where nothing does. None where the input ends first.
-pub fn read_block(rt: &impl Input, behind: bool, closed: &mut [u32]) -> Option<Block>
-    ensures { IfSome result (λ b. Front b.dates closed.new) }
-{
+// What stands behind the arguments; no shifts where nothing does.
+pub fn read_block<'a>(
+    rt: &impl Input,
+    behind: bool,
+    closed: &'a mut [u32],
+) -> Result<Given<'a>, Unanswered> {
     if behind {
         return read_behind(rt, closed);
     }
-    Some(Block {
+    Ok(Given {
         shifts: Shifts::none(),
-        dates: 0,
+        closed: &closed[..0],
     })
 }

@@ -47,7 +47,7 @@ fn print_field(rt: &impl Print, n: u64) {
     replay::print_number(rt, n);
 }
 
-fn print_state(rt: &impl Print, r: &SigfoxReceiver) -> bool {
+fn print_state(rt: &impl Print, r: &SigfoxReceiver) {
     replay::print(rt, b"S");
     print_field(rt, r.held as u64);
     print_field(rt, r.base);
@@ -56,7 +56,7 @@ fn print_state(rt: &impl Print, r: &SigfoxReceiver) -> bool {
     print_starts(rt, &r.starts, r.base);
     print_field(rt, r.waiting.count as u64);
     print_waiting(rt, &r.waiting);
-    replay::print_end(rt)
+    replay::print_end(rt);
 }
 
 // The call, its records, and the state.
@@ -66,8 +66,8 @@ pub fn print_answer(
     name: &[u8],
     count: usize,
     r: &SigfoxReceiver,
-    events: &mut [u8; 30720],
-) -> bool {
+    events: &mut [u8],
+) {
     replay::print(rt, b"C");
     print_field(rt, index);
     replay::print(rt, b" ");
@@ -75,5 +75,5 @@ pub fn print_answer(
     print_field(rt, count as u64);
     replay::print_end(rt);
     replay_records::print_records(rt, events, count);
-    print_state(rt, r)
+    print_state(rt, r);
 }

@@ -4,41 +4,41 @@
 pub mod spans; // frames' spans in the input
 pub mod uplinks; // an uplink's fields in the input
 
-ghost use Rattle.std.specs.Prelude.{◌≡◌, ◌+◌, ◌*◌, ◌≤◌, length};
+ghost use Rattle.std.specs.Prelude.{◌≡◌, ℕ, ◌+◌, ◌*◌, ◌≤◌, length};
+ghost use Rattle.std.proofs.Common.{rules, refl};
 ghost use Rattle.limits.specs.Limits.{record_size};
-ghost use Rattle.record.specs.Same.{unsigned, unsigned_at, without_signs};
+ghost use Rattle.record.specs.Same.{unsigned_at, without_signs};
 
-// The sign of a zero, as a pattern.
-const MINUS32: u32 = 0x8000_0000;
+use endian::LittleEndian;
 
-const MINUS64: u64 = 0x8000_0000_0000_0000;
+// A number that is its own pattern.
+trait Whole: LittleEndian {
+    ghost some: { 1 ≤ Self.LittleEndian.SIZE };
 
-fn unsigned32(n: u32) -> u32
-    ensures { result ≡ unsigned 4 n }
-{
-    if n == MINUS32 { 0 } else { n }
+    ghost same: { (n : ℕ) → Self.LittleEndian.pattern (Self.LittleEndian.of_pattern n) ≡ n };
 }
 
-fn unsigned64(n: u64) -> u64
-    ensures { result ≡ unsigned 8 n }
-{
-    if n == MINUS64 { 0 } else { n }
+impl Whole for u32 {
+    ghost some = { Prim.search rules };
+
+    ghost same = { λ n. refl };
 }
 
-fn unsign32(record: &mut [u8], at: usize)
-    requires { at + 4 ≤ length «record».old }
-    ensures { «record».new ≡ unsigned_at 4 at «record».old }
-{
-    let n = unsigned32(endian::get::<u32>(record, at));
-    endian::put(record, at, n);
+impl Whole for u64 {
+    ghost some = { Prim.search rules };
+
+    ghost same = { λ n. refl };
 }
 
-fn unsign64(record: &mut [u8], at: usize)
-    requires { at + 8 ≤ length «record».old }
-    ensures { «record».new ≡ unsigned_at 8 at «record».old }
+// The sign is taken from a zero in the bytes at a place.
+fn unsign<T: Whole>(record: &mut [u8], at: usize)
+    requires { at + T.SIZE ≤ length «record».old }
+    ensures { «record».new ≡ unsigned_at T.SIZE at «record».old }
 {
-    let n = unsigned64(endian::get::<u64>(record, at));
-    endian::put(record, at, n);
+    let minus = 1 << (8 * T::SIZE - 1);
+    let n = endian::get::<T>(record, at);
+    let unsigned = if n.bits() == minus { T::of_bits(0) } else { n };
+    endian::put(record, at, unsigned);
 }
 
 // A record with no zero's sign.
@@ -46,15 +46,15 @@ pub fn without_signs(record: &mut [u8])
     requires { record_size ≤ length «record».old }
     ensures { «record».new ≡ without_signs «record».old }
 {
-    unsign32(record, 40);
-    unsign64(record, 48);
-    unsign64(record, 56);
-    unsign64(record, 64);
-    unsign64(record, 72);
-    unsign64(record, 80);
-    unsign64(record, 88);
-    unsign64(record, 96);
-    unsign64(record, 104);
+    unsign::<u32>(record, 40);
+    unsign::<u64>(record, 48);
+    unsign::<u64>(record, 56);
+    unsign::<u64>(record, 64);
+    unsign::<u64>(record, 72);
+    unsign::<u64>(record, 80);
+    unsign::<u64>(record, 88);
+    unsign::<u64>(record, 96);
+    unsign::<u64>(record, 104);
 }
 
 // A record's hexadecimal digits; its zeros lose their sign.
@@ -63,7 +63,7 @@ pub fn print_record(rt: &impl Print, record: &mut [u8])
     ensures { «record».new ≡ without_signs «record».old }
 {
     without_signs(record);
-    replay::print_bytes(rt, record, limits::RECORD);
+    replay::print_bytes(rt, &record[..limits::RECORD]);
 }
 
 // The line of one of the records in a buffer.
@@ -77,10 +77,9 @@ fn print_line(rt: &impl Print, events: &mut [u8], i: usize)
 }
 
 // A line a record, as many as `count` says, of those that the buffer can hold.
-pub fn print_records(rt: &impl Print, events: &mut [u8], count: usize) -> bool {
+pub fn print_records(rt: &impl Print, events: &mut [u8], count: usize) {
     let most = events.len() / limits::RECORD;
     for i in 0..count.min(most) {
         print_line(rt, events, i);
     }
-    true
 }

@@ -1,5 +1,7 @@
 // The lines of the tracker's answers.
+use crate::given::Lengths;
 use frequency::FrequencyTracker;
+use frequency_lists::{Reading, Tuning};
 use frequency_measure::FrameFrequency;
 
 // A value, or this text.
@@ -37,23 +39,23 @@ fn print_floor(rt: &impl Print, floor: Option<f64>) {
 }
 
 // The line of `tuned`: the frequency, and how many tunings are held.
-pub fn print_tuned(rt: &impl Print, hz: u32, tunings: usize) -> bool {
+pub fn print_tuned(rt: &impl Print, hz: u32, tunings: usize) {
     replay::print(rt, b"tuned ");
     replay::print_number(rt, u64::from(hz));
     replay::print(rt, b" ");
     replay::print_number(rt, tunings as u64);
-    replay::print_end(rt)
+    replay::print_end(rt);
 }
 
 // The line of `freq`.
-pub fn print_freq(rt: &impl Print, hz: u32) -> bool {
+pub fn print_freq(rt: &impl Print, hz: u32) {
     replay::print(rt, b"since_freq ");
     replay::print_number(rt, u64::from(hz));
-    replay::print_end(rt)
+    replay::print_end(rt);
 }
 
 // The line of `samples`: what the tracker holds.
-pub fn print_samples(rt: &impl Print, t: FrequencyTracker) -> bool {
+pub fn print_samples(rt: &impl Print, t: FrequencyTracker) {
     replay::print(rt, b"samples ");
     replay::print_number(rt, t.signal.n);
     replay::print(rt, b" ");
@@ -68,34 +70,23 @@ pub fn print_samples(rt: &impl Print, t: FrequencyTracker) -> bool {
     print_index(rt, t.signal.frame_from, b"-1");
     replay::print(rt, b" ");
     print_index(rt, t.signal.last_signal, b"-");
-    replay::print_end(rt)
-}
-
-fn print_reading(rt: &impl Print, at: u64, lo: u32, hz: f64) {
-    replay::print(rt, b" ");
-    replay::print_number(rt, at);
-    replay::print(rt, b" ");
-    replay::print_number(rt, lo as u64);
-    replay::print(rt, b" ");
-    replay::print_f64(rt, hz);
-}
-
-// The reading at a place that all three lists have.
-fn print_place(rt: &impl Print, i: usize, at: &[u64], lo: &[u32], hz: &[f64]) {
-    if i < at.len() && i < lo.len() && i < hz.len() {
-        print_reading(rt, at[i], lo[i], hz[i]);
-    }
+    replay::print_end(rt);
 }
 
 // The number of readings, and the last of them.
-pub fn print_readings(rt: &impl Print, n: usize, at: &[u64], lo: &[u32], hz: &[f64]) -> bool {
+pub fn print_readings(rt: &impl Print, n: usize, readings: &[Reading]) {
     replay::print(rt, b"cfo ");
     replay::print_number(rt, n as u64);
-    if n == 0 {
-        return replay::print_end(rt);
+    if n > 0 && n <= readings.len() {
+        let x = readings[n - 1];
+        replay::print(rt, b" ");
+        replay::print_number(rt, x.at);
+        replay::print(rt, b" ");
+        replay::print_number(rt, u64::from(x.lo));
+        replay::print(rt, b" ");
+        replay::print_f64(rt, x.hz);
     }
-    print_place(rt, n - 1, at, lo, hz);
-    replay::print_end(rt)
+    replay::print_end(rt);
 }
 
 // How many numbers there are, and each of them.
@@ -114,32 +105,43 @@ fn print_list<T: Copy, F: Fn(T)>(rt: &impl Print, xs: &[T], print_one: F)
 pub fn print_lists(
     rt: &impl Print,
     requested: Option<u32>,
-    at: &[u64],
-    lo: &[u32],
-    hz: &[f64],
-    tuned: &[u64],
-    freq: &[u32],
-) -> bool {
+    lengths: Lengths,
+    readings: &[Reading; 8000],
+    tunings: &[Tuning; 64],
+) {
     replay::print(rt, b"lists ");
     print_frequency(rt, requested);
-    print_list(rt, at, |x| replay::print_number(rt, x));
-    print_list(rt, lo, |x| replay::print_number(rt, u64::from(x)));
-    print_list(rt, hz, |x| replay::print_f64(rt, x));
-    print_list(rt, tuned, |x| replay::print_number(rt, x));
-    print_list(rt, freq, |x| replay::print_number(rt, u64::from(x)));
-    replay::print_end(rt)
+    let at = lengths.at.min(readings.len());
+    let lo = lengths.lo.min(readings.len());
+    let hz = lengths.hz.min(readings.len());
+    let tuned = lengths.tuned.min(tunings.len());
+    let freq = lengths.freq.min(tunings.len());
+    print_list(rt, &readings[..at], |x| replay::print_number(rt, x.at));
+    print_list(
+        rt,
+        &readings[..lo],
+        |x| replay::print_number(rt, u64::from(x.lo)),
+    );
+    print_list(rt, &readings[..hz], |x| replay::print_f64(rt, x.hz));
+    print_list(rt, &tunings[..tuned], |u| replay::print_number(rt, u.at));
+    print_list(
+        rt,
+        &tunings[..freq],
+        |u| replay::print_number(rt, u64::from(u.freq)),
+    );
+    replay::print_end(rt);
 }
 
 // The line of `next_tuning`.
-pub fn print_next(rt: &impl Print, tune: Option<u32>, retuned: bool) -> bool {
+pub fn print_next(rt: &impl Print, tune: Option<u32>, retuned: bool) {
     replay::print(rt, b"next ");
     print_frequency(rt, tune);
     replay::print(rt, if retuned { b" 1" } else { b" 0" });
-    replay::print_end(rt)
+    replay::print_end(rt);
 }
 
 // The line of `frame_frequency`.
-pub fn print_frame_frequency(rt: &impl Print, found: Option<FrameFrequency>) -> bool {
+pub fn print_frame_frequency(rt: &impl Print, found: Option<FrameFrequency>) {
     replay::print(rt, b"ff ");
     match found {
         None => {
@@ -151,12 +153,12 @@ pub fn print_frame_frequency(rt: &impl Print, found: Option<FrameFrequency>) -> 
             replay::print_number(rt, u64::from(f.lo));
         }
     }
-    replay::print_end(rt)
+    replay::print_end(rt);
 }
 
 // The line of `frame1`.
-pub fn print_frame1(rt: &impl Print, f: Option<u32>) -> bool {
+pub fn print_frame1(rt: &impl Print, f: Option<u32>) {
     replay::print(rt, b"frame1 ");
     print_frequency(rt, f);
-    replay::print_end(rt)
+    replay::print_end(rt);
 }

@@ -10,8 +10,9 @@ use crate::lines::{
     print_samples, print_tuned,
 };
 use frequency::FrequencyTracker;
+use frequency_lists::{Reading, Tuning};
 use limits::Refusal;
-use replay::Head;
+use replay::Unanswered;
 use replay_records::spans::read_spans;
 
 // The program's places for readings and for tunings.
@@ -22,163 +23,140 @@ const TUNINGS: usize = 64;
 // The call that hands in a tracker.
 const GIVEN: u8 = 7;
 
-// Between two calls: whether there may be another one, how much of each list is lent, and the tracker, or why there is none.
+// The call that prints every place of the lists.
+const LOOK: u8 = 8;
+
+// Between two calls: how much of each list is lent, and the tracker, or why there is none.
 #[derive(Clone, Copy)]
 struct State {
-    open: bool,
     lengths: Lengths,
     tracker: Result<FrequencyTracker, Refusal>,
 }
 
-// ---- each call reads what is handed in, asks the tracker, and prints; it answers whether there may be another one
+// ---- each call reads what is handed in, asks the tracker, and prints
 
 fn tuned(
     rt: &(impl Input + Print),
     s: &mut State,
-    tuned: &mut [u64],
-    freq: &mut [u32],
-) -> Result<bool, Refusal> {
+    tunings: &mut [Tuning],
+) -> Result<(), Unanswered> {
     let mut part = [0u8; 4];
-    if !replay::read_part(rt, &mut part) {
-        return Ok(replay::print_short(rt));
-    }
+    replay::read_part(rt, &mut part)?;
     let mut t = s.tracker?;
-    t.tuned(endian::get::<u32>(&part, 0), tuned, freq)?;
+    t.tuned(endian::get::<u32>(&part, 0), tunings)?;
     s.tracker = Ok(t);
-    let hz = t.freq(tuned, freq).unwrap_or(0);
-    Ok(print_tuned(rt, hz, t.tunings))
+    let hz = t.freq(tunings).unwrap_or(0);
+    print_tuned(rt, hz, t.tunings);
+    Ok(())
 }
 
 fn samples(
     rt: &(impl Input + Print),
     s: &mut State,
-    at: &mut [u64],
-    lo: &mut [u32],
-    hz: &mut [f64],
-    tuned: &mut [u64],
-    freq: &mut [u32],
-) -> Result<bool, Refusal> {
+    readings: &mut [Reading],
+    tunings: &mut [Tuning],
+) -> Result<(), Unanswered> {
     let mut dbm = [0.0f32; 48001];
-    let Some(n) = replay::read_list(rt, &mut dbm) else {
-        return Ok(replay::print_short(rt));
-    };
+    let dbm = replay::read_list(rt, &mut dbm)?;
     let mut t = s.tracker?;
-    t.samples(&dbm[..n], at, lo, hz, tuned, freq)?;
+    t.samples(dbm, readings, tunings)?;
     s.tracker = Ok(t);
-    Ok(print_samples(rt, t))
+    print_samples(rt, t);
+    Ok(())
 }
 
 fn cfo(
     rt: &(impl Input + Print),
     s: &mut State,
-    at: &mut [u64],
-    lo: &mut [u32],
-    hz: &mut [f64],
-    tuned: &[u64],
-    freq: &[u32],
-) -> Result<bool, Refusal> {
+    readings: &mut [Reading],
+    tunings: &[Tuning],
+) -> Result<(), Unanswered> {
     let mut raw = [0u16; 4097];
-    let Some(n) = replay::read_list(rt, &mut raw) else {
-        return Ok(replay::print_short(rt));
-    };
+    let raw = replay::read_list(rt, &mut raw)?;
     let mut t = s.tracker?;
-    t.cfo(&raw[..n], at, lo, hz, tuned, freq)?;
+    t.cfo(raw, readings, tunings)?;
     s.tracker = Ok(t);
-    Ok(print_readings(rt, t.readings, at, lo, hz))
+    print_readings(rt, t.readings, readings);
+    Ok(())
 }
 
 fn next_tuning(
     rt: &impl Print,
     s: &mut State,
-    at: &[u64],
-    lo: &[u32],
-    hz: &[f64],
-    tuned: &[u64],
-    freq: &[u32],
+    readings: &[Reading],
+    tunings: &[Tuning],
     scratch: &mut [f64],
-) -> Result<bool, Refusal> {
+) -> Result<(), Unanswered> {
     let mut t = s.tracker?;
-    let tune = t.next_tuning(at, lo, hz, tuned, freq, scratch)?;
+    let tune = t.next_tuning(readings, tunings, scratch)?;
     s.tracker = Ok(t);
-    Ok(print_next(rt, tune, t.signal.retuned))
+    print_next(rt, tune, t.signal.retuned);
+    Ok(())
 }
 
 fn frame_frequency(
     rt: &(impl Input + Print),
     s: State,
-    at: &[u64],
-    lo: &[u32],
-    hz: &[f64],
+    readings: &[Reading],
     scratch: &mut [f64],
-) -> Result<bool, Refusal> {
-    let Some(span) = replay::read_span(rt, true) else {
-        return Ok(replay::print_short(rt));
-    };
+) -> Result<(), Unanswered> {
+    let span = replay::read_span(rt)?;
     let t = s.tracker?;
-    let found = t.frame_frequency(span, at, lo, hz, scratch)?;
-    Ok(print_frame_frequency(rt, found))
+    let found = t.frame_frequency(span, readings, scratch)?;
+    print_frame_frequency(rt, found);
+    Ok(())
 }
 
 fn frame1(
     rt: &(impl Input + Print),
     s: State,
-    at: &[u64],
-    lo: &[u32],
-    hz: &[f64],
+    readings: &[Reading],
     scratch: &mut [f64],
-) -> Result<bool, Refusal> {
+) -> Result<(), Unanswered> {
     let mut part = [0u8; 2];
-    if !replay::read_part(rt, &mut part) {
-        return Ok(replay::print_short(rt));
-    }
-    let Some(spans) = read_spans(rt, part[1]) else {
-        return Ok(replay::print_short(rt));
-    };
+    replay::read_part(rt, &mut part)?;
+    let spans = read_spans(rt, part[1])?;
     let t = s.tracker?;
-    let f = t.frame1(spans, part[0] != 0, at, lo, hz, scratch)?;
-    Ok(print_frame1(rt, f))
+    let f = t.frame1(spans, part[0] != 0, readings, scratch)?;
+    print_frame1(rt, f);
+    Ok(())
 }
 
-fn freq(rt: &impl Print, s: State, tuned: &[u64], freq: &[u32]) -> Result<bool, Refusal> {
+fn freq(rt: &impl Print, s: State, tunings: &[Tuning]) -> Result<(), Unanswered> {
     let t = s.tracker?;
-    Ok(print_freq(rt, t.freq(tuned, freq)?))
+    print_freq(rt, t.freq(tunings)?);
+    Ok(())
 }
 
-// Every place of the lists as they are lent.
+// Every place of the lists as they were handed in.
 fn look(
     rt: &impl Print,
     s: State,
-    at: &[u64],
-    lo: &[u32],
-    hz: &[f64],
-    tuned: &[u64],
-    freq: &[u32],
-) -> Result<bool, Refusal> {
+    readings: &[Reading; 8000],
+    tunings: &[Tuning; 64],
+) -> Result<(), Unanswered> {
     let t = s.tracker?;
-    Ok(print_lists(rt, t.requested, at, lo, hz, tuned, freq))
+    print_lists(rt, t.requested, s.lengths, readings, tunings);
+    Ok(())
 }
 
 fn call(
     rt: &(impl Input + Print),
     s: &mut State,
     number: u8,
-    at: &mut [u64],
-    lo: &mut [u32],
-    hz: &mut [f64],
-    tunings: &mut [u64],
-    freqs: &mut [u32],
+    readings: &mut [Reading],
+    tunings: &mut [Tuning],
     scratch: &mut [f64],
-) -> Result<bool, Refusal> {
+) -> Result<(), Unanswered> {
     match number {
-        0 => tuned(rt, s, tunings, freqs),
-        1 => samples(rt, s, at, lo, hz, tunings, freqs),
-        2 => cfo(rt, s, at, lo, hz, tunings, freqs),
-        3 => next_tuning(rt, s, at, lo, hz, tunings, freqs, scratch),
-        4 => frame_frequency(rt, *s, at, lo, hz, scratch),
-        5 => frame1(rt, *s, at, lo, hz, scratch),
-        6 => freq(rt, *s, tunings, freqs),
-        8 => look(rt, *s, at, lo, hz, tunings, freqs),
-        _ => Ok(replay::print_short(rt)),
+        0 => tuned(rt, s, tunings),
+        1 => samples(rt, s, readings, tunings),
+        2 => cfo(rt, s, readings, tunings),
+        3 => next_tuning(rt, s, readings, tunings, scratch),
+        4 => frame_frequency(rt, *s, readings, scratch),
+        5 => frame1(rt, *s, readings, scratch),
+        6 => freq(rt, *s, tunings),
+        _ => Err(Unanswered::Short),
     }
 }
 
@@ -187,92 +165,59 @@ fn lend(
     rt: &(impl Input + Print),
     s: &mut State,
     number: u8,
-    at: &mut [u64],
-    lo: &mut [u32],
-    hz: &mut [f64],
-    tunings: &mut [u64],
-    freqs: &mut [u32],
-) {
-    let lengths = s.lengths;
-    let a = lengths.at.min(at.len());
-    let b = lengths.lo.min(lo.len());
-    let c = lengths.hz.min(hz.len());
-    let d = lengths.tuned.min(tunings.len());
-    let e = lengths.freq.min(freqs.len());
+    readings: &mut [Reading; 8000],
+    tunings: &mut [Tuning; 64],
+) -> Result<(), Unanswered> {
+    if number == LOOK {
+        return look(rt, *s, readings, tunings);
+    }
+    let lent = s.lengths.readings().min(READINGS);
+    let tuned = s.lengths.tunings().min(TUNINGS);
     let mut scratch = [0.0f64; 8000];
-    let room = lengths.scratch.min(READINGS);
-    let answer = call(
+    let room = s.lengths.scratch.min(READINGS);
+    call(
         rt,
         s,
         number,
-        &mut at[..a],
-        &mut lo[..b],
-        &mut hz[..c],
-        &mut tunings[..d],
-        &mut freqs[..e],
+        &mut readings[..lent],
+        &mut tunings[..tuned],
         &mut scratch[..room],
-    );
-    s.open = match answer {
-        Ok(open) => open,
-        Err(refusal) => replay::print_refusal(rt, refusal),
-    };
+    )
 }
 
 // A tracker that is handed in takes the place of the program's; the next call judges it.
 fn take_over(
     rt: &(impl Input + Print),
     s: &mut State,
-    at: &mut [u64; 8000],
-    lo: &mut [u32; 8000],
-    hz: &mut [f64; 8000],
-    tunings: &mut [u64; 64],
-    freqs: &mut [u32; 64],
-) {
-    let Some(g) = read_tracker(rt, at, lo, hz, tunings, freqs) else {
-        s.open = replay::print_short(rt);
-        return;
-    };
-    *s = State {
-        open: true,
-        lengths: g.lengths,
-        tracker: Ok(g.tracker),
-    };
+    readings: &mut [Reading; 8000],
+    tunings: &mut [Tuning; 64],
+) -> Result<(), Unanswered> {
+    let g = read_tracker(rt, readings, tunings)?;
+    s.lengths = g.lengths;
+    s.tracker = Ok(g.tracker);
+    Ok(())
 }
 
 fn turn(
     rt: &(impl Input + Print),
     s: &mut State,
-    at: &mut [u64; 8000],
-    lo: &mut [u32; 8000],
-    hz: &mut [f64; 8000],
-    tunings: &mut [u64; 64],
-    freqs: &mut [u32; 64],
-) {
-    let mut head = [0u8; 1];
-    match replay::read_head(rt, &mut head) {
-        Head::End => {
-            s.open = false;
-        }
-        Head::Cut => {
-            s.open = replay::print_short(rt);
-        }
-        Head::Whole => {
-            if head[0] == GIVEN {
-                take_over(rt, s, at, lo, hz, tunings, freqs);
-            } else {
-                lend(rt, s, head[0], at, lo, hz, tunings, freqs);
-            }
-        }
+    number: u8,
+    readings: &mut [Reading; 8000],
+    tunings: &mut [Tuning; 64],
+) -> Result<(), Unanswered> {
+    if number == GIVEN {
+        take_over(rt, s, readings, tunings)
+    } else {
+        lend(rt, s, number, readings, tunings)
     }
 }
 
-fn start(rt: &impl Input) -> State {
+fn start(rt: &impl Input) -> Result<State, Unanswered> {
     let mut head = [0u8; 16];
-    let whole = replay::read_part(rt, &mut head);
+    replay::read_part(rt, &mut head)?;
     let rate = endian::get::<u32>(&head, 0);
     let base = endian::get::<u32>(&head, 4);
-    State {
-        open: whole,
+    Ok(State {
         lengths: Lengths {
             at: READINGS,
             lo: READINGS,
@@ -282,28 +227,22 @@ fn start(rt: &impl Input) -> State {
             scratch: READINGS,
         },
         tracker: FrequencyTracker::new(rate, base, endian::get::<f64>(&head, 8)),
-    }
+    })
 }
 
 fn main(rt: HostRuntime) {
-    let mut at = [0u64; 8000];
-    let mut lo = [0u32; 8000];
-    let mut hz = [0.0f64; 8000];
-    let mut tunings = [0u64; 64];
-    let mut freqs = [0u32; 64];
-    let mut s = start(&rt);
-    for _ in 0..replay::MOST_CASES {
-        if !s.open {
-            return;
-        }
-        turn(
-            &rt,
-            &mut s,
-            &mut at,
-            &mut lo,
-            &mut hz,
-            &mut tunings,
-            &mut freqs,
-        );
-    }
+    let no_reading = Reading {
+        at: 0,
+        lo: 0,
+        hz: 0.0,
+    };
+    let no_tuning = Tuning { at: 0, freq: 0 };
+    let mut readings = [no_reading; 8000];
+    let mut tunings = [no_tuning; 64];
+    let Ok(mut s) = start(&rt) else {
+        return;
+    };
+    replay::run(&rt, |number: [u8; 1]| {
+        turn(&rt, &mut s, number[0], &mut readings, &mut tunings)
+    });
 }

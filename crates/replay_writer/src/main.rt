@@ -5,7 +5,7 @@ ghost use Rattle.std.specs.Prelude.{◌≤◌, length};
 
 use frame::header::UplinkFields;
 use limits::Refusal;
-use replay::Head;
+use replay::Unanswered;
 
 // The longest slice that is lent.
 const MOST_ROOM: usize = 700;
@@ -18,11 +18,11 @@ fn print_written(rt: &impl Print, written: Result<usize, Refusal>) {
         }
         Ok(n) => {
             replay::print(rt, b"W ");
-            replay::print_number(rt, n as u64);
+            replay::print_number(rt, n);
             replay::print(rt, b" ");
-            replay::print_number(rt, n as u64);
+            replay::print_number(rt, n);
             replay::print(rt, b" ");
-            replay::print_number(rt, n as u64);
+            replay::print_number(rt, n);
             replay::print_end(rt);
         }
     }
@@ -36,53 +36,35 @@ fn write_into(
     auth: &[u8],
     out: &mut [u8],
     room: usize,
-) -> bool
-    requires { (room ≤ length out.old) × (room ≤ 700) }
+)
+    requires { room ≤ length out.old }
 {
     let written = writer::write_uplink(fields, payload, auth, &mut out[..room]);
     print_written(rt, written);
-    replay::print_slice(rt, out, room);
-    replay::print_end(rt)
+    replay::print_slice(rt, &out[..room]);
+    replay::print_end(rt);
 }
 
-fn case(rt: &(impl Input + Print), head: &[u8; 8]) -> bool {
+fn case(rt: &(impl Input + Print), head: &[u8; 8]) -> Result<(), Unanswered> {
     let mut payload = [0u8; 13];
-    let Some(n) = replay::read_bytes(rt, &mut payload) else {
-        return replay::print_short(rt);
-    };
+    let payload = replay::read_bytes(rt, &mut payload)?;
     let mut auth = [0u8; 6];
-    let Some(m) = replay::read_bytes(rt, &mut auth) else {
-        return replay::print_short(rt);
-    };
+    let auth = replay::read_bytes(rt, &mut auth)?;
     let mut lent = [0u8; 3];
-    if !replay::read_part(rt, &mut lent) {
-        return replay::print_short(rt);
-    }
+    replay::read_part(rt, &mut lent)?;
     let mut out = [lent[2]; 700];
     let room = usize::from(endian::get::<u16>(&lent, 0)).min(MOST_ROOM);
     write_into(
         rt,
         replay_records::uplinks::fields_of(head),
-        &payload[..n],
-        &auth[..m],
+        payload,
+        auth,
         &mut out,
         room,
-    )
-}
-
-fn turn(rt: &(impl Input + Print)) -> bool {
-    let mut head = [0u8; 8];
-    match replay::read_head(rt, &mut head) {
-        Head::End => false,
-        Head::Cut => replay::print_short(rt),
-        Head::Whole => case(rt, &head),
-    }
+    );
+    Ok(())
 }
 
 fn main(rt: HostRuntime) {
-    for _ in 0..replay::MOST_CASES {
-        if !turn(&rt) {
-            return;
-        }
-    }
+    replay::run(&rt, |head: [u8; 8]| case(&rt, &head));
 }

@@ -6,6 +6,7 @@ use Rattle.floats.specs.Number.{num}
 use Rattle.limits.specs.Limits.{bad_shifts}
 use Rattle.shifts.specs.declared.Window.{Window}
 use Rattle.shifts.specs.declared.Shifts.{Shifts}
+use Rattle.shifts.specs.declared.Given.{Given}
 
 -- "up to 32 windows"
 abbrev pub most_windows : ℕ
@@ -125,6 +126,9 @@ mark_of s closed x = mark_from s.start s closed x
 pub record Schedule : Type 0 where
   pub shifts : Shifts
   pub closed : List ℕ
+
+abbrev pub schedule : Given → Schedule
+schedule g = record { shifts = g.shifts; closed = g.closed.now }
 
 abbrev pub no_schedule : Schedule
 no_schedule = record { shifts = no_shifts; closed = [] }

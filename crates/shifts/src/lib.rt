@@ -1,9 +1,9 @@
 // Shift windows (02, request 03): what a call is given of the working week, when it is refused, and the mark of a message by its time.
 #![tactic(auto)]
 
-ghost use Rattle.std.specs.Prelude.{◌≡◌, true, ◌+◌, ◌≤◌, take};
+ghost use Rattle.std.specs.Prelude.{◌≡◌, true, ◌≤◌};
 ghost use Rattle.limits.specs.Answer.{cause_of};
-ghost use Rattle.shifts.specs.Shifts.{no_shifts, start_ok, window_ok, windows_ok, rising, shifts_ok, shifts_cause, in_range, farthest, second, among, holds, any_holds, mark_at, mark_of};
+ghost use Rattle.shifts.specs.Shifts.{no_shifts, start_ok, window_ok, windows_ok, rising, shifts_ok, windows_of, in_range, farthest, second, among, holds, any_holds, mark_at, schedule, no_schedule, schedule_cause, mark_by};
 
 use limits::Refusal;
 
@@ -55,6 +55,86 @@ impl Shifts {
     }
 }
 
+// What a call is given of the working week: start second and windows, and the closed dates, as day numbers.
+#[derive(Clone, Copy)]
+pub struct Given<'a> {
+    pub shifts: Shifts,
+    pub closed: &'a [u32],
+}
+
+impl Given<'_> {
+    // No shifts, no closed date.
+    pub fn none() -> Self
+        ensures { schedule result ≡ no_schedule }
+    {
+        Self {
+            shifts: Shifts::none(),
+            closed: &[0u32; 0],
+        }
+    }
+
+    // Whether refusal 11 does not apply.
+    pub fn is_ok(&self) -> bool
+        ensures { result ≡ shifts_ok self.now.shifts self.now.closed.now }
+    {
+        let s = self.shifts;
+        if !start_ok(s.start) {
+            return false;
+        }
+        let n = s.count;
+        if MOST_WINDOWS < n {
+            return false;
+        }
+        let windows = s.windows;
+        if !windows_ok(&windows[..n]) {
+            return false;
+        }
+        rise(self.closed)
+    }
+
+    // Refusal 11.
+    pub fn check(&self) -> Result<(), Refusal>
+        ensures { cause_of result ≡ schedule_cause (schedule self.now) }
+    {
+        if self.is_ok() {
+            return Ok(());
+        }
+        Err(Refusal::BadShifts)
+    }
+
+    // The mark at t seconds of a stream that began at a second of the week.
+    fn mark_at(&self, start: u32, t: u64) -> u8
+        requires { t ≤ farthest }
+        ensures { result ≡ mark_at start self.now.shifts self.now.closed.now t }
+    {
+        let first = start as u64;
+        let day = (first % DAY_S + t) / DAY_S;
+        if is_among(self.closed, day) {
+            return OUTSIDE;
+        }
+        let minute = (first + t) % (WEEK_S as u64) / 60;
+        if any_holds(self.shifts, minute) {
+            return INSIDE;
+        }
+        OUTSIDE
+    }
+
+    // The mark of a message with this time: inside, outside, or 0 where no start second was given.
+    pub fn mark(&self, time: f64) -> u8
+        ensures { result ≡ mark_by (schedule self.now) time }
+    {
+        let s = self.shifts;
+        let Some(first) = s.start else {
+            return UNMARKED;
+        };
+        if !in_range(time) {
+            return OUTSIDE;
+        }
+        let t = whole_second(time);
+        self.mark_at(first, t)
+    }
+}
+
 // ---- refusal 11
 
 fn start_ok(start: Option<u32>) -> bool
@@ -85,35 +165,6 @@ fn rise(dates: &[u32]) -> bool
     ensures { result ≡ rising dates.now }
 {
     dates.is_sorted_by(|a, b| a < b)
-}
-
-// Whether refusal 11 does not apply.
-pub fn shifts_ok(s: Shifts, closed: &[u32]) -> bool
-    ensures { result ≡ shifts_ok s closed.now }
-{
-    let start = s.start;
-    if !start_ok(start) {
-        return false;
-    }
-    let n = s.count;
-    if MOST_WINDOWS < n {
-        return false;
-    }
-    let windows = s.windows;
-    if !windows_ok(&windows[..n]) {
-        return false;
-    }
-    rise(closed)
-}
-
-// Refusal 11.
-pub fn check(s: Shifts, closed: &[u32]) -> Result<(), Refusal>
-    ensures { cause_of result ≡ shifts_cause s closed.now }
-{
-    if shifts_ok(s, closed) {
-        return Ok(());
-    }
-    Err(Refusal::BadShifts)
 }
 
 // ---- the mark
@@ -150,48 +201,16 @@ fn holds(w: Window, minute: u64) -> bool
     begun | open
 }
 
-// Whether one of the first n windows holds the minute; of a count over 32, all there are.
-fn any_holds(windows: &[Window; 32], n: usize, minute: u64) -> bool
-    ensures { result ≡ any_holds minute (take n windows.now) }
+// Whether one of the windows that the count names holds the minute; of a count over 32, all there are.
+fn any_holds(s: Shifts, minute: u64) -> bool
+    ensures { result ≡ any_holds minute (windows_of s) }
 {
-    windows.iter().take(n).any(|w| holds(*w, minute))
+    let windows = s.windows;
+    windows.iter().take(s.count).any(|w| holds(*w, minute))
 }
 
 fn is_among(dates: &[u32], day: u64) -> bool
     ensures { result ≡ among day dates.now }
 {
     dates.iter().any(|d| day == u64::from(*d))
-}
-
-// The mark at t seconds of a stream that began at a second of the week.
-fn mark_at(start: u32, s: Shifts, closed: &[u32], t: u64) -> u8
-    requires { t ≤ farthest }
-    ensures { result ≡ mark_at start s closed.now t }
-{
-    let first = start as u64;
-    let day = (first % DAY_S + t) / DAY_S;
-    if is_among(closed, day) {
-        return OUTSIDE;
-    }
-    let minute = (first + t) % (WEEK_S as u64) / 60;
-    let windows = s.windows;
-    if any_holds(&windows, s.count, minute) {
-        return INSIDE;
-    }
-    OUTSIDE
-}
-
-// The mark of a message with this time: inside, outside, or 0 where no start second was given.
-pub fn mark(s: Shifts, closed: &[u32], time: f64) -> u8
-    ensures { result ≡ mark_of s closed.now time }
-{
-    let start = s.start;
-    let Some(first) = start else {
-        return UNMARKED;
-    };
-    if !in_range(time) {
-        return OUTSIDE;
-    }
-    let t = whole_second(time);
-    mark_at(first, s, closed, t)
 }

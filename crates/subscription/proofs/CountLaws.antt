@@ -2,6 +2,8 @@
 use mathlib.Core.Path.{◌≡◌, refl, sym, ap, ◌∙◌, subst}
 use mathlib.Core.Bool.{Bool, true, false, cond, ◌&&◌}
 use mathlib.Core.List.{List, [], ◌∷◌, ◌++◌, append-nil, append_assoc}
+use Rattle.std.specs.Prelude.{Some, None}
+use lib.Ieee.{Float}
 use Prim.Native.Nat.{ℕ, ◌+◌, ◌≤◌, ◌<◌}
 use native.Mathlib.Omega.{arith}
 use borrow.Author.Tests.{ltb-true, ltb-false, eqb-true, eqb-false}
@@ -16,8 +18,8 @@ use Rattle.event_list.specs.Sums.{those, count}
 use Rattle.event_list.proofs.EventLaws.{event_next, event_end}
 use Rattle.event_list.proofs.SumLaws.{those-append, count-append}
 use Rattle.subscription.specs.Charges.{days, in_day, in_month, all_in_month, on_day, latest_start}
-use Rattle.subscription.specs.Counting.{day_at, raised, stepped, inside, tallied, Few}
-use Rattle.subscription.proofs.DayLaws.{only-day, day-under, none_outside, some_inside}
+use Rattle.subscription.specs.Counting.{day_at, day_in, raised, stepped, inside, tallied, Few}
+use Rattle.subscription.proofs.DayLaws.{only-day, day-under, outside, none_outside, some_inside}
 
 -- ---- counts that are raised
 
@@ -56,18 +58,24 @@ module _ (start : ℕ) (low : start ≤ latest_start) (c r : List ℕ) where
   unfolding stepped
   skips e = rw e (refl, refl)
 
-  module _ (e : is_message r ≡ true) (d : ℕ) (f : d ≡ day_at start (time_of r)) where
-    pub refuses : length c ≡ days → d ≡ days → Steps false c
+  module _ (e : is_message r ≡ true) where
+    pub refuses : length c ≡ days → None ≡ day_in start (time_of r) → Steps false c
     unfolding stepped
     refuses n g =
-        rw e (
-          sym (none_outside start (time_of r) low (sym f ∙ g)),
-          sym (ap (raised c) (sym f ∙ g) ∙ set_out c days (get_or c days 0 + 1) (omega (arith, n))),
-        )
+        let o = none_outside start (time_of r) low g in
+        let d = outside start (time_of r) low o in
+        rw e (sym o, sym (ap (raised c) d ∙ set_out c days (get_or c days 0 + 1) (omega (arith, n))))
 
-    pub raises : (d ≡ days → ⊥) → Steps true (raised c d)
+    pub raises : (d : ℕ) → Some d ≡ day_in start (time_of r) → Steps true (raised c d)
     unfolding stepped
-    raises g = rw e (sym (some_inside start (time_of r) low (λ q. g (f ∙ q))), ap (raised c) f)
+    raises d g =
+        let i = some_inside start (time_of r) low d g in
+        rw e (sym i.0, ap (raised c) i.1)
+
+pub under_days : (start : ℕ) → start ≤ latest_start → (t : Float) (d : ℕ) → Some d ≡ day_in start t → d < days
+under_days start low t d g =
+    let i = some_inside start t low d g in
+    omega (arith, i.1, day-under start t low i.0)
 
 -- ---- no count passes the number of records
 

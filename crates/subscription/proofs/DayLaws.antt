@@ -8,6 +8,7 @@ use borrow.Author.Tests.{ltb-true, ltb-false, leb-true, leb-false, eqb-true, eqb
 use lib.Dec.{T, leb, ltb, eqb}
 use lib.Signed.{non_neg}
 use lib.IntN.{ℤ, pos, negsuc, nat_abs}
+use Rattle.std.specs.Prelude.{Option, Some, None}
 use lib.Ieee.{Float, nan, inf, fin, up, down, lt, le, to_unsigned}
 use lib.Ieee.Exact.{HasValue}
 use lib.Ieee.Fits.{down_pos}
@@ -17,7 +18,7 @@ use Rattle.limits.proofs.Samples.{and_left, and_right}
 use Rattle.rates.proofs.Near.{int_value}
 use Rattle.rates.proofs.Values.{same_ltb, same_leb, lt-values, le-values}
 use Rattle.subscription.specs.Charges.{day_s, days, midnight, between, latest_start, start_ok}
-use Rattle.subscription.specs.Counting.{day_at, second_of}
+use Rattle.subscription.specs.Counting.{day_at, day_in, second_of}
 
 -- ---- a time compares with whole seconds as its whole part does
 
@@ -195,26 +196,22 @@ module _ (start : ℕ) (t : Float) (few : start ≤ latest_start) where
             cases false q e f = sym (ne_eqb k ((s - start) / 86400) (λ g. omega (arith, leb-false (start + 86400 * k) s e)))
 
   -- so a day is inside the month or none
-  pub none_outside : day_at start t ≡ days → between start 0 days t ≡ false
-  none_outside e = go (between start 0 days t) refl
+  pub none_outside : None ≡ day_in start t → between start 0 days t ≡ false
+  none_outside e = go (between start 0 days t) refl e
     where
-      go : (b : Bool) → between start 0 days t ≡ b → b ≡ false
-      go false f = refl
-      go true f = absurd (omega (arith, day-under f, e))
+      go : (b : Bool) → between start 0 days t ≡ b → ◌≡◌ {A = Option ℕ} None (cond b (Some (day_at start t)) None) → b ≡ false
+      go false f g = refl
+      go true f g = cc
 
-  pub some_inside : (day_at start t ≡ days → ⊥) → between start 0 days t ≡ true
-  some_inside n = go (between start 0 days t) refl
+  pub some_inside : (d : ℕ) → Some d ≡ day_in start t → (between start 0 days t ≡ true) × (d ≡ day_at start t)
+  some_inside d e = go (between start 0 days t) e
     where
-      go : (b : Bool) → between start 0 days t ≡ b → b ≡ true
-      go true f = refl
-      go false f = absurd (n (outside f))
+      is : (n m : ℕ) → Some n ≡ Some m → n ≡ m
+      is n m f = cc
 
-  pub day_most : day_at start t ≤ days
-  day_most = go (between start 0 days t) refl
-    where
-      go : (b : Bool) → between start 0 days t ≡ b → day_at start t ≤ days
-      go true f = omega (arith, day-under f)
-      go false f = omega (arith, outside f)
+      go : (b : Bool) → Some d ≡ cond b (Some (day_at start t)) None → (b ≡ true) × (d ≡ day_at start t)
+      go true g = (refl, is d (day_at start t) g)
+      go false g = cc
 
 -- ---- the month's start
 

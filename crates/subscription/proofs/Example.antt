@@ -1,5 +1,6 @@
 -- A month with eight event records, computed: its cents, in two orders, what its messages cost one by one, and what is refused. Assumes nothing.
-use Prim.Native.Nat.{ℕ}
+use Prim.Native.Nat.{ℕ, zero, suc}
+use lib.ListN.{get_or, drop}
 use mathlib.Core.Path.{◌≡◌, refl}
 use mathlib.Core.Bool.{true, false}
 use mathlib.Core.List.{List, [], ◌∷◌, ◌++◌}
@@ -10,6 +11,7 @@ use Rattle.endian.specs.Bytes.{bytes_of, number_of, number_at}
 use Rattle.event_list.specs.Events.{records_of, events_of, messages_of, all_ok}
 use Rattle.event_list.specs.Sums.{those, count}
 use Rattle.subscription.specs.declared.Plan.{Plan}
+use Rattle.subscription.specs.declared.Step.{Step}
 use Rattle.subscription.specs.Charges.{sum_to, all_to, in_day, all_in_month, step_of, day_cost, plan_ok, cost_of, cents_of, on_day, month_cause, charge_cause}
 use Rattle.subscription.specs.Claims.{message_cost, list_cost}
 
@@ -30,9 +32,14 @@ second = message 0x40f51e4000000000 ++ (message 0x40f86a0000000000 ++ (message 0
 abbrev all : List ℕ
 all = first ++ (frame ++ second)
 
+-- steps of these upper counts and prices, of 0 where a list ends
+abbrev steps_of : ℕ → List ℕ → List ℕ → List Step
+steps_of zero uppers prices = []
+steps_of (suc n) uppers prices = record { upper = get_or uppers 0 0; price = get_or prices 0 0 } ∷ steps_of n (drop 1 uppers) (drop 1 prices)
+
 -- two messages a day
 abbrev plan_of : ℕ → ℕ → List ℕ → List ℕ → Plan
-plan_of fee steps uppers prices = record { fee = fee; allowance = 2; steps = steps; uppers = uppers; prices = prices }
+plan_of fee steps uppers prices = record { fee = fee; allowance = 2; count = steps; steps = steps_of 8 uppers prices }
 
 -- 5.00, then one message a day at 0.7 cents, two at 0.4, the rest at 0.25; the last step's upper count is not read
 abbrev plan : Plan

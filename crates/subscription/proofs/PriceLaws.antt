@@ -65,16 +65,16 @@ sum_ones f j (suc m) h a b =
 -- ---- a plan that is accepted
 
 pub record Sound (plan : Plan) : Type 0 where
-  pub some : 1 ≤ plan.steps
-  pub few : plan.steps ≤ most_steps
+  pub some : 1 ≤ plan.count
+  pub few : plan.count ≤ most_steps
   pub fee_cheap : plan.fee ≤ dearest
-  pub cheap : (j : ℕ) → j < plan.steps → price_of plan j ≤ dearest
-  pub rises : (j : ℕ) → suc (suc j) < plan.steps → upper_of plan j < upper_of plan (suc j)
+  pub cheap : (j : ℕ) → j < plan.count → price_of plan j ≤ dearest
+  pub rises : (j : ℕ) → suc (suc j) < plan.count → upper_of plan j < upper_of plan (suc j)
 
 pub sound : (plan : Plan) → plan_ok plan ≡ true → Sound plan
 unfolding plan_ok
 sound plan e =
-    let n = plan.steps in
+    let n = plan.count in
     let low : ℕ → Bool = λ j. leb (price_of plan j) dearest in
     let up : ℕ → Bool = λ j. ltb (upper_of plan j) (upper_of plan (suc j)) in
     let front = leb 1 n && leb n most_steps in
@@ -93,10 +93,10 @@ sound plan e =
     }
 
 -- what the tests say of a plan with steps of which there are not too many
-pub plan_is : (plan : Plan) (low rises : Bool) (n : ℕ) → 1 ≤ plan.steps → plan.steps ≤ most_steps → low ≡ all_to (λ j. leb (price_of plan j) dearest) plan.steps
+pub plan_is : (plan : Plan) (low rises : Bool) (n : ℕ) → 1 ≤ plan.count → plan.count ≤ most_steps → low ≡ all_to (λ j. leb (price_of plan j) dearest) plan.count
     → n ≡ uppers_read plan - 1 → rises ≡ all_to (λ j. ltb (upper_of plan j) (upper_of plan (suc j))) n → leb plan.fee dearest && (low && rises) ≡ plan_ok plan
 unfolding plan_ok
-plan_is plan low rises n a b e f g = rw (le-leb 1 plan.steps a, le-leb plan.steps most_steps b, e, g, f) refl
+plan_is plan low rises n a b e f g = rw (le-leb 1 plan.count a, le-leb plan.count most_steps b, e, g, f) refl
 
 -- the price of a day's extra message, from 0 on
 abbrev pub extra_price : Plan → ℕ → ℕ
@@ -104,7 +104,7 @@ extra_price plan i = price_of plan (step_of plan (suc i))
 
 module _ (plan : Plan) (ok : Sound plan) where
   -- upper counts rise, also of steps that are not neighbours
-  climbs : (i j : ℕ) → i ≤ j → suc j < plan.steps → upper_of plan i ≤ upper_of plan j
+  climbs : (i j : ℕ) → i ≤ j → suc j < plan.count → upper_of plan i ≤ upper_of plan j
   climbs i zero h b = ⊎_elim (λ q. omega (arith, ap (upper_of plan) q)) (λ l. absurd (omega arith)) (eq-or-lt_of_le {n = i} {m = zero} h)
   climbs i (suc j) h b =
       ⊎_elim (λ q. omega (arith, ap (upper_of plan) q)) (λ l. omega (arith, climbs i j (omega arith) (omega arith), ok.rises j b)) (eq-or-lt_of_le {n = i} {m = suc j} h)
@@ -118,14 +118,14 @@ module _ (plan : Plan) (ok : Sound plan) where
       one true = omega arith
       one false = omega arith
 
-  step_under : (n : ℕ) → step_of plan n < plan.steps
+  step_under : (n : ℕ) → step_of plan n < plan.count
   unfolding step_of
   step_under n = omega (arith, at_most_lem (λ j. ltb (upper_of plan j) n) (uppers_read plan), ok.some)
 
   pub extras_le : (x : ℕ) → sum_to (extra_price plan) x ≤ x * dearest
   extras_le x = sum-le (extra_price plan) dearest x (λ i h. ok.cheap (step_of plan (suc i)) (step_under (suc i)))
 
-  step_is : (n j : ℕ) → j < plan.steps → ((i : ℕ) → i < j → upper_of plan i < n) → ((i : ℕ) → j ≤ i → suc i < plan.steps → n ≤ upper_of plan i) → step_of plan n ≡ j
+  step_is : (n j : ℕ) → j < plan.count → ((i : ℕ) → i < j → upper_of plan i < n) → ((i : ℕ) → j ≤ i → suc i < plan.count → n ≤ upper_of plan i) → step_of plan n ≡ j
   unfolding step_of
   step_is n j h a b =
       sum_ones (λ i. cond (ltb (upper_of plan i) n) 1 0) j (uppers_read plan) (omega arith)
@@ -137,51 +137,51 @@ module _ (plan : Plan) (ok : Sound plan) where
   module _ (x : ℕ) where
     reached-le : (j : ℕ) → reached plan x j ≤ x
     reached-le zero = omega arith
-    reached-le (suc j) = go (eqb (suc j) plan.steps)
+    reached-le (suc j) = go (eqb (suc j) plan.count)
       where
         go : (t : Bool) → cond t x (min x (upper_of plan j)) ≤ x
         go true = omega arith
         go false = omega arith
 
     -- where the last step is not among them
-    reached-to : (j : ℕ) → suc j < plan.steps → reached plan x (suc j) ≡ min x (upper_of plan j)
-    reached-to j h = ap (λ (t : Bool). cond t x (min x (upper_of plan j))) (ne_eqb (suc j) plan.steps (λ q. omega arith))
+    reached-to : (j : ℕ) → suc j < plan.count → reached plan x (suc j) ≡ min x (upper_of plan j)
+    reached-to j h = ap (λ (t : Bool). cond t x (min x (upper_of plan j))) (ne_eqb (suc j) plan.count (λ q. omega arith))
 
-    pub reached-all : reached plan x plan.steps ≡ x
-    reached-all = go plan.steps refl ok.some
+    pub reached-all : reached plan x plan.count ≡ x
+    reached-all = go plan.count refl ok.some
       where
-        go : (n : ℕ) → n ≡ plan.steps → 1 ≤ n → reached plan x n ≡ x
+        go : (n : ℕ) → n ≡ plan.count → 1 ≤ n → reached plan x n ≡ x
         go zero e h = absurd (omega arith)
-        go (suc j) e h = ap (λ (t : Bool). cond t x (min x (upper_of plan j))) (eq-eqb (suc j) plan.steps e)
+        go (suc j) e h = ap (λ (t : Bool). cond t x (min x (upper_of plan j))) (eq-eqb (suc j) plan.count e)
 
-    pub reached_more : (j : ℕ) → j < plan.steps → reached plan x j ≤ reached plan x (suc j)
+    pub reached_more : (j : ℕ) → j < plan.count → reached plan x j ≤ reached plan x (suc j)
     reached_more zero h = omega arith
-    reached_more (suc j) h = go (eqb (suc (suc j)) plan.steps) refl
+    reached_more (suc j) h = go (eqb (suc (suc j)) plan.count) refl
       where
-        go : (t : Bool) → eqb (suc (suc j)) plan.steps ≡ t → reached plan x (suc j) ≤ cond t x (min x (upper_of plan (suc j)))
+        go : (t : Bool) → eqb (suc (suc j)) plan.count ≡ t → reached plan x (suc j) ≤ cond t x (min x (upper_of plan (suc j)))
         go true e = reached-le (suc j)
         go false e =
-            let less : suc (suc j) < plan.steps = ⊎_elim (λ q. absurd (eqb-false (suc (suc j)) plan.steps e q)) (λ l. l) (eq-or-lt_of_le {n = suc (suc j)} {m = plan.steps} (omega arith)) in
+            let less : suc (suc j) < plan.count = ⊎_elim (λ q. absurd (eqb-false (suc (suc j)) plan.count e q)) (λ l. l) (eq-or-lt_of_le {n = suc (suc j)} {m = plan.count} (omega arith)) in
             omega (arith, reached-to j h, ok.rises j less)
 
     -- those that step j takes cost its price
-    takes : (j i : ℕ) → j < plan.steps → reached plan x j ≤ i → i < reached plan x (suc j) → extra_price plan i ≡ price_of plan j
-    takes j i h a b = ap (price_of plan) (step_is (suc i) j h (low j h a) (high (eqb (suc j) plan.steps) refl))
+    takes : (j i : ℕ) → j < plan.count → reached plan x j ≤ i → i < reached plan x (suc j) → extra_price plan i ≡ price_of plan j
+    takes j i h a b = ap (price_of plan) (step_is (suc i) j h (low j h a) (high (eqb (suc j) plan.count) refl))
       where
         under : i < x
         under = omega (arith, reached-le (suc j), b)
 
-        low : (j : ℕ) → j < plan.steps → reached plan x j ≤ i → (k : ℕ) → k < j → upper_of plan k < suc i
+        low : (j : ℕ) → j < plan.count → reached plan x j ≤ i → (k : ℕ) → k < j → upper_of plan k < suc i
         low zero h a k l = absurd (omega arith)
         low (suc j) h a k l = omega (arith, climbs k j (omega arith) h, reached-to j h, a, under)
 
-        high : (t : Bool) → eqb (suc j) plan.steps ≡ t → (k : ℕ) → j ≤ k → suc k < plan.steps → suc i ≤ upper_of plan k
-        high true e k u l = absurd (omega (arith, eqb-true (suc j) plan.steps e))
+        high : (t : Bool) → eqb (suc j) plan.count ≡ t → (k : ℕ) → j ≤ k → suc k < plan.count → suc i ≤ upper_of plan k
+        high true e k u l = absurd (omega (arith, eqb-true (suc j) plan.count e))
         high false e k u l =
             omega (arith, climbs j k u l, reached-to j (omega arith), b)
 
     -- a step more
-    pub step-more : (j passed end cost s : ℕ) → j < plan.steps → passed ≡ reached plan x j → end ≡ reached plan x (suc j) → cost ≡ (end - passed) * price_of plan j
+    pub step-more : (j passed end cost s : ℕ) → j < plan.count → passed ≡ reached plan x j → end ≡ reached plan x (suc j) → cost ≡ (end - passed) * price_of plan j
         → s ≡ sum_to (extra_price plan) passed → s + cost ≡ sum_to (extra_price plan) end
     step-more j passed end cost s h p q c e =
         let up : passed + (end - passed) ≡ end = omega (arith, reached_more j h, p, q) in
@@ -192,7 +192,7 @@ module _ (plan : Plan) (ok : Sound plan) where
     pub reached-few : (j : ℕ) → sum_to (extra_price plan) (reached plan x j) ≤ x * dearest
     reached-few j = omega (arith, extras_le (reached plan x j), reached-le j)
 
-  pub day_all : (n x s j passed : ℕ) → x ≡ n - plan.allowance → j ≡ plan.steps → passed ≡ reached plan x j → s ≡ sum_to (extra_price plan) passed → s ≡ day_cost plan n
+  pub day_all : (n x s j passed : ℕ) → x ≡ n - plan.allowance → j ≡ plan.count → passed ≡ reached plan x j → s ≡ sum_to (extra_price plan) passed → s ≡ day_cost plan n
   unfolding day_cost
   day_all n x s j passed e f p q = q ∙ ap (sum_to (extra_price plan)) (p ∙ ap (reached plan x) f ∙ reached-all x ∙ e)
 

@@ -8,6 +8,7 @@ use Rattle.record.specs.Readers.{time_of}
 use Rattle.event_list.specs.Events.{events_of, messages_of, list_ok}
 use Rattle.event_list.specs.Sums.{count}
 use Rattle.subscription.specs.declared.Plan.{Plan}
+use Rattle.subscription.specs.declared.Step.{Step}
 
 -- ---- over the numbers below n
 
@@ -63,15 +64,18 @@ dearest = 1000000
 abbrev pub latest_start : ℕ
 latest_start = 10000000000
 
+abbrev pub no_step : Step
+no_step = record { upper = 0; price = 0 }
+
 abbrev pub upper_of : Plan → ℕ → ℕ
-upper_of plan j = get_or plan.uppers j 0
+upper_of plan j = (get_or plan.steps j no_step).upper
 
 abbrev pub price_of : Plan → ℕ → ℕ
-price_of plan j = get_or plan.prices j 0
+price_of plan j = (get_or plan.steps j no_step).price
 
 -- how many upper counts are read: 'the last step is open and its upper count is not read'
 abbrev pub uppers_read : Plan → ℕ
-uppers_read plan = plan.steps - 1
+uppers_read plan = plan.count - 1
 
 -- the step of a day's extra message number n, from 1 on: 'extra messages of each day pass through the steps from the lowest', so it is past each whose upper count is below n
 unfoldable pub step_of : Plan → ℕ → ℕ
@@ -87,9 +91,9 @@ day_cost plan n = sum_to (λ i. price_of plan (step_of plan (suc i))) (n - plan.
 unfoldable pub plan_ok : Plan → Bool
 unfolding all_to
 plan_ok plan =
-    (leb 1 plan.steps && leb plan.steps most_steps)
+    (leb 1 plan.count && leb plan.count most_steps)
     && (leb plan.fee dearest
-    && (all_to (λ j. leb (price_of plan j) dearest) plan.steps && all_to (λ j. ltb (upper_of plan j) (upper_of plan (suc j))) (uppers_read plan - 1)))
+    && (all_to (λ j. leb (price_of plan j) dearest) plan.count && all_to (λ j. ltb (upper_of plan j) (upper_of plan (suc j))) (uppers_read plan - 1)))
 
 abbrev pub start_ok : ℤ → Bool
 start_ok z = le_z (pos 0) z && le_z z (pos latest_start)

@@ -1,5 +1,5 @@
 -- Scaffolding. How the code counts and prices: a count for each day of what is read so far of a list that comes in parts, and how far the steps reach. `charges` reads its list as one part. Assumes nothing.
-use Rattle.std.specs.Prelude.{ℕ, zero, suc, ◌+◌, ◌-◌, ◌/◌, ◌≤◌, min, ◌≡◌, Bool, true, cond, ◌&&◌, List, [], ◌∷◌, eqb, length, get_or, set, ℤ, nat_abs, Float}
+use Rattle.std.specs.Prelude.{ℕ, zero, suc, ◌+◌, ◌-◌, ◌/◌, ◌≤◌, min, ◌≡◌, Bool, true, cond, ◌&&◌, List, [], ◌∷◌, eqb, length, get_or, set, ℤ, nat_abs, Float, Option, Some, None}
 use Rattle.std.specs.Float.Ieee.{to_unsigned}
 use Rattle.record.specs.Readers.{time_of}
 use Rattle.event_list.specs.Events.{wholes, events_of, is_message, messages_of}
@@ -15,6 +15,10 @@ second_of z = cond (start_ok z) (nat_abs z) 0
 unfoldable pub day_at : ℕ → Float → ℕ
 unfolding to_unsigned
 day_at start t = cond (between start 0 days t) ((to_unsigned 64 t - start) / day_s) days
+
+-- the day of a time in the month
+abbrev pub day_in : ℕ → Float → Option ℕ
+day_in start t = cond (between start 0 days t) (Some (day_at start t)) None
 
 -- a count is raised by one; there is none at `days`
 abbrev pub raised : List ℕ → ℕ → List ℕ
@@ -47,4 +51,4 @@ pub record Few (c : List ℕ) (n : ℕ) : Type 0 where
 -- how many of x extra messages of a day the first j steps take; the last step takes all
 abbrev pub reached : Plan → ℕ → ℕ → ℕ
 reached plan x zero = 0
-reached plan x (suc j) = cond (eqb (suc j) plan.steps) x (min x (upper_of plan j))
+reached plan x (suc j) = cond (eqb (suc j) plan.count) x (min x (upper_of plan j))

@@ -11,7 +11,9 @@ ghost use Rattle.event_list.specs.Events.{wholes, most_records, events_of, messa
 ghost use Rattle.subscription.specs.Charges.{latest_start, plan_ok, start_ok, cents_of, on_day, month_cause, charge_cause};
 ghost use Rattle.subscription.specs.Counting.{second_of, read_on, tallied, Few};
 
+use crate::prices::Accepted;
 use limits::Refusal;
+use record::read::EventRecord;
 
 // The most steps of a plan.
 pub const MOST_STEPS: usize = 8;
@@ -22,14 +24,20 @@ pub const DAYS: usize = 31;
 // The latest start of a month, in seconds.
 const LATEST_START: i64 = 10_000_000_000;
 
-// A fee in cents, an allowance of messages a day, and steps of extra messages, each an upper count and a price in thousandths of a cent. The last step's upper count is not read.
+// A step of extra messages: those up to an upper count, at a price in thousandths of a cent.
+#[derive(Clone, Copy)]
+pub struct Step {
+    pub upper: u32,
+    pub price: u32,
+}
+
+// A fee in cents, an allowance of messages a day, and how many steps there are, with the first eight. The last step's upper count is not read.
 #[derive(Clone, Copy)]
 pub struct Plan {
     pub fee: u32,
     pub allowance: u32,
-    pub steps: usize,
-    pub uppers: [u32; 8],
-    pub prices: [u32; 8],
+    pub count: usize,
+    pub steps: [Step; 8],
 }
 
 // What was read: how many records, and whether every message lies in the month.
@@ -80,8 +88,9 @@ pub fn read_records(
     let mut ok = records.len() % limits::RECORD == 0;
     let mut within = t.within;
     for r in records.chunks_exact(limits::RECORD) {
-        let right = event_list::record_ok(r);
-        let inside = days::counted(r, start, counts);
+        let event = EventRecord::new(r);
+        let right = event_list::record_ok(event);
+        let inside = days::counted(event, start, counts);
         ok &= right;
         within &= inside;
     }
@@ -103,7 +112,7 @@ pub fn total(t: Tally, counts: &[u32], plan: Plan, month_start: i64) -> Result<u
     if !t.within {
         return Err(Refusal::OutsideMonth);
     }
-    Ok(prices::cents(plan, counts))
+    Ok(Accepted { plan }.cents(counts))
 }
 
 // The cents that a plan takes for the messages of a list in the month that starts at a second of the stream, or a refusal.

@@ -4,7 +4,7 @@ ghost use Rattle.subscription.specs.Charges.{days, most_steps, dearest, upper_of
 ghost use Rattle.event_list.specs.Events.{most_records};
 ghost use Rattle.subscription.specs.Counting.{Few, reached};
 
-use crate::{DAYS, MOST_STEPS, Plan};
+use crate::{DAYS, MOST_STEPS, Plan, Step};
 
 // Cents of a fee, thousandths of a cent of a price.
 const DEAREST: u32 = 1_000_000;
@@ -19,7 +19,7 @@ fn cheap(plan: Plan, n: usize) -> bool
 {
     let mut ok = true;
     for j in 0..n {
-        ok &= plan.prices[j] <= DEAREST;
+        ok &= plan.steps[j].price <= DEAREST;
     }
     ok
 }
@@ -31,7 +31,7 @@ fn rising(plan: Plan, n: usize) -> bool
 {
     let mut ok = true;
     for j in 0..n {
-        ok &= plan.uppers[j] < plan.uppers[j + 1];
+        ok &= plan.steps[j].upper < plan.steps[j + 1].upper;
     }
     ok
 }
@@ -39,7 +39,7 @@ fn rising(plan: Plan, n: usize) -> bool
 pub fn plan_ok(plan: Plan) -> bool
     ensures { result ≡ plan_ok plan }
 {
-    let steps = plan.steps;
+    let steps = plan.count;
     if steps < 1 || MOST_STEPS < steps {
         return false;
     }
@@ -56,53 +56,62 @@ fn reach(plan: Plan, x: u32, j: usize) -> u32
     requires { j < most_steps }
     ensures { result ≡ reached plan x (suc j) }
 {
-    if j + 1 == plan.steps {
+    if j + 1 == plan.count {
         return x;
     }
-    x.min(plan.uppers[j])
+    x.min(plan.steps[j].upper)
 }
 
-// What n extra messages in step j take.
-fn step_cost(plan: Plan, n: u32, j: usize) -> u64
-    requires { j < most_steps }
-    ensures { result ≡ n * price_of plan j }
+// What n extra messages of a step take.
+fn step_cost(n: u32, step: Step) -> u64
+    ensures { result ≡ n * step.price }
 {
-    u64::from(n) * u64::from(plan.prices[j])
+    u64::from(n) * u64::from(step.price)
 }
 
-// Thousandths of a cent for a day with n messages: each step takes those between the upper count before it and its own.
-fn day_cost(plan: Plan, n: u32) -> u64
-    requires { (plan_ok plan ≡ true) × (n ≤ most_records) }
-    ensures { (result ≡ day_cost plan n) × (result ≤ most_records * dearest) }
-{
-    let extra = n.saturating_sub(plan.allowance);
-    let mut passed: u32 = 0;
-    let mut sum: u64 = 0;
-    for j in 0..plan.steps {
-        let end = reach(plan, extra, j);
-        sum += step_cost(plan, end - passed, j);
-        passed = end;
+// A plan that is one.
+#[derive(Clone, Copy)]
+pub struct Accepted {
+    pub plan: Plan,
+    pub ghost ok: { plan_ok plan ≡ true },
+}
+
+impl Accepted {
+    // Thousandths of a cent for a day with n messages: each step takes those between the upper count before it and its own.
+    fn day_cost(self, n: u32) -> u64
+        requires { n ≤ most_records }
+        ensures { (result ≡ day_cost self.plan n) × (result ≤ most_records * dearest) }
+    {
+        let plan = self.plan;
+        let extra = n.saturating_sub(plan.allowance);
+        let mut passed: u32 = 0;
+        let mut sum: u64 = 0;
+        for j in 0..plan.count {
+            let end = reach(plan, extra, j);
+            sum += step_cost(end - passed, plan.steps[j]);
+            passed = end;
+        }
+        sum
     }
-    sum
-}
 
-// Thousandths of a cent for the days with these messages.
-fn month_cost(plan: Plan, counts: &[u32]) -> u64
-    requires { (plan_ok plan ≡ true) × Few counts.now most_records }
-    ensures { (result ≡ cost_of plan (λ k. get_or counts.now k 0)) × (result ≤ days * (most_records * dearest)) }
-{
-    let mut sum: u64 = 0;
-    for n in counts {
-        sum += day_cost(plan, *n);
+    // Thousandths of a cent for the days with these messages.
+    fn month_cost(self, counts: &[u32]) -> u64
+        requires { Few counts.now most_records }
+        ensures { (result ≡ cost_of self.plan (λ k. get_or counts.now k 0)) × (result ≤ days * (most_records * dearest)) }
+    {
+        let mut sum: u64 = 0;
+        for n in counts {
+            sum += self.day_cost(*n);
+        }
+        sum
     }
-    sum
-}
 
-// The fee, and the days' extras rounded up to a cent once.
-pub fn cents(plan: Plan, counts: &[u32]) -> u64
-    requires { (plan_ok plan ≡ true) × Few counts.now most_records }
-    ensures { result ≡ cents_of plan (λ k. get_or counts.now k 0) }
-{
-    let thousandths = month_cost(plan, counts);
-    u64::from(plan.fee) + (thousandths + (CENT - 1)) / CENT
+    // The fee, and the days' extras rounded up to a cent once.
+    pub fn cents(self, counts: &[u32]) -> u64
+        requires { Few counts.now most_records }
+        ensures { result ≡ cents_of self.plan (λ k. get_or counts.now k 0) }
+    {
+        let thousandths = self.month_cost(counts);
+        u64::from(self.plan.fee) + (thousandths + (CENT - 1)) / CENT
+    }
 }

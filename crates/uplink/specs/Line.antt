@@ -1,5 +1,6 @@
 -- What a line of `uplink`'s input means (README.md, 'Test frames'): five words with a space between each, in characters' numbers. Assumes nothing.
-use Rattle.std.specs.Prelude.{ℕ, suc, ◌+◌, ◌-◌, ◌*◌, ◌%◌, min, Bool, true, cond, ◌&&◌, ◌||◌, List, [], ◌∷◌, ltb, leb, eqb, length, take, get_or, Option, None, Some}
+use Rattle.std.specs.Prelude.{ℕ, suc, ◌+◌, ◌-◌, ◌*◌, ◌%◌, min, Bool, cond, ◌&&◌, ◌||◌, List, [], ◌∷◌, ltb, leb, eqb, length, take, get_or, Option, None, Some}
+use Rattle.std.specs.List.{list_all}
 use Rattle.frame.specs.declared.header.UplinkFields.{UplinkFields}
 use Rattle.uplink.specs.declared.line.Parsed.{Parsed}
 
@@ -28,10 +29,8 @@ spaces (c ∷ l) = cond (eqb c space) (suc (spaces l)) (spaces l)
 unfoldable pub digit_of : ℕ → ℕ
 digit_of c = cond (leb 48 c && ltb c 58) (c - 48) (cond (leb 97 c && ltb c 103) (c - 87) (cond (leb 65 c && ltb c 71) (c - 55) 16))
 
-unfoldable pub are_digits : ℕ → List ℕ → Bool
-unfolding digit_of
-are_digits base [] = true
-are_digits base (c ∷ l) = ltb (digit_of c) base && are_digits base l
+abbrev pub are_digits : ℕ → List ℕ → Bool
+are_digits base l = list_all (λ (c : ℕ). ltb (digit_of c) base) l
 
 -- the number of digits after n, `most` where it is more
 unfoldable pub number_from : ℕ → ℕ → ℕ → List ℕ → ℕ

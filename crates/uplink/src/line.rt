@@ -1,7 +1,7 @@
 // What a line of text means: device, counter, payload or single bit, downlink flag and authentication.
-ghost use Rattle.std.specs.Prelude.{◌≡◌, false, ◌+◌, ◌*◌, ◌%◌, ◌≤◌, ◌<◌, length, take, drop};
+ghost use Rattle.std.specs.Prelude.{◌≡◌, ◌+◌, ◌*◌, ◌%◌, ◌≤◌, ◌<◌, ◌&&◌, eqb, length, take};
 ghost use Rattle.std.proofs.lemmas.List.Edits.{sets};
-ghost use Rattle.uplink.specs.Line.{word, rest, spaces, digit_of, are_digits, number_from, bytes_in, is_device, is_counter, are_bytes, is_flag, is_none, is_bit, bit_in, is_payload, payload_in, fields_of, meaning, meant};
+ghost use Rattle.uplink.specs.Line.{word, rest, spaces, digit_of, are_digits, number_from, bytes_in, is_counter, are_bytes, is_none, is_bit, bit_in, is_payload, payload_in, fields_of, meaning, meant};
 
 use frame::header::UplinkFields;
 
@@ -40,30 +40,16 @@ fn digit_of(c: u8) -> u8
     NO_DIGIT
 }
 
-// Where the word from a place on ends.
-fn word_end(line: &[u8], from: usize) -> usize
-    requires { from ≤ length line.now }
-    ensures { (result ≡ from + length (word (drop from line.now))) × (result ≤ length line.now) }
+// The word that a line begins with, and what stands behind its space.
+fn cut(line: &[u8]) -> (&[u8], &[u8])
+    ensures { (result.0.now ≡ word line.now) × (result.1.now ≡ rest line.now) }
 {
-    for i in from..line.len() {
-        if line[i] == SPACE {
-            return i;
+    for (i, c) in line.iter().enumerate() {
+        if *c == SPACE {
+            return (&line[..i], &line[i + 1..]);
         }
     }
-    line.len()
-}
-
-// Where the word behind it starts.
-fn after(line: &[u8], from: usize) -> usize
-    requires { from ≤ length line.now }
-    ensures { (drop result line.now ≡ rest (drop from line.now)) × (result ≤ length line.now) }
-{
-    for i in from..line.len() {
-        if line[i] == SPACE {
-            return i + 1;
-        }
-    }
-    line.len()
+    (line, &[])
 }
 
 fn count_spaces(line: &[u8]) -> usize
@@ -73,32 +59,20 @@ fn count_spaces(line: &[u8]) -> usize
 }
 
 // Whether each character of a word is a digit of a base.
-fn all_digits(line: &[u8], from: usize, base: u8) -> bool
-    requires { from ≤ length line.now }
-    ensures { result ≡ are_digits base (word (drop from line.now)) }
+fn all_digits(w: &[u8], base: u8) -> bool
+    ensures { result ≡ are_digits base w.now }
 {
-    for i in from..line.len() {
-        if line[i] == SPACE {
-            return true;
-        }
-        if base <= digit_of(line[i]) {
-            return false;
-        }
-    }
-    true
+    w.iter().all(|c| digit_of(*c) < base)
 }
 
 // The number that a word's digits make.
-fn number(line: &[u8], from: usize, base: u64, most: u64) -> u64
-    requires { (from ≤ length line.now) × (base ≤ 16) × (most < 0x100000000) }
-    ensures { (result ≡ number_from base most 0 (word (drop from line.now))) × (result ≤ most) }
+fn number(w: &[u8], base: u64, most: u64) -> u64
+    requires { (base ≤ 16) × (most < 0x100000000) }
+    ensures { (result ≡ number_from base most 0 w.now) × (result ≤ most) }
 {
     let mut n: u64 = 0;
-    for i in from..line.len() {
-        if line[i] == SPACE {
-            return n;
-        }
-        let x = n * base + u64::from(digit_of(line[i]));
+    for c in w {
+        let x = n * base + u64::from(digit_of(*c));
         n = x.min(most);
     }
     n
@@ -114,139 +88,105 @@ fn byte_of(a: u8, b: u8) -> u8
 }
 
 // The bytes that a word's digits make, at the front of `out`; how many.
-fn put_bytes(line: &[u8], from: usize, out: &mut [u8]) -> usize
-    requires { (from ≤ length line.now) × (length line.now ≤ 2 * length out.old) }
-    ensures { (out.new ≡ sets out.old 0 (bytes_in (word (drop from line.now))))
-        × (result ≡ length (bytes_in (word (drop from line.now)))) }
+fn put_bytes(w: &[u8], out: &mut [u8]) -> usize
+    requires { length w.now ≤ 2 * length out.old }
+    ensures { (out.new ≡ sets out.old 0 (bytes_in w.now)) × (result ≡ length (bytes_in w.now)) }
 {
-    let mut n: usize = 0;
-    let mut i = from;
-    while i + 1 < line.len() {
-        if line[i] == SPACE {
-            return n;
-        }
-        if line[i + 1] == SPACE {
-            return n;
-        }
-        out[n] = byte_of(line[i], line[i + 1]);
-        n += 1;
-        i += 2;
+    let n = w.len() / 2;
+    for i in 0..n {
+        out[i] = byte_of(w[2 * i], w[2 * i + 1]);
     }
     n
 }
 
-fn is_device(line: &[u8], from: usize) -> bool
-    requires { from ≤ length line.now }
-    ensures { result ≡ is_device (word (drop from line.now)) }
+// Whether a word is a number of so many digits of a base.
+fn has_digits(w: &[u8], count: usize, base: u8) -> bool
+    ensures { result ≡ (eqb (length w.now) count && are_digits base w.now) }
 {
-    let right = word_end(line, from) - from == 8;
-    let hex = all_digits(line, from, 16);
-    right & hex
+    let right = w.len() == count;
+    let digits = all_digits(w, base);
+    right & digits
 }
 
-fn is_counter(line: &[u8], from: usize) -> bool
-    requires { from ≤ length line.now }
-    ensures { result ≡ is_counter (word (drop from line.now)) }
+fn is_counter(w: &[u8]) -> bool
+    ensures { result ≡ is_counter w.now }
 {
-    let right = 0 < word_end(line, from) - from;
-    let decimal = all_digits(line, from, 10);
-    right & decimal
+    let some = !w.is_empty();
+    let decimal = all_digits(w, 10);
+    some & decimal
 }
 
-fn are_bytes(line: &[u8], from: usize) -> bool
-    requires { from ≤ length line.now }
-    ensures { result ≡ are_bytes (word (drop from line.now)) }
+fn are_bytes(w: &[u8]) -> bool
+    ensures { result ≡ are_bytes w.now }
 {
-    let size = word_end(line, from) - from;
-    let some = 0 < size;
-    let whole = size % 2 == 0;
-    let hex = all_digits(line, from, 16);
+    let some = !w.is_empty();
+    let whole = w.len() % 2 == 0;
+    let hex = all_digits(w, 16);
     some & (whole & hex)
 }
 
-fn is_flag(line: &[u8], from: usize) -> bool
-    requires { from ≤ length line.now }
-    ensures { result ≡ is_flag (word (drop from line.now)) }
-{
-    let right = word_end(line, from) - from == 1;
-    let binary = all_digits(line, from, 2);
-    right & binary
-}
-
 // `-`: no payload.
-fn is_none(line: &[u8], from: usize) -> bool
-    requires { from ≤ length line.now }
-    ensures { result ≡ is_none (word (drop from line.now)) }
+fn is_none(w: &[u8]) -> bool
+    ensures { result ≡ is_none w.now }
 {
-    if word_end(line, from) - from != 1 {
+    if w.len() != 1 {
         return false;
     }
-    line[from] == 45
+    w[0] == 45
 }
 
 // `bit0` or `bit1`.
-fn is_bit(line: &[u8], from: usize) -> bool
-    requires { from ≤ length line.now }
-    ensures { result ≡ is_bit (word (drop from line.now)) }
+fn is_bit(w: &[u8]) -> bool
+    ensures { result ≡ is_bit w.now }
 {
-    if word_end(line, from) - from != 4 {
+    if w.len() != 4 {
         return false;
     }
-    let b = line[from] == 98;
-    let i = line[from + 1] == 105;
-    let t = line[from + 2] == 116;
-    let value = digit_of(line[from + 3]) < 2;
+    let b = w[0] == 98;
+    let i = w[1] == 105;
+    let t = w[2] == 116;
+    let value = digit_of(w[3]) < 2;
     b & (i & (t & value))
 }
 
 // The single bit that a payload's word says, if it does.
-fn bit_in(line: &[u8], from: usize) -> Option<bool>
-    requires { from ≤ length line.now }
-    ensures { result ≡ bit_in (word (drop from line.now)) }
+fn bit_in(w: &[u8]) -> Option<bool>
+    ensures { result ≡ bit_in w.now }
 {
-    if is_bit(line, from) {
-        return Some(digit_of(line[from + 3]) == 1);
-    }
-    None
+    is_bit(w).then(|| digit_of(w[3]) == 1)
 }
 
-fn is_payload(line: &[u8], from: usize) -> bool
-    requires { from ≤ length line.now }
-    ensures { result ≡ is_payload (word (drop from line.now)) }
+fn is_payload(w: &[u8]) -> bool
+    ensures { result ≡ is_payload w.now }
 {
-    let bit = is_bit(line, from);
-    let none = is_none(line, from);
-    let bytes = are_bytes(line, from);
+    let bit = is_bit(w);
+    let none = is_none(w);
+    let bytes = are_bytes(w);
     bit | (none | bytes)
 }
 
 // The bytes of a payload's word at the front of `out`; how many.
-fn put_payload(line: &[u8], from: usize, out: &mut [u8]) -> usize
-    requires { (from ≤ length line.now) × (length line.now ≤ 2 * length out.old) }
-    ensures { take result out.new ≡ payload_in (word (drop from line.now)) }
+fn put_payload(w: &[u8], out: &mut [u8]) -> usize
+    requires { length w.now ≤ 2 * length out.old }
+    ensures { take result out.new ≡ payload_in w.now }
 {
-    if is_bit(line, from) {
+    if is_bit(w) {
         return 0;
     }
-    if is_none(line, from) {
+    if is_none(w) {
         return 0;
     }
-    put_bytes(line, from, out)
+    put_bytes(w, out)
 }
 
-fn fields_of(line: &[u8], counter: usize, payload: usize, downlink: usize) -> UplinkFields
-    requires { (counter ≤ length line.now) × (payload ≤ length line.now) × (downlink ≤ length line.now) }
-    ensures { result ≡ fields_of (word line.now) (word (drop counter line.now)) (word (drop payload line.now)) (word (drop downlink line.now)) }
+fn fields_of(device: &[u8], counter: &[u8], payload: &[u8], downlink: &[u8]) -> UplinkFields
+    ensures { result ≡ fields_of device.now counter.now payload.now downlink.now }
 {
-    let device = number(line, 0, 16, HIGHEST_DEVICE) as u32;
-    let n = number(line, counter, 10, MOST_COUNTER) as u16;
-    let bit = bit_in(line, payload);
-    let asks = number(line, downlink, 2, 1) == 1;
     UplinkFields {
-        device_id: device,
-        counter: n,
-        bit: bit,
-        downlink: asks,
+        device_id: number(device, 16, HIGHEST_DEVICE) as u32,
+        counter: number(counter, 10, MOST_COUNTER) as u16,
+        bit: bit_in(payload),
+        downlink: number(downlink, 2, 1) == 1,
     }
 }
 
@@ -255,24 +195,22 @@ pub fn parse(line: &[u8], payload: &mut [u8], auth: &mut [u8]) -> Option<Parsed>
     requires { (length line.now ≤ 2 * length payload.old) × (length line.now ≤ 2 * length auth.old) }
     ensures { meant result payload.new auth.new ≡ meaning line.now }
 {
-    let c = after(line, 0);
-    let p = after(line, c);
-    let w = after(line, p);
-    let a = after(line, w);
+    let (d, behind) = cut(line);
+    let (c, behind) = cut(behind);
+    let (p, behind) = cut(behind);
+    let (w, behind) = cut(behind);
+    let (a, _) = cut(behind);
     if count_spaces(line) != 4 {
         return None;
     }
-    let first = is_device(line, 0) & is_counter(line, c);
-    let ok = first & (is_payload(line, p) & (is_flag(line, w) & are_bytes(line, a)));
+    let first = has_digits(d, 8, 16) & is_counter(c);
+    let ok = first & (is_payload(p) & (has_digits(w, 1, 2) & are_bytes(a)));
     if !ok {
         return None;
     }
-    let n = put_payload(line, p, payload);
-    let m = put_bytes(line, a, auth);
-    let fields = fields_of(line, c, p, w);
     Some(Parsed {
-        fields: fields,
-        payload_len: n,
-        auth_len: m,
+        payload_len: put_payload(p, payload),
+        auth_len: put_bytes(a, auth),
+        fields: fields_of(d, c, p, w),
     })
 }

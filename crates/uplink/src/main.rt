@@ -7,32 +7,23 @@ ghost use Rattle.std.specs.Prelude.{◌≤◌, length};
 
 use limits::Refusal;
 use line::Parsed;
+use std::io;
 
 // The longest line.
 const MOST_LINE: usize = 512;
 
-// The repetition of a rank.
-fn print_rank(rt: &impl Print, out: &[u8], rank: usize, count: usize)
-    requires { (rank ≤ 2) × (count ≤ 212) }
-{
-    let from = writer::PLACES * rank;
-    let end = from + count;
-    if end <= out.len() {
-        replay::print_digits(rt, &out[from..end], count);
-        replay::print_end(rt);
-    }
-}
-
+// Each repetition in its line.
 fn print_written(rt: &impl Print, written: Result<usize, Refusal>, out: &[u8]) {
     match written {
         Err(refusal) => {
             replay::print_refusal(rt, refusal);
         }
         Ok(count) => {
-            if count <= writer::PLACES {
-                print_rank(rt, out, 0, count);
-                print_rank(rt, out, 1, count);
-                print_rank(rt, out, 2, count);
+            for repetition in out.chunks_exact(writer::PLACES) {
+                if let Some(bits) = repetition.get(..count) {
+                    replay::print_digits(rt, bits);
+                    replay::print_end(rt);
+                }
             }
         }
     }
@@ -71,32 +62,24 @@ fn print_line(rt: &impl Print, line: &[u8], number: u64)
     }
 }
 
-fn print_failure(rt: &impl Eprint) -> bool {
-    let _ = rt.eprintln("uplink: standard input can't be read");
-    false
-}
-
-// A line of standard input and what it prints; false at the end.
-fn turn(rt: &(impl Input + Print + Eprint), number: u64) -> bool {
-    let mut line = [0u8; 512];
-    match reading::next_line(rt, &mut line) {
-        Ok(None) => false,
-        Err(_) => print_failure(rt),
-        Ok(Some(n)) => {
-            if n <= MOST_LINE {
-                print_line(rt, &line[..n], number);
-            } else {
-                print_unknown(rt, number);
-            }
-            true
+// Every line of standard input and what it prints.
+fn print_lines(rt: &(impl Input + Print)) -> io::Result<()> {
+    for number in 1..replay::MOST_CASES {
+        let mut line = [0u8; 512];
+        let Some(n) = reading::next_line(rt, &mut line)? else {
+            break;
+        };
+        if n <= MOST_LINE {
+            print_line(rt, &line[..n], number);
+        } else {
+            print_unknown(rt, number);
         }
     }
+    Ok(())
 }
 
 fn main(rt: HostRuntime) {
-    for number in 1..replay::MOST_CASES {
-        if !turn(&rt, number) {
-            return;
-        }
+    if print_lines(&rt).is_err() {
+        let _ = rt.eprintln("uplink: standard input can't be read");
     }
 }

@@ -5,7 +5,7 @@ use mathlib.Core.List.{List, [], ◌∷◌, ◌++◌, map, append_assoc, append-
 use Prim.Native.Nat.{ℕ, suc, ◌+◌, ◌-◌, ◌*◌, ◌/◌, ◌%◌, ◌≤◌, ◌<◌}
 use native.Mathlib.Omega.{arith}
 use lib.ListN.{length, take, drop, replicate, length-append, length-replicate, drop_of_length-le, length-drop}
-use lib.Seq.{sets, sets-eq, take_at, take_all, take-length, drop-drop}
+use lib.Seq.{sets, sets-eq, take_at, take_all, drop-drop}
 use borrow.Author.Tests.{lt-ltb, le-ltb, eq-eqb, ne_eqb}
 use borrow.Rule.Slice.PartMut.{put_mid}
 use Rattle.limits.specs.Limits.{short, bad_uplink}
@@ -100,9 +100,9 @@ module _ (f : UplinkFields) (payload auth : List ℕ) (room : header_size + leng
 
   -- header, payload and authentication
   pub covered-stored : (a b : List ℕ) (at : ℕ) → a ≡ sets (replicate most_bytes 0) 0 (header_bytes f payload) → at ≡ header_size + length payload
-      → b ≡ sets a at (take (length auth) (drop 0 auth)) → b ≡ sets (replicate most_bytes 0) 0 (header_bytes f payload ++ auth)
+      → b ≡ sets a at auth → b ≡ sets (replicate most_bytes 0) 0 (header_bytes f payload ++ auth)
   covered-stored a b at ea e eb =
-      eb ∙ ap₂ (λ (l v : List ℕ). sets l at v) ea (take-length auth)
+      eb ∙ ap (λ (l : List ℕ). sets l at auth) ea
       ∙ sets_then (replicate most_bytes 0) 0 (header_bytes f payload) auth at (omega (arith, length_header f payload))
 
   pub covered_read : (b : List ℕ) (n : ℕ) → b ≡ sets (replicate most_bytes 0) 0 (header_bytes f payload ++ auth) → n ≡ header_size + length payload + length auth

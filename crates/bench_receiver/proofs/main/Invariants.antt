@@ -1,8 +1,5 @@
 use Rattle.receiver_grown.specs.Grown.{Grown}
 use Rattle.bench_receiver.proofs.main.Given as goal
 
-abbrev pub invariant-loop-left : goal.invariant-loop-left
-invariant-loop-left l = Grown l.s.receiver l.samples
-
-abbrev pub decreases-loop-left : goal.decreases-loop-left
-decreases-loop-left l = l.left
+abbrev pub invariant-loop : goal.invariant-loop
+invariant-loop l = Grown l.s.receiver l.lent.samples.now

@@ -17,10 +17,10 @@ pub add_raw-requires : goal.add_raw-requires
 add_raw-requires c = c.adds.ensures c.if-adds.true
 
 pub returns-then-adds : goal.returns-then-adds
-returns-then-adds c = grown-raw c.args.raw.now _ c.add_raw.ensures c.requires
+returns-then-adds c = grown-raw c.args.raw.now _ c.add_raw.ensures.answered c.requires
 
 pub returns : goal.returns
 returns c =
     let p = c.push_raw-answer in
-    let g = grown-raw c.args.raw.now _ p.ensures c.requires in
+    let g = grown-raw c.args.raw.now _ p.ensures.answered c.requires in
     rw c.note.ensures (rw (left p.result p.new.self) at g)

@@ -1,6 +1,6 @@
-use Rattle.std.proofs.Common.{◌<◌, length, sym, ap, ◌∙◌, arith}
+use Rattle.std.proofs.Common.{sym, refl, ap, ◌∙◌, arith}
 use lib.Ieee.{Float, binary64, add}
-use Rattle.bursts.proofs.SearchLaws.{search_start, search-end, search_none, search-found, search_short, search-early}
+use Rattle.bursts.proofs.SearchLaws.{first-found, first_none, search_start, search-end, search_none, search-found, search_short, search-early}
 use Rattle.bursts.proofs.search_bursts.Goals.{then-from-first+else-is_long, else-from-first}
 use Rattle.bursts.proofs.search_bursts.Goals as goal
 
@@ -12,50 +12,30 @@ loop-i-init c =
           (ap (λ (x : Float). add binary64 x a.options.above_db) c.f32_to_f64_with_nan.ensures) c.gap_samples-gap.ensures,
     )
 
-pub returns-then-first-dbm : goal.returns-then-first-dbm
-returns-then-first-dbm c =
+pub returns-in_err-first : goal.returns-in_err-first
+returns-in_err-first c =
     let a = c.args in
-    search_none a.dbm.now a.rate a.options a.floor a.from _ _ c.loop-i.i _ c.loop-i.invariant.1 c.first_loud-first.result c.first_loud-first.ensures c.if-first-dbm.true
-
-pub last_loud-last-requires : goal.last_loud-last-requires
-last_loud-last-requires c =
-    omega (arith, c.first_loud-first.ensures.inside, c.if-first-dbm.false)
-
-pub is_long-requires : goal.is_long-requires
-is_long-requires c =
-    let l = c.last_loud-last.ensures in
-    (l.after, omega (arith, l.inside, c.requires.0))
-
-pub burst_of-requires : goal.burst_of-requires
-burst_of-requires c =
-    let l = c.last_loud-last.ensures in
-    (l.after, l.inside)
+    rw c.from_residual.ensures
+    (search_none a.dbm.now a.rate a.options a.floor a.from _ _ c.loop-i.i _ c.loop-i.invariant.1 _
+    (first_none _ a.dbm.now c.loop-i.i c.loop-i.invariant.0 (sym c.in_err-first.ensures)) refl)
 
 pub returns-then-is_long : goal.returns-then-is_long
 returns-then-is_long c =
     let l = c.last_loud-last in
-    let f = c.first_loud-first in
     let a = c.args in
-    search-found a.dbm.now a.rate a.options a.floor a.from _ _ c.loop-i.i _ c.loop-i.invariant.1 f.result f.ensures
-    (omega (arith, l.ensures.after, l.ensures.inside)) l.result l.ensures c.burst_of.result
+    let f = first-found _ a.dbm.now c.loop-i.i c.loop-i.invariant.0 c.in_ok-first.field-0 (sym c.in_ok-first.ensures) in
+    search-found a.dbm.now a.rate a.options a.floor a.from _ _ c.loop-i.i _ c.loop-i.invariant.1 _ f.0 f.1 l.result l.ensures c.burst_of.result
     c.if-from-first.true (sym c.is_long.ensures ∙ c.if-is_long.true) c.burst_of.ensures
-
-pub loop-i-smaller : goal.loop-i-smaller
-loop-i-smaller c =
-    let l = c.last_loud-last.ensures in
-    let f = c.first_loud-first.ensures in
-    omega (arith, l.after, l.inside, f.after)
 
 pub loop-i-preserved : goal.loop-i-preserved
 loop-i-preserved c =
     let l = c.last_loud-last in
-    let f = c.first_loud-first in
     let a = c.args in
-    let h : f.result < length a.dbm.now = omega (arith, l.ensures.after, l.ensures.inside) in (
+    let f = first-found _ a.dbm.now c.loop-i.i c.loop-i.invariant.0 c.in_ok-first.field-0 (sym c.in_ok-first.ensures) in (
       omega (arith, l.ensures.inside),
       elim c.if-from-first.branch [
-        | then-from-first+else-is_long w ↦ search_short a.dbm.now a.rate a.options a.floor a.from _ _ c.loop-i.i _ c.loop-i.invariant.1 f.result f.ensures h l.result l.ensures (sym w.is_long.ensures ∙ w.if-is_long.false)
-        | else-from-first w ↦ search-early a.dbm.now a.rate a.options a.floor a.from _ _ c.loop-i.i _ c.loop-i.invariant.1 f.result f.ensures h l.result l.ensures w.if-from-first.false
+        | then-from-first+else-is_long w ↦ search_short a.dbm.now a.rate a.options a.floor a.from _ _ c.loop-i.i _ c.loop-i.invariant.1 _ f.0 f.1 l.result l.ensures (sym w.is_long.ensures ∙ w.if-is_long.false)
+        | else-from-first w ↦ search-early a.dbm.now a.rate a.options a.floor a.from _ _ c.loop-i.i _ c.loop-i.invariant.1 _ f.0 f.1 l.result l.ensures w.if-from-first.false
       ],
     )
 

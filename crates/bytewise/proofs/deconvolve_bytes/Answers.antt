@@ -39,9 +39,9 @@ undo_into-s-requires c =
     let x = none a.bytes.now a.rest.now a.rank (length a.out.now) (length a.out_rest.now) (sym c.in_ok-check.ensures) in
     (x.ranked, c.number_of.ensures.1, x.fits)
 
-pub code_from-end-requires : goal.code_from-end-requires
+pub deconvolve_from-end-requires : goal.deconvolve_from-end-requires
 unfolding cause_of
-code_from-end-requires c =
+deconvolve_from-end-requires c =
     let a = c.args in
     let x = none a.bytes.now a.rest.now a.rank (length a.out.now) (length a.out_rest.now) (sym c.in_ok-check.ensures) in
     (x.all, x.rest-fits, omega (arith, c.undo_into-s.ensures.2))
@@ -62,7 +62,7 @@ returns c =
     let h = c.in_ok-check.ensures in
     let n = c.number_of in
     let m = c.undo_into-s in
-    let w = c.code_from-end in (
+    let w = c.deconvolve_from-end in (
       ap accepted (c.state_of.ensures ∙ w.ensures.1 ∙ state_is_lem b t a.rank n.result m.result s n.ensures.0 m.ensures.1)
           ∙ accepted_answer k h (state_after s plain),
       m.ensures.0 ∙ ap (λ (l : List ℕ). l ++ drop (length b) o) (bytes_are b t a.rank n.result m.result s n.ensures.0 m.ensures.1)

@@ -1,7 +1,7 @@
 -- The invariant: what is written, what is left to do and what is kept make the whole.
 use mathlib.Core.Path.{◌≡◌}
 use mathlib.Core.List.{◌++◌}
-use Prim.Native.Nat.{◌-◌, ◌≤◌, ◌<◌}
+use Prim.Native.Nat.{◌<◌}
 use lib.ListN.{length, drop}
 use Rattle.bytewise.specs.Steps.{by_bytes, state_bytes}
 use Rattle.bytewise.proofs.Turns.{whole}

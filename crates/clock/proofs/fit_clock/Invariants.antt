@@ -3,4 +3,4 @@ use Rattle.clock.proofs.FitLaws.{FitAt}
 use Rattle.clock.proofs.fit_clock.Given as goal
 
 abbrev pub invariant-loop-i : goal.invariant-loop-i
-invariant-loop-i l = FitAt l.initial.clock l.n l.initial.dips l.dips l.clock l.i
+invariant-loop-i l = FitAt l.initial.clock l.initial.dips l.initial.depths l.dips l.depths l.clock l.i

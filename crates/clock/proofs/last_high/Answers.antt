@@ -19,4 +19,4 @@ pub returns : goal.returns
 returns c =
     let a = c.args in
     let e : c.loop-i.i - 1 ≡ 0 = omega arith in
-    (sym e ∙ high_none a.limit a.seg.now _ (c.loop-i.i - 1) e c.loop-i.invariant.1, c.requires)
+    (sym e ∙ high_none a.limit a.seg.now _ (c.loop-i.i - 1) e c.loop-i.invariant.1, omega arith)

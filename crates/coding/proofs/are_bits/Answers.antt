@@ -1,11 +1,7 @@
-use mathlib.Core.Path.{refl}
 use native.Mathlib.Omega.{arith}
 use Rattle.coding.specs.Bits.{are_bits}
 use Rattle.coding.proofs.BitLaws.{bits-turn, bits_end}
 use Rattle.coding.proofs.are_bits.Goals as goal
-
-pub loop-b-init : goal.loop-b-init
-loop-b-init c = refl
 
 pub loop-b-preserved : goal.loop-b-preserved
 loop-b-preserved c =

@@ -8,7 +8,7 @@ use lib.Seq.{take-suc, take_all}
 use Rattle.coding.specs.Bits.{digits, bytes_bits}
 use Rattle.coding.specs.Register.{run}
 use Rattle.coding.specs.Crc.{crc_of}
-use Rattle.coding.proofs.Division.{crc_is, run-lt, run-append, bytes_snoc}
+use Rattle.coding.proofs.Division.{crc_is, run-append, bytes_snoc}
 use Rattle.coding.proofs.crc16.Goals as goal
 
 pub loop-b-init : goal.loop-b-init
@@ -23,9 +23,6 @@ more bytes i h =
 pub loop-b-preserved : goal.loop-b-preserved
 loop-b-preserved c =
     c.crc_byte-c.ensures ∙ ap (λ (x : ℕ). run x (digits 8 (get_or c.args.«data».now c.loop-b.b-index 0))) c.loop-b.invariant ∙ more c.args.«data».now c.loop-b.b-index (omega arith)
-
-pub overflow_sub-result : goal.overflow_sub-result
-overflow_sub-result c = omega (arith, run-lt (bytes_bits (take c.loop-b.b-index c.args.«data».now)) 0 (omega arith))
 
 pub returns : goal.returns
 unfolding crc_of

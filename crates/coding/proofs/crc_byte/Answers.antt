@@ -8,5 +8,5 @@ use Rattle.coding.proofs.crc_byte.Goals as goal
 pub returns : goal.returns
 returns c =
     let a = c.args in
-    ap (λ (y : ℕ). bit_xor (a.c % 256 * 256) (bit_xor (bit_xor (y % 16 * 4096) (y * 32)) y)) c.wide-y.ensures.0
+    ap (λ (y : ℕ). bit_xor (a.c % 256 * 256) (bit_xor (bit_xor (y % 16 * 4096) (y * 32)) y)) c.from-y.ensures
     ∙ byte_more a.c a.b (omega arith) (omega arith)

@@ -2,23 +2,18 @@ use Rattle.std.proofs.Common.{◌≡◌, ◌<◌, map, sym, ◌∙◌, arith, lt
 use Rattle.dips.specs.Numbers.{most_dips}
 use Rattle.dips.specs.Dips.{depth_of, is_dip, dip_indices, dip_at, found_in}
 use Rattle.dips.proofs.DipLaws.{tested-deep, tested_other, dips_left, stored_start, stored-few, stored-dip, stored_other, stored_end}
-use Rattle.dips.proofs.dips_into.Goals.{After-dip_centre}
+use Rattle.dips.proofs.dips_into.Goals.{After-centre}
 use Rattle.dips.proofs.dips_into.Goals as goal
 
 pub loop-i-init : goal.loop-i-init
 unfolding found_in dip_indices
 loop-i-init c =
     let a = c.args in
-    let win = c.side_window-win.result in
-    let half = c.half_window-half.result in
+    let win = c.new-windows.result.side in
+    let half = c.new-windows.result.half in
     let e : found_in a.samples.dbm.now a.samples.rate a.level ≡ map (dip_at win a.samples.dbm.now) (dips_left a.level win half a.samples.dbm.now 1) =
-    rw (c.side_window-win.ensures.0, c.half_window-half.ensures.0) in
+    rw (c.new-windows.ensures.0, c.new-windows.ensures.1) in
     (omega arith, omega arith, omega arith, stored_start a.level win half a.samples.dbm.now c.args.samples.valid (found_in a.samples.dbm.now a.samples.rate a.level) a.dips.now e)
-
-pub dip_depth-requires : goal.dip_depth-requires
-dip_depth-requires c =
-    let h = c.half_window-half.ensures in
-    (c.loop-i.invariant.0, c.loop-i-test.true, omega (arith, c.args.samples.high, c.args.samples.short), omega (arith, c.side_window-win.ensures.1), omega (arith, h.2), h.1)
 
 pub overflow_add-i-in-None : goal.overflow_add-i-in-None
 overflow_add-i-in-None c = omega (arith, c.loop-i.invariant.1)
@@ -29,9 +24,9 @@ loop-i-smaller-in-None c = omega (arith, c.loop-i-test.true)
 pub loop-i-preserved-in-None : goal.loop-i-preserved-in-None
 loop-i-preserved-in-None c =
     let a = c.args in
-    let win = c.side_window-win.result in
-    let half = c.half_window-half.result in
-    let t = c.dip_depth in (
+    let win = c.new-windows.result.side in
+    let half = c.new-windows.result.half in
+    let t = c.depth in (
       omega (arith, c.loop-i.invariant.0),
       omega (arith, c.args.samples.high, c.args.samples.short, c.loop-i-test.true),
       c.loop-i.invariant.2,
@@ -39,15 +34,11 @@ loop-i-preserved-in-None c =
           (tested_other _ (depth_of win a.samples.dbm.now c.loop-i.i) (sym c.in-None.is ∙ t.ensures)),
     )
 
-few : (c : After-dip_centre) → c.loop-i.n < most_dips
+few : (c : After-centre) → c.loop-i.n < most_dips
 few c =
     let a = c.args in
-    stored-few a.level c.side_window-win.result c.half_window-half.result a.samples.dbm.now c.args.samples.valid (found_in a.samples.dbm.now a.samples.rate a.level) a.dips.now
-    c.loop-i.n c.loop-i.i c.loop-i.dips c.loop-i.invariant.3 a.samples.rate c.half_window-half.ensures.3 c.args.samples.short c.loop-i-test.true
-
-pub dip_centre-requires : goal.dip_centre-requires
-dip_centre-requires c =
-    (omega (arith, c.loop-i.invariant.0), c.loop-i-test.true, omega (arith, c.args.samples.high, c.args.samples.short))
+    stored-few a.level c.new-windows.result.side c.new-windows.result.half a.samples.dbm.now c.args.samples.valid (found_in a.samples.dbm.now a.samples.rate a.level) a.dips.now
+    c.loop-i.n c.loop-i.i c.loop-i.dips c.loop-i.invariant.3 a.samples.rate c.new-windows.ensures.2 c.args.samples.short c.loop-i-test.true
 
 pub offset_bounds-dips-n : goal.offset_bounds-dips-n
 offset_bounds-dips-n c = omega (arith, few c)
@@ -64,16 +55,16 @@ offset_bounds-dips-n-in-Some c = omega (arith, few c)
 
 pub bounds-dips-n-in-Some : goal.bounds-dips-n-in-Some
 bounds-dips-n-in-Some c =
-    lt-length-set c.loop-i.dips c.loop-i.n c.dip_centre.result (omega (arith, few c, c.loop-i.invariant.3.size, c.requires))
+    lt-length-set c.loop-i.dips c.loop-i.n c.centre.result (omega (arith, few c, c.loop-i.invariant.3.size, c.requires))
 
 pub overflow_add-n : goal.overflow_add-n
 overflow_add-n c = omega (arith, few c)
 
 pub overflow_add-i-in-Some : goal.overflow_add-i-in-Some
-overflow_add-i-in-Some c = omega (arith, c.half_window-half.ensures.2)
+overflow_add-i-in-Some c = omega (arith, c.new-windows.result.narrow_half)
 
 pub overflow_add-i-in-Some-2 : goal.overflow_add-i-in-Some-2
-overflow_add-i-in-Some-2 c = omega (arith, c.half_window-half.ensures.2, c.loop-i.invariant.1)
+overflow_add-i-in-Some-2 c = omega (arith, c.new-windows.result.narrow_half, c.loop-i.invariant.1)
 
 pub loop-i-smaller : goal.loop-i-smaller
 loop-i-smaller c = omega (arith, c.loop-i-test.true)
@@ -81,20 +72,21 @@ loop-i-smaller c = omega (arith, c.loop-i-test.true)
 pub loop-i-preserved : goal.loop-i-preserved
 loop-i-preserved c =
     let a = c.args in
-    let win = c.side_window-win.result in
-    let half = c.half_window-half.result in
-    let t = tested-deep (is_dip a.level win half a.samples.dbm.now c.loop-i.i) (depth_of win a.samples.dbm.now c.loop-i.i) _ (sym c.in-Some.is ∙ c.dip_depth.ensures) in (
+    let e = (goal.at.loop-i-preserved c).After-centre in
+    let win = c.new-windows.result.side in
+    let half = c.new-windows.result.half in
+    let t = tested-deep (is_dip a.level win half a.samples.dbm.now c.loop-i.i) (depth_of win a.samples.dbm.now c.loop-i.i) _ (sym c.in-Some.is ∙ c.depth.ensures) in (
       omega (arith, c.loop-i.invariant.0),
-      omega (arith, c.args.samples.high, c.args.samples.short, c.loop-i-test.true, c.half_window-half.ensures.2),
-      omega (arith, few c),
+      omega (arith, c.args.samples.high, c.args.samples.short, c.loop-i-test.true, c.new-windows.result.narrow_half),
+      omega (arith, few e),
       stored-dip a.level win half a.samples.dbm.now c.args.samples.valid (found_in a.samples.dbm.now a.samples.rate a.level) a.dips.now c.loop-i.n c.loop-i.i c.loop-i.dips c.loop-i.invariant.3
-          c.dip_centre.result c.in-Some.depth (omega (arith, few c)) (omega (arith, few c, c.loop-i.invariant.3.size, c.requires)) c.loop-i-test.true t.0 c.dip_centre.ensures t.1,
+          c.centre.result c.in-Some.depth (omega (arith, few e)) (omega (arith, few e, c.loop-i.invariant.3.size, c.requires)) c.loop-i-test.true t.0 c.centre.ensures t.1,
     )
 
 pub returns : goal.returns
 returns c =
     let a = c.args in (
-      stored_end a.level c.side_window-win.result c.half_window-half.result a.samples.dbm.now c.args.samples.valid (found_in a.samples.dbm.now a.samples.rate a.level) a.dips.now c.loop-i.n c.loop-i.i c.loop-i.dips
+      stored_end a.level c.new-windows.result.side c.new-windows.result.half a.samples.dbm.now c.args.samples.valid (found_in a.samples.dbm.now a.samples.rate a.level) a.dips.now c.loop-i.n c.loop-i.i c.loop-i.dips
           c.loop-i.invariant.3 (omega (arith, c.loop-i-test.false)),
       c.loop-i.invariant.2,
     )

@@ -1,14 +1,10 @@
 -- The table holds what was read, and the bytes are counted up.
 use Rattle.std.proofs.Common.{rules, [], arith}
-use Rattle.fleet_sheet.proofs.StandLaws.{held_none}
 use Rattle.fleet.proofs.main.Goals as goal
 
 pub loop-bytes-init : goal.loop-bytes-init
 loop-bytes-init c =
     let r = c.no_records in (
       search rules,
-      search rules,
-      search rules,
-      search rules,
-      (omega (arith, r.ensures.0), record { messages = []; held = held_none r.result _ _ r.ensures.1 (search rules) (search rules) }),
+      (omega (arith, r.ensures.0), record { messages = []; held = c.no_rows-table.ensures r.result r.ensures.1 }),
     )

@@ -4,8 +4,8 @@ use Rattle.fleet.proofs.main.Given as goal
 
 abbrev pub invariant-loop-bytes : goal.invariant-loop-bytes
 invariant-loop-bytes l =
-    (length l.part ≡ 61440) × (length l.ids ≡ 256) × (length l.sums ≡ 1792) × (length l.hints ≡ 4096)
-    × IfOk l.tally (λ t. (120 * t.«records» ≤ l.bytes) × Tallied t l.ids l.sums)
+    (length l.part ≡ 61440)
+    × IfOk l.tally (λ t. (120 * t.«records» ≤ l.bytes) × Tallied t l.table)
 
 abbrev pub decreases-loop-bytes : goal.decreases-loop-bytes
 decreases-loop-bytes l = 120000001 - l.bytes

@@ -2,7 +2,6 @@ use Rattle.std.proofs.Common.{[], arith, rules}
 use Rattle.event_list.specs.Events.{list_ok}
 use Rattle.event_list.proofs.EventLaws.{when_ok, when_bad}
 use Rattle.fleet_sheet.specs.Report.{fleet_messages}
-use Rattle.fleet_sheet.proofs.StandLaws.{held_none}
 use Rattle.fleet_sheet.proofs.ReportLaws.{says_short, says_long, says_bad, says_read}
 use Rattle.fleet_sheet.proofs.fleet_report.Goals as goal
 
@@ -19,32 +18,29 @@ returns-then-records-gt-MOST_RECORD_BYTES c =
 pub read_records-requires : goal.read_records-requires
 read_records-requires c = (
   omega (arith, c.no_records.ensures.0, c.if-records-gt-MOST_RECORD_BYTES.false),
-  search rules,
-  record { messages = []; held = held_none c.no_records.result _ _ c.no_records.ensures.1 (search rules) (search rules) },
+  record { messages = []; held = c.no_rows-table.ensures c.no_records.result c.no_records.ensures.1 },
 )
 
 pub returns-in_err-t : goal.returns-in_err-t
 returns-in_err-t c =
     let a = c.args in
     let l = a.«records».now in
-    let b = when_bad _ _ (list_ok l) _ c.in_err-t.ensures.1.answered in
+    let b = when_bad _ _ (list_ok l) _ c.in_err-t.ensures.answered in
     says_bad l a.rows.now (omega (arith, c.if-rows-lt-SHEET.false)) (omega (arith, c.if-records-gt-MOST_RECORD_BYTES.false)) b.0 c.from_residual.result c.in_err-t.field-0.0 c.from_residual.ensures.1 b.1
 
 pub report-requires : goal.report-requires
 report-requires c =
-    let r = c.in_ok-t.ensures.1 in
+    let r = c.in_ok-t.ensures in
     let t = when_ok _ _ (list_ok c.args.«records».now) _ r.answered in (
       search rules,
-      search rules,
-      search rules,
-      rw t.1 (record { messages = fleet_messages c.args.«records».now; held = r.adds [] (held_none c.no_records.result _ _ c.no_records.ensures.1 (search rules) (search rules)) }),
+      rw t.1 (record { messages = fleet_messages c.args.«records».now; held = r.adds [] (c.no_rows-table.ensures c.no_records.result c.no_records.ensures.1) }),
     )
 
 pub returns : goal.returns
 returns c =
     let a = c.args in
     let l = a.«records».now in
-    let r = c.in_ok-t.ensures.1 in
+    let r = c.in_ok-t.ensures in
     let t = when_ok _ _ (list_ok l) _ r.answered in
     says_read l a.rows.now (omega (arith, c.if-rows-lt-SHEET.false)) (omega (arith, c.if-records-gt-MOST_RECORD_BYTES.false)) t.0 c.report.result _
-    (c.report.ensures (fleet_messages l) (rw t.1 (r.adds [] (held_none c.no_records.result _ _ c.no_records.ensures.1 (search rules) (search rules)))))
+    (c.report.ensures (fleet_messages l) (rw t.1 (r.adds [] (c.no_rows-table.ensures c.no_records.result c.no_records.ensures.1))))

@@ -16,4 +16,4 @@ returns c =
     λ ms g.
     let st = g.gathered.under (omega (arith, c.if-n-gt-MOST_DEVICES.false)) in
     reports_rows ms a.rows.now a.t.devices _ st.many (omega (arith, st.many, st.room))
-    (w.ensures ∙ ap (sets a.rows.now 0) (nines_are a.ids.now a.sums.now a.t.devices ms st))
+    (w.ensures ∙ ap (sets a.rows.now 0) (nines_are ms a.table.now a.t.devices st))

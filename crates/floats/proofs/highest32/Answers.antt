@@ -1,11 +1,8 @@
-use Rattle.std.proofs.Common.{◌+◌, drop, sym, refl, ap, ◌∙◌, arith}
+use Rattle.std.proofs.Common.{◌+◌, drop, sym, ap, ◌∙◌, arith}
 use lib.Ieee.{Float}
 use Rattle.floats.specs.Fold.{max_from}
 use Rattle.floats.proofs.Folds.{max_step, max_end}
 use Rattle.floats.proofs.highest32.Goals as goal
-
-pub loop-x-init : goal.loop-x-init
-loop-x-init c = refl
 
 pub loop-x-preserved : goal.loop-x-preserved
 loop-x-preserved c =

@@ -1,56 +1,38 @@
-use mathlib.Core.Path.{◌≡◌, refl, sym, ap, ◌∙◌}
-use mathlib.Core.List.{map}
-use Prim.Native.Nat.{ℕ, suc, ◌+◌, ◌-◌}
-use native.Mathlib.Omega.{arith}
-use lib.ListN.{length, length-drop}
+use Rattle.std.proofs.Common.{ℕ, ◌+◌, List, map, length, ap, ap₂, ◌∙◌, arith}
+use lib.ListN.{length-drop}
 use Rattle.coding.specs.Bits.{odd, are_bits}
-use Rattle.coding.proofs.BitLaws.{bits-drop, length-map-odd}
-use Rattle.frame.specs.Kinds.{sync_size, kinds, kind_of}
-use Rattle.frame.specs.Decode.{decode_body, search_from, decode_uplink}
-use Rattle.frame.proofs.KindLaws.{found_class}
-use Rattle.frame.proofs.SearchLaws.{search_short, search-found, search-later, search_none, part_is, part-bits}
+use Rattle.coding.proofs.BitLaws.{bits-drop}
+use Rattle.frame.specs.Kinds.{sync_size}
+use Rattle.frame.specs.Decode.{decode_body}
+use Rattle.frame.specs.Types.{decoded_from}
+use Rattle.frame.specs.declared.kinds.FrameKind.{FrameKind}
+use Rattle.frame.proofs.SearchLaws.{part_is, part-bits}
+use Rattle.frame.proofs.TypeLaws.{decoded_there}
 use Rattle.frame.proofs.decode_bits.Goals as goal
 
-pub loop-start-init : goal.loop-start-init
-unfolding decode_uplink
-loop-start-init c = refl
+pub returns-in_err-found : goal.returns-in_err-found
+unfolding decoded_from
+returns-in_err-found c =
+    let m = map odd c.args.bits.now in
+    let e = c.in_err-found.ensures in
+    c.from_residual.ensures ∙ ap (decoded_from m) e.0 ∙ decoded_there m
 
-pub returns-then-bits-after : goal.returns-then-bits-after
-returns-then-bits-after c = let z = c.args.bits.now in
-    search_short (23 - c.loop-start.start) c.loop-start.start (map odd z) (omega (arith, c.if-bits-after.true, length-map-odd z)) ∙ c.loop-start.invariant
-
-pub word-requires : goal.word-requires
-word-requires c = (c.requires.0, omega arith)
-
-pub decode_body-requires : goal.decode_body-requires
-decode_body-requires c = let z = c.args.bits.now in
-    let n = c.loop-start.start + sync_size in
-    record {
-      bits = ap are_bits (part_is z n) ∙ bits-drop n z c.requires.0;
-      few = omega (arith, c.requires.1, ap length (part_is z n), length-drop n z);
-      class = found_class c.word.result c.in-Some.kind (sym c.find_kind.ensures ∙ c.in-Some.is);
-    }
-
-pub returns-in-Some : goal.returns-in-Some
-returns-in-Some c = let z = c.args.bits.now in
-    let m = map odd z in
-    let s = c.loop-start.start in
-    let kind = c.in-Some.kind in
-    let x : suc (23 - (s + 1)) ≡ 23 - s = omega arith in
-    c.decode_body.ensures ∙ ap (decode_body kind) (part-bits z (s + sync_size))
-    ∙ search-found (23 - (s + 1)) s m (omega (arith, c.if-bits-after.false, length-map-odd z)) c.find_kind.result
-    (c.find_kind.ensures ∙ ap (λ (w : ℕ). kind_of w kinds) c.word.ensures) kind c.in-Some.is
-    ∙ ap (λ (y : ℕ). search_from y s m) x ∙ c.loop-start.invariant
-
-pub loop-start-preserved : goal.loop-start-preserved
-loop-start-preserved c = let z = c.args.bits.now in
-    let m = map odd z in
-    let s = c.loop-start.start in
-    let x : suc (23 - (s + 1)) ≡ 23 - s = omega arith in
-    search-later (23 - (s + 1)) s m (omega (arith, c.if-bits-after.false, length-map-odd z)) c.find_kind.result
-    (c.find_kind.ensures ∙ ap (λ (w : ℕ). kind_of w kinds) c.word.ensures) c.in_default.is
-    ∙ ap (λ (y : ℕ). search_from y s m) x ∙ c.loop-start.invariant
+pub new-requires : goal.new-requires
+new-requires c =
+    let z = c.args.bits.now in
+    let n = c.in_ok-found.found.start + sync_size in (
+      ap are_bits (part_is z n) ∙ bits-drop n z c.requires.0,
+      omega (arith, c.requires.1, ap length (part_is z n), length-drop n z),
+      c.in_ok-found.ensures.1.1,
+    )
 
 pub returns : goal.returns
-returns c = let z = c.args.bits.now in
-    search_none (23 - c.loop-start.start) c.loop-start.start (map odd z) (omega arith) ∙ c.loop-start.invariant
+unfolding decoded_from
+returns c =
+    let z = c.args.bits.now in
+    let t = c.in_ok-found.found in
+    c.decode.ensures
+    ∙ ap₂ (λ (k : FrameKind) (l : List ℕ). decode_body k (map odd l)) c.new.ensures.1 c.new.ensures.0
+    ∙ ap (decode_body t.kind) (part-bits z (t.start + sync_size))
+    ∙ ap (decoded_from (map odd z)) c.in_ok-found.ensures.0
+    ∙ decoded_there (map odd z)

@@ -11,9 +11,6 @@ pub returns-then-not-are_bits : goal.returns-then-not-are_bits
 unfolding said_by
 returns-then-not-are_bits c = answer_bad c.args.bits.now c.if-bits-gt-MOST_BITS.false (sym c.are_bits.ensures ∙ c.if-not-are_bits.true)
 
-pub decode_bits-requires : goal.decode_bits-requires
-decode_bits-requires c = (sym c.are_bits.ensures ∙ c.if-not-are_bits.false, c.if-bits-gt-MOST_BITS.false)
-
 pub returns : goal.returns
 unfolding said_by
 returns c = ap accepted c.decode_bits.ensures

@@ -25,7 +25,7 @@ returns-then-not-in_order c =
 pub numbers_ok-requires : goal.numbers_ok-requires
 numbers_ok-requires c =
     let a = c.args in
-    (ordered_of a.t.now (lists a.at.now a.lo.now a.hz.now a.tuned.now a.freq.now) (sym c.in_order.ensures ∙ c.if-not-in_order.false)).r.places.hzs
+    (ordered_of a.t.now (lists a.readings.now a.tunings.now) (sym c.in_order.ensures ∙ c.if-not-in_order.false)).r.places
 
 pub returns-then-not-numbers_ok : goal.returns-then-not-numbers_ok
 unfolding cause_of cause_next

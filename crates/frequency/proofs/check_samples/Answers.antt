@@ -36,7 +36,7 @@ returns-then-not-in_order_looked c =
 pub overflow_add-t : goal.overflow_add-t
 overflow_add-t c =
     let a = c.args in
-    let o = ordered_of a.t.now (lists a.at.now a.lo.now a.hz.now a.tuned.now a.freq.now) (sym c.in_order_looked.ensures ∙ c.if-not-in_order_looked.false) in
+    let o = ordered_of a.t.now (lists a.readings.now a.tunings.now) (sym c.in_order_looked.ensures ∙ c.if-not-in_order_looked.false) in
     let h = o.t.signals.stream in
     record { fits = omega arith }
 
@@ -48,7 +48,7 @@ returns-then-t-dbm-gt-LONGEST_STREAM c =
 pub numbers_ok-requires : goal.numbers_ok-requires
 numbers_ok-requires c =
     let a = c.args in
-    (ordered_of a.t.now (lists a.at.now a.lo.now a.hz.now a.tuned.now a.freq.now) (sym c.in_order_looked.ensures ∙ c.if-not-in_order_looked.false)).r.places.hzs
+    (ordered_of a.t.now (lists a.readings.now a.tunings.now) (sym c.in_order_looked.ensures ∙ c.if-not-in_order_looked.false)).r.places
 
 pub returns-then-not-numbers_ok : goal.returns-then-not-numbers_ok
 unfolding cause_of cause_samples

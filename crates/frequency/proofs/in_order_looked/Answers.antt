@@ -4,4 +4,4 @@ use Rattle.frequency.proofs.in_order_looked.Goals as goal
 pub returns-then-settled : goal.returns-then-settled
 returns-then-settled c =
     let a = c.args in
-    both_ordered a.t.now a.at.now a.lo.now a.hz.now a.tuned.now a.freq.now _ _ c.tunings_in_order-a.ensures c.fits_readings.ensures (c.requires c.if-settled.true)
+    both_ordered a.t.now a.readings.now a.tunings.now _ _ c.tunings_in_order-a.ensures c.fits_readings.ensures (c.requires c.if-settled.true)

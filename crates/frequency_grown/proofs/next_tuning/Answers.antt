@@ -12,7 +12,7 @@ pub returns-then-out-t : goal.returns-then-out-t
 unfolding cause_of
 returns-then-out-t c =
     let a = c.args in
-    let l = lists a.at.now a.lo.now a.hz.now a.tuned.now a.freq.now in
+    let l = lists a.readings.now a.tunings.now in
     record {
       refusal = sym (next-cause a.t.now l c.requires (length a.out.now) ∙ chosen 2 _ (lt-ltb _ _ c.if-out-t.true));
       state = λ e. absurd (omega arith);
@@ -25,7 +25,7 @@ returns-then-out-t c =
 pub choose_tuning-requires : goal.choose_tuning-requires
 choose_tuning-requires c =
     let a = c.args in
-    next-cause a.t.now (lists a.at.now a.lo.now a.hz.now a.tuned.now a.freq.now) c.requires (length a.out.now) ∙ passed 2 _ (le-ltb _ _ c.if-out-t.false)
+    next-cause a.t.now (lists a.readings.now a.tunings.now) c.requires (length a.out.now) ∙ passed 2 _ (le-ltb _ _ c.if-out-t.false)
 
 pub returns : goal.returns
 unfolding cause_of

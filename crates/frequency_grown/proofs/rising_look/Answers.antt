@@ -1,15 +1,16 @@
+use Rattle.std.proofs.Common.{ℕ, sym, subst}
+use lib.ListN.{take}
+use lib.Seq.{length-take-le}
+use Rattle.frequency_lists.specs.Lists.{ats}
 use Rattle.frequency_retain.specs.Retain.{Leads}
 use Rattle.frequency_grown.proofs.RisingLaws.{front-leads}
-use Prim.Native.Nat.{ℕ}
-use mathlib.Core.Path.{subst}
 use Rattle.frequency_grown.proofs.rising_look.Goals as goal
 
-pub leading-requires : goal.leading-requires
-leading-requires c = c.requires.2
+pub slice_bounds-leading-end : goal.slice_bounds-leading-end
+slice_bounds-leading-end c = sym (length-take-le c.args.t.now.readings c.args.readings.now c.requires.2)
 
 pub returns : goal.returns
 returns c =
     let a = c.args in
-    let lead = c.leading.result in
-    subst (λ (z : ℕ). Leads z a.t.now.readings lead a.at.now) c.oldest-low.ensures
-    (front-leads c.oldest-low.result a.t.now.readings lead a.at.now c.requires.2 c.requires.3 c.leading.ensures)
+    let held = take a.t.now.readings a.readings.now in
+    subst (λ (z : ℕ). Leads z c.leading.result (ats held)) c.oldest-low.ensures (front-leads c.oldest-low.result c.leading.result held c.requires.3 c.leading.ensures)

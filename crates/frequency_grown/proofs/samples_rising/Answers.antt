@@ -6,8 +6,8 @@ use Rattle.frequency_grown.proofs.samples_rising.Goals as goal
 pub rising_look-lead-requires : goal.rising_look-lead-requires
 rising_look-lead-requires c =
     let a = c.args in
-    let o = ordered_of a.t.now (lists a.at.now a.lo.now a.hz.now a.tuned.now a.freq.now) c.requires.0.order in
-    (o.t.signals.stream, omega (arith, c.well_formed.1.0.1), o.r.places.ats, c.requires.1)
+    let o = ordered_of a.t.now (lists a.readings.now a.tunings.now) c.requires.0.order in
+    (o.t.signals.stream, omega (arith, c.well_formed.1.0.1), o.r.places, c.requires.1)
 
 pub hear-requires : goal.hear-requires
 hear-requires c = (c.requires.0, c.rising_look-lead.ensures)

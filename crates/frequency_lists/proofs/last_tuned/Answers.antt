@@ -1,9 +1,9 @@
-use Rattle.std.proofs.Common.{sym, pos_of_ne-zero}
-use Rattle.frequency_lists.proofs.Lasts.{last_none, last_at}
+use Rattle.frequency_lists.specs.declared.Tuning.{Tuning}
+use Rattle.frequency_lists.proofs.Lasts.{last_none, last_some}
 use Rattle.frequency_lists.proofs.last_tuned.Goals as goal
 
-pub returns-then-count-eq0 : goal.returns-then-count-eq0
-returns-then-count-eq0 c = sym (last_none c.args.count c.args.tuned.now 0 c.if-count-eq0.true)
+pub returns-in_default : goal.returns-in_default
+returns-in_default c = last_none (λ (u : Tuning). u.at) _ 0 c.last.result c.args.tunings.now c.last.ensures.value c.in_default.is
 
 pub returns : goal.returns
-returns c = sym (last_at c.args.count c.args.tuned.now 0 0 (pos_of_ne-zero c.if-count-eq0.false) c.requires)
+returns c = last_some (λ (u : Tuning). u.at) _ 0 c.last.result c.args.tunings.now c.last.ensures.value _ c.in-Some.is

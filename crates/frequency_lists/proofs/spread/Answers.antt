@@ -1,17 +1,12 @@
-use Rattle.frequency_lists.proofs.Reach.{reach-join}
-use Rattle.std.proofs.Common.{arith}
+use Rattle.std.proofs.Common.{◌∙◌, sym, arith}
+use Rattle.frequency_lists.specs.Lists.{ats}
+use Rattle.frequency_lists.specs.declared.Reading.{Reading}
+use Rattle.frequency_lists.proofs.Gather.{map_at}
+use Rattle.frequency_lists.proofs.Reach.{reach_more}
 use Rattle.frequency_lists.proofs.spread.Goals as goal
 
-pub loop-i-init : goal.loop-i-init
-loop-i-init c = (omega arith, omega arith, λ j a b. absurd (omega arith))
-
-pub loop-i-preserved : goal.loop-i-preserved
-loop-i-preserved c =
-    let p = c.spread_part-bits in
-    let i = c.loop-i.i in
-    (omega arith, omega arith, reach-join c.args.at.now c.args.low p.result c.loop-i.bits _ i c.args.count p.ensures c.loop-i.invariant.2)
-
-pub returns : goal.returns
-returns c =
-    let p = c.spread_part in
-    reach-join c.args.at.now c.args.low p.result c.loop-i.bits c.args.first c.loop-i.i c.args.count p.ensures c.loop-i.invariant.2
+pub loop-x-preserved : goal.loop-x-preserved
+loop-x-preserved c =
+    let w = c.wrapping_sub_u64-bits in
+    let e = map_at (λ (x : Reading). x.at) c.args.readings.now c.loop-x.x-index _ 0 c.loop-x-test.true in
+    reach_more (ats c.args.readings.now) c.args.low c.loop-x.bits w.result c.loop-x.x-index (omega arith) (omega arith) (w.ensures.value ∙ sym e) c.loop-x.invariant

@@ -1,7 +1,7 @@
-use Rattle.std.proofs.Common.{map, take}
-use Rattle.frequency_measure.specs.Measured.{inside}
-use Rattle.frequency_measure.specs.Gathered.{IsLast}
+use Rattle.std.proofs.Common.{◌≡◌, None, drop}
+use Rattle.std.specs.List.{last_or}
+use Rattle.frequency_measure.specs.Gathered.{in_frame, los}
 use Rattle.frequency_measure.proofs.last_lo.Given as goal
 
-abbrev pub invariant-loop-i : goal.invariant-loop-i
-invariant-loop-i l = IsLast (take l.i (map (inside l.first l.past) (take l.count l.at))) l.lo l.last
+abbrev pub invariant-loop-x : goal.invariant-loop-x
+invariant-loop-x l = last_or l.last (los (in_frame l.frame.first l.frame.past (drop l.x-index l.readings))) ≡ last_or None (los (in_frame l.frame.first l.frame.past l.readings))

@@ -6,4 +6,4 @@ pub returns : goal.returns
 returns c =
     let a = c.args in
     let l = c.leading-lead in
-    rw c.then_some.ensures (if-then_some _ _ _ (λ e. looked_of a.low a.limit a.count l.result c.spread.result a.at.now (omega arith) l.ensures.0 (omega arith) (omega arith) l.ensures.1 c.spread.ensures (leb-true _ _ e)))
+    rw c.then_some.ensures (if-then_some _ _ _ (λ e. looked_of a.low a.limit l.result c.spread.result a.readings.now l.ensures.0 (omega arith) (omega arith) l.ensures.1 c.spread.ensures (leb-true _ _ e)))

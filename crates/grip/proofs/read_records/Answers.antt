@@ -1,10 +1,10 @@
 use Rattle.std.proofs.Common.{◌≡◌, ◌<◌, length, refl, sym, ap, ◌∙◌, arith, length-append}
 use Rattle.std.specs.Slice.Iter.{chunks_exact_rest}
 use Rattle.limits.specs.Limits.{record_size}
-use Rattle.event_list.specs.Events.{events_of, list_ok}
+use Rattle.event_list.specs.Events.{events_of, list_ok, record_ok}
 use Rattle.event_list.proofs.EventLaws.{ok_next, ok_last}
 use Rattle.grip.specs.declared.Best.{Best}
-use Rattle.grip.specs.Reading.{looks}
+use Rattle.grip.specs.Reading.{looks, looked}
 use Rattle.grip.proofs.NearLaws.{looks-next, looks-last, looked-count}
 use Rattle.grip.proofs.read_records.Goals as goal
 
@@ -20,7 +20,7 @@ looked_at-best-requires c =
     let s = c.in-Some.ensures.steps in
     let whole = s.1.1 ∙ l.invariant.size in
     let split = ap length s.1.0 ∙ length-append c.in-Some.r.now (chunks_exact_rest c.next.new.self) in
-    (omega arith, omega (arith, l.invariant.count, c.requires))
+    omega (arith, split, whole, l.invariant.count, c.requires)
 
 pub loop-r-preserved : goal.loop-r-preserved
 loop-r-preserved c =
@@ -29,12 +29,12 @@ loop-r-preserved c =
     let s = c.in-Some.ensures.steps in
     let split = s.1.0 in
     let whole = s.1.1 ∙ l.invariant.size in
-    let e = c.looked_at-best.ensures in
+    let e = c.looked_at-best.ensures ∙ ap (looked a.grip a.within l.best) c.new-event.ensures in
     let n = ap (λ (b : Best). b.count) e ∙ looked-count a.grip a.within l.best c.in-Some.r.now in
     record {
       size = s.0 ∙ l.invariant.size;
       count = omega (arith, n, whole, ap length split, length-append c.in-Some.r.now (chunks_exact_rest c.next.new.self), l.invariant.count);
-      tested = ok_next _ _ _ split whole l.ok _ _ c.record_ok-ok.ensures l.invariant.tested;
+      tested = ok_next _ _ _ split whole l.ok _ _ (c.record_ok-ok.ensures ∙ ap record_ok c.new-event.ensures) l.invariant.tested;
       looked = ap (λ (b : Best). looks a.grip a.within b (events_of (chunks_exact_rest c.next.new.self))) e ∙ sym (looks-next a.grip a.within _ _ _ split whole l.best) ∙ l.invariant.looked;
     }
 

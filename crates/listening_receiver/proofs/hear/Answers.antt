@@ -1,7 +1,7 @@
 use mathlib.Core.Path.{◌≡◌, refl, sym, ◌∙◌}
 use native.Mathlib.Omega.{arith}
 use mathlib.Core.List.{List}
-use Prim.Native.Nat.{ℕ, ◌≤◌}
+use Prim.Native.Nat.{ℕ}
 use lib.ListN.{length}
 use Rattle.history.specs.Runs.{ask_raw, call_of}
 use Rattle.ledger.specs.Ledger.{by_frames, Ledger}
@@ -15,30 +15,30 @@ pub tell_answer-requires : goal.tell_answer-requires
 unfolding call_of
 tell_answer-requires c =
     let x = c.push_raw-answer in
-    let e : length c.args.events.now ≡ 30720 = omega arith in
-    let f : length c.args.scratch32.now ≡ 12000 = omega arith in
-    let g : length c.args.scratch64.now ≡ 8000 = omega arith in
-    let y = calm _ _ _ _ _ _ _ c.none-shifts.ensures refl x.ensures in
-    let k : length x.new.events ≡ 30720 = search rules in
+    let e : length c.args.b.now.events ≡ 30720 = omega arith in
+    let f : length c.args.b.now.scratch32 ≡ 12000 = omega arith in
+    let g : length c.args.b.now.scratch64 ≡ 8000 = omega arith in
+    let y = calm _ _ _ _ _ _ _ c.none.ensures refl x.ensures.answered in
+    let k : length x.new.lent.events.now ≡ 30720 = search rules in
     let n = at_most_lem _ (ask_raw c.args.raw.now) tt _ _ _ y e f g _ c.requires.standing.stands k in
     let same = received-count x.result x.new.self in
-    (omega (arith, n, same), omega (arith, n, k, same), c.requires.most_in_bounds.0, c.requires.most_in_bounds.1, c.requires.most_in_bounds.2, c.requires.most_in_bounds.3)
+    (omega (arith, n, same), omega (arith, n, k, same), c.requires.most_in_bounds.0, c.requires.most_in_bounds.1, c.requires.most_in_bounds.2)
 
 pub returns : goal.returns
 unfolding call_of
 returns c =
     let x = c.push_raw-answer in
     let a = c.tell_answer.ensures in
-    let e : length c.args.events.now ≡ 30720 = omega arith in
-    let f : length c.args.scratch32.now ≡ 12000 = omega arith in
-    let g : length c.args.scratch64.now ≡ 8000 = omega arith in
-    let y = calm _ _ _ _ _ _ _ c.none-shifts.ensures refl x.ensures in
+    let e : length c.args.b.now.events ≡ 30720 = omega arith in
+    let f : length c.args.b.now.scratch32 ≡ 12000 = omega arith in
+    let g : length c.args.b.now.scratch64 ≡ 8000 = omega arith in
+    let y = calm _ _ _ _ _ _ _ c.none.ensures refl x.ensures.answered in
     let v = received-receiver x.result x.new.self in
     record {
       told =
-          λ (l : Ledger by_frames) (st : StandsFor c.args.receiver.now c.args.samples.now l) (old : List ℕ) (start : ℕ) (p : Emission) (h : Tells p old start 0 c.args.t.now c.args.out.now).
-          call_told _ (ask_raw c.args.raw.now) tt _ _ _ y e f g l st x.result x.new.self _ _ _ _ _ _ _ _ p old _ start _ refl (omega arith) (a.by_index old start p h);
-      stands = λ (l : Ledger by_frames) (st : StandsFor c.args.receiver.now c.args.samples.now l). stands_now _ (ask_raw c.args.raw.now) tt _ _ _ y e f g l st x.new.self v;
+          λ (l : Ledger by_frames) (st : StandsFor c.args.receiver.now c.args.b.now.samples l) (old : List ℕ) (start : ℕ) (p : Emission) (h : Tells p old start 0 c.args.t.now c.args.out.now).
+          call_told _ (ask_raw c.args.raw.now) tt _ _ _ y e f g l st x.result x.new.self c.args.q _ _ p old _ start _ refl (omega arith) (a.by_index old start p h);
+      stands = λ (l : Ledger by_frames) (st : StandsFor c.args.receiver.now c.args.b.now.samples l). stands_now _ (ask_raw c.args.raw.now) tt _ _ _ y e f g l st x.new.self v;
       receiver = sym v ∙ y.state;
       samples = y.samples;
       events = y.events;

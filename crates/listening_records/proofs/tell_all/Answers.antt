@@ -1,7 +1,7 @@
 use Prim.Native.Nat.{ℕ}
 use mathlib.Core.List.{List}
 use lib.ListN.{length}
-use mathlib.Core.Path.{◌≡◌, refl}
+use mathlib.Core.Path.{◌≡◌, refl, ◌∙◌}
 use native.Mathlib.Omega.{arith}
 use borrow.Author.Rules.{rules}
 use Rattle.std.proofs.lemmas.Result.{err_from_is_err_and}
@@ -30,8 +30,8 @@ returns-in_err-tell c =
     let g = grown_more l.i _ _ _ _ _ _ l.invariant.1 x.within in record {
       by_index = λ (old : List ℕ) (start : ℕ) (p : Emission) (h : Tells p old start 0 s.t.now s.out.now).
           rw (n.1, n.2) (refused-told _ p old _ start l.i s.count (number_of e) s.events.now _ c.loop-i-test.true (number-positive e)
-          (turn_told s.started s.passed s.tracker s.at.now s.lo.now s.hz.now (length s.scratch.now) (length l.scratch) p old l.out _ start l.i (number_of e) s.events.now _ l.t _
-          l.invariant.0 (record_part l.i s.events.now) (l.invariant.2 old start p h) (λ (u : Emission) (g : Tells u old start 0 l.t l.out). x.by_index old start u g)));
+          (turn_told s.q (length s.scratch.now) (length l.scratch) p old l.out _ start l.i (number_of e) s.events.now _ l.t _
+          l.invariant.0 (c.new.ensures ∙ record_part l.i s.events.now) (l.invariant.2 old start p h) (λ (u : Emission) (g : Tells u old start 0 l.t l.out). x.by_index old start u g)));
       grown = record { end = omega (arith, g.end, c.loop-i-test.true); frames = omega (arith, g.frames, c.loop-i-test.true); messages = omega (arith, g.messages, c.loop-i-test.true); room = g.room };
     }
 
@@ -44,8 +44,8 @@ loop-i-preserved c =
       search rules,
       grown_more l.i _ _ _ _ _ _ l.invariant.1 x.ensures.within,
       λ (old : List ℕ) (start : ℕ) (p : Emission) (h : Tells p old start 0 s.t.now s.out.now).
-          turn_told s.started s.passed s.tracker s.at.now s.lo.now s.hz.now (length s.scratch.now) (length l.scratch) p old l.out _ start l.i 0 s.events.now _ l.t _
-          l.invariant.0 (record_part l.i s.events.now) (l.invariant.2 old start p h) (λ (u : Emission) (g : Tells u old start 0 l.t l.out). x.ensures.by_index old start u g),
+          turn_told s.q (length s.scratch.now) (length l.scratch) p old l.out _ start l.i 0 s.events.now _ l.t _
+          l.invariant.0 (c.new.ensures ∙ record_part l.i s.events.now) (l.invariant.2 old start p h) (λ (u : Emission) (g : Tells u old start 0 l.t l.out). x.ensures.by_index old start u g),
     )
 
 pub returns : goal.returns

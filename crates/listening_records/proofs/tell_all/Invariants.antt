@@ -4,7 +4,7 @@ use mathlib.Core.List.{List}
 use lib.ListN.{length}
 use mathlib.Core.Path.{◌≡◌}
 use Rattle.ledger.specs.Records.{records_in}
-use Rattle.listening_records.specs.Emission.{Emission, Tells, Grown, emitted_all}
+use Rattle.listening_records.specs.Emission.{Emission, Tells, Grown, asked, emitted_all}
 use Rattle.listening_records.proofs.tell_all.Given as goal
 
 abbrev pub invariant-loop-i : goal.invariant-loop-i
@@ -12,4 +12,4 @@ invariant-loop-i l =
     (length l.scratch ≡ length l.initial.scratch)
     × Grown l.i l.initial.t l.t l.initial.out l.out
     × ((old : List ℕ) (start : ℕ) (p : Emission) → Tells p old start 0 l.initial.t l.initial.out
-    → Tells (emitted_all (record { started = l.started; passed = l.passed; tracker = l.tracker; at = l.at; lo = l.lo; hz = l.hz; room = length l.initial.scratch }) p (records_in l.i l.events)) old start 0 l.t l.out)
+    → Tells (emitted_all (asked l.q (length l.initial.scratch)) p (records_in l.i l.events)) old start 0 l.t l.out)

@@ -6,12 +6,6 @@ use Rattle.order.proofs.find_bin.Goals as goal
 pub loop-rank-init : goal.loop-rank-init
 loop-rank-init c = (omega arith, total_none c.args.counts.now c.args.k)
 
-pub bounds-counts-at : goal.bounds-counts-at
-bounds-counts-at c = c.loop-rank.invariant.0
-
-pub returns-then-rank-here : goal.returns-then-rank-here
-returns-then-rank-here c = (c.loop-rank.invariant.0, c.loop-rank.invariant.1, omega (arith, c.if-rank-here.true))
-
 pub loop-rank-preserved : goal.loop-rank-preserved
 loop-rank-preserved c =
     let l = c.loop-rank in

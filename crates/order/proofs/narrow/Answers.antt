@@ -10,7 +10,6 @@ pub count-requires : goal.count-requires
 count-requires g c =
     let s = c.shift_of-shift in
     let r = c.args.r in (
-      c.requires.2,
       c.requires.0.fits,
       shift-lt r.span s.result 64 s.ensures.1 (within_64 g.T.At.Place.width r.span g.met.T.At.Place.wide (omega (arith, c.requires.0.fits))),
       s.ensures.0,
@@ -22,7 +21,7 @@ pub find_bin-requires : goal.find_bin-requires
 find_bin-requires g c =
     let n = c.count in
     let s = c.shift_of-shift in
-    enough g.T.Ranked.key c.args.xs.now c.args.r (2 ^ s.result) n.new.counts n.ensures c.requires.0 s.ensures.0
+    enough g.T.Ranked.key c.args.xs.now.items.now c.args.r (2 ^ s.result) n.new.counts n.ensures c.requires.0 s.ensures.0
 
 pub part_of-requires : goal.part_of-requires
 part_of-requires g c =
@@ -31,7 +30,7 @@ part_of-requires g c =
     let s = c.shift_of-shift in
     let r = c.args.r in (
       shift-lt r.span s.result 64 s.ensures.1 (within_64 g.T.At.Place.width r.span g.met.T.At.Place.wide (omega (arith, c.requires.0.fits))),
-      inside g.T.Ranked.key c.args.xs.now r (2 ^ s.result) n.new.counts n.ensures c.requires.0 s.ensures.0 f.result f.ensures.0 f.ensures.1 f.ensures.2,
+      inside g.T.Ranked.key c.args.xs.now.items.now r (2 ^ s.result) n.new.counts n.ensures c.requires.0 s.ensures.0 f.result f.ensures.0 f.ensures.1 f.ensures.2,
       within_64 g.T.At.Place.width (r.lo + r.span) g.met.T.At.Place.wide c.requires.0.fits,
     )
 
@@ -40,7 +39,7 @@ returns g c =
     let f = c.find_bin in
     let n = c.count in
     let s = c.shift_of-shift in
-    let l = c.args.xs.now in
+    let l = c.args.xs.now.items.now in
     let r = c.args.r in
     let w = 2 ^ s.result in
     let m = n.new.counts in

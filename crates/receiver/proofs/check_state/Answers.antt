@@ -1,9 +1,8 @@
 use mathlib.Core.Bool.{cond}
 use mathlib.Core.Path.{◌≡◌, ◌∙◌, refl, sym}
-use Prim.Native.Nat.{◌+◌, ◌<◌, ◌^◌}
+use Prim.Native.Nat.{◌+◌}
 use native.Mathlib.Omega.{arith}
 use lib.Dec.{ltb}
-use borrow.Author.Rules.{rules}
 use Rattle.limits.specs.Answer.{cause_of}
 use Rattle.limits.specs.Limits.{bad_number, bad_state, longest_stream}
 use Rattle.receiver.proofs.CauseLaws.{exit_cause, messages-nan, messages-order, nan_is_none, order_cause, order-messages, order-samples, state-last, state-order, stream_first, stream-later}

@@ -6,12 +6,12 @@ use borrow.Author.Rules.{rules}
 use Rattle.limits.specs.Limits.{record_size}
 use Rattle.record.specs.Record.{message_record}
 use Rattle.ledger.specs.Merge.{finished}
-use Rattle.shifts.specs.Shifts.{mark_of}
+use Rattle.shifts.specs.Shifts.{schedule, mark_by}
 use Rattle.receiver_closing.proofs.WrittenLaws.{finished-size}
 use Rattle.receiver_closing.proofs.write_message.Goals.{Start}
 use Rattle.receiver_closing.proofs.write_message.Goals as goal
 
-sized : (c : Start) → length (message_record (mark_of c.args.shifts c.args.closed.now (finished c.args.p).time) (finished c.args.p)) ≡ record_size
+sized : (c : Start) → length (message_record (mark_by (schedule c.args.given.now) (finished c.args.p).time) (finished c.args.p)) ≡ record_size
 sized c = finished-size _ c.args.p (search rules) (search rules)
 
 pub overflow_mul-count : goal.overflow_mul-count

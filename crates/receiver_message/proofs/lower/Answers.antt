@@ -1,4 +1,3 @@
-use Rattle.std.proofs.Common.{◌∙◌}
 use Rattle.receiver_message.proofs.SpanLaws.{lower_only, lower_other, lower_this}
 use Rattle.receiver_message.proofs.lower.Goals as goal
 

@@ -10,6 +10,6 @@ pub returns : goal.returns
 returns c =
     let a = c.args in
     let t = c.take_each.new.s in
-    does_scan a.rate a.wait a.base a.held.now a.s.now a.events.now t _ c.forget.new.s c.take_each.ensures
+    does_scan a.held.samples.rate a.held.wait a.held.base a.held.samples.dbm.now a.s.now a.events.now t _ c.forget.new.s c.take_each.ensures
     (stands _ _ _ c.forget.ensures).0
     (omega (arith, stands_from _ t.starts.count _ _ t.starts.at c.forget.ensures, c.take_each.ensures.within.starts))

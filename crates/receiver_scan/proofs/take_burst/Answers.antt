@@ -14,7 +14,7 @@ use Rattle.receiver_scan.proofs.take_burst.Goals.{After-remember}
 use Rattle.receiver_scan.proofs.take_burst.Goals as goal
 
 pub distance-requires : goal.distance-requires
-distance-requires c = omega (arith, c.requires.1, c.requires.0.fits, c.requires.0.highest)
+distance-requires c = omega (arith, c.requires.1, c.args.held.samples.short, c.args.held.samples.high)
 
 -- the start is remembered as its distance
 begun : (c : After-remember) → distances c.remember.new.s ≡ distances c.args.s.now.starts ++ (pos c.args.burst.start ∷ [])
@@ -26,15 +26,15 @@ begun c =
 pub returns-in_default : goal.returns-in_default
 returns-in_default c =
     let a = c.args in
-    does_without a.rate a.burst a.held.now a.base a.s.now a.events.now c.remember.new.s c.decode_within.result (begun (goal.at.returns-in_default c).After-remember)
-    (c.decode_within.ensures ∙ ap (λ (t : Float). decode_burst a.held.now a.rate a.burst t) c.seconds.ensures) c.in_default.is
+    does_without a.held.samples.rate a.burst a.held.samples.dbm.now a.held.base a.s.now a.events.now c.remember.new.s c.decode_within.result (begun (goal.at.returns-in_default c).After-remember)
+    (c.decode_within.ensures ∙ ap (λ (t : Float). decode_burst a.held.samples.dbm.now a.held.samples.rate a.burst t) c.seconds-t0.ensures) c.in_default.is
     (record { starts = omega (arith, stands_more _ _ _ c.remember.ensures, c.requires.3); waiting = omega (arith, c.requires.4); count = omega (arith, c.requires.5) })
 
 pub returns-in-Some : goal.returns-in-Some
 returns-in-Some c =
     let a = c.args in
-    does_frame a.rate a.burst a.held.now a.base a.s.now a.events.now c.remember.new.s c.decode_within.result (begun (goal.at.returns-in-Some c).After-remember)
-    (c.decode_within.ensures ∙ ap (λ (t : Float). decode_burst a.held.now a.rate a.burst t) c.seconds.ensures) c.in-Some.d c.hear.new.waiting _
+    does_frame a.held.samples.rate a.burst a.held.samples.dbm.now a.held.base a.s.now a.events.now c.remember.new.s c.decode_within.result (begun (goal.at.returns-in-Some c).After-remember)
+    (c.decode_within.ensures ∙ ap (λ (t : Float). decode_burst a.held.samples.dbm.now a.held.samples.rate a.burst t) c.seconds-t0.ensures) c.in-Some.d c.hear.new.waiting _
     c.in-Some.is
     (record { starts = omega (arith, stands_more _ _ _ c.remember.ensures, c.requires.3); waiting = c.hear.ensures.1; count = omega (arith, c.requires.5) })
     (omega (arith, c.requires.5, c.requires.0.events)) c.hear.ensures.0 c.hear.ensures.2

@@ -6,7 +6,7 @@ use Rattle.receiver_scan.proofs.EachLaws.{EachAt}
 use Rattle.receiver_scan.proofs.take_each.Given as goal
 
 abbrev pub invariant-loop-at : goal.invariant-loop-at
-invariant-loop-at l = (length l.scratch ≡ length l.initial.scratch) × EachAt l.rate l.wait l.base l.held l.initial.s l.initial.events l.s l.events l.at
+invariant-loop-at l = (length l.scratch ≡ length l.initial.scratch) × EachAt l.held.samples.rate l.held.wait l.held.base l.dbm l.initial.s l.initial.events l.s l.events l.at
 
 abbrev pub decreases-loop-at : goal.decreases-loop-at
-decreases-loop-at l = length l.held - l.at
+decreases-loop-at l = length l.dbm - l.at

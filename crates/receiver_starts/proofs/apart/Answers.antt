@@ -1,13 +1,10 @@
-use mathlib.Core.Bool.{false, true}
-use mathlib.Core.List.{List}
 use mathlib.Core.Path.{◌∙◌, ◌≡◌, refl, sym}
 use native.Mathlib.Omega.{arith}
-use lib.IntN.{ℤ, pos}
-use lib.ListN.{get_or, length, take}
-use lib.Seq.{drop-length, length-take-le}
+use lib.IntN.{pos}
+use lib.ListN.{get_or, length}
+use lib.Seq.{drop-length}
 use mir.Syntax.{w32}
 use mir.Val.{to_z, of_z}
-use mir.ValLaws.{to_z-of_z}
 use borrow.Author.Rules.{rules}
 use Rattle.receiver_starts.specs.Starts.{all_apart}
 use Rattle.receiver_starts.proofs.StartLaws.{apart_more, apart_not}

@@ -1,4 +1,4 @@
-use Rattle.std.proofs.Common.{◌≡◌, ◌∙◌, refl, length, rules, arith}
+use Rattle.std.proofs.Common.{◌≡◌, refl, length, rules, arith}
 use lib.Seq.{length-take-le}
 use Rattle.receiver_starts.specs.Starts.{over}
 use Rattle.receiver_starts.proofs.over.Goals as goal

@@ -1,4 +1,4 @@
-use Rattle.std.proofs.Common.{◌≡◌, ◌∙◌, refl, length, rules, arith}
+use Rattle.std.proofs.Common.{◌≡◌, length, rules, arith}
 use Rattle.receiver_starts.proofs.StartLaws.{over_store}
 use mir.Syntax.{w32}
 use mir.ValLaws.{to_z-of_z}

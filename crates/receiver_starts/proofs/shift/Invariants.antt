@@ -3,7 +3,7 @@ use mathlib.Core.Bool.{true}
 use mathlib.Core.List.{◌++◌}
 use mathlib.Core.Path.{◌≡◌}
 use Prim.Native.Nat.{◌^◌}
-use lib.ListN.{drop, length, take}
+use lib.ListN.{drop, take}
 use Rattle.receiver_starts.specs.Starts.{all_from, moved}
 use Rattle.receiver_starts.proofs.shift.Given as goal
 

@@ -1,4 +1,4 @@
-use Rattle.std.proofs.Common.{arith, refl, ap, ℕ, ◌*◌, length, length-set}
+use Rattle.std.proofs.Common.{arith, refl, ap, ℕ, ◌*◌, length-set}
 use Rattle.replay.proofs.Turns.{store_start, store_turn, store_end}
 use Rattle.replay.proofs.store.Goals as goal
 

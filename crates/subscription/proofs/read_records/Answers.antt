@@ -1,9 +1,9 @@
 use Rattle.std.proofs.Common.{◌≡◌, ◌+◌, ◌<◌, ℕ, [], ◌∷◌, length, refl, sym, ap, ◌∙◌, subst, arith, length-append}
 use Rattle.std.specs.Slice.Iter.{chunks_exact_rest}
 use Rattle.limits.specs.Limits.{record_size}
-use Rattle.event_list.specs.Events.{wholes, list_ok}
+use Rattle.event_list.specs.Events.{wholes, list_ok, record_ok}
 use Rattle.event_list.proofs.EventLaws.{ok_next, ok_last}
-use Rattle.subscription.specs.Counting.{Few}
+use Rattle.subscription.specs.Counting.{Few, inside, stepped}
 use Rattle.subscription.proofs.CountLaws.{few_none, few-turn, within_next, tallied_next, within_last, tallied_last}
 use Rattle.subscription.proofs.read_records.Goals as goal
 
@@ -27,7 +27,7 @@ counted-inside-requires c =
     let f = l.invariant.few in
     let whole = s.1.1 ∙ l.invariant.size in
     let split = ap length s.1.0 ∙ length-append c.in-Some.r.now _ in
-    (omega arith, c.requires.1, record { size = f.size; under = λ j. omega (arith, f.under j, c.requires.0, l.invariant.count) })
+    (c.requires.1, record { size = f.size; under = λ j. omega (arith, f.under j, c.requires.0, l.invariant.count) })
 
 pub loop-r-preserved : goal.loop-r-preserved
 loop-r-preserved c =
@@ -41,10 +41,10 @@ loop-r-preserved c =
     record {
       size = s.0 ∙ l.invariant.size;
       count = omega (arith, many, whole, ap length split, length-append c.in-Some.r.now (chunks_exact_rest c.next.new.self), l.invariant.count);
-      tested = ok_next _ _ _ split whole l.ok _ _ c.record_ok-right.ensures l.invariant.tested;
-      inside = within_next a.start _ _ _ split whole l.within _ _ k.ensures.0 l.invariant.inside;
-      tally = tallied_next a.start _ _ _ split whole l.counts _ _ k.ensures.1 l.invariant.tally;
-      few = rw many (few-turn a.start l.counts c.in-Some.r.now _ a.t.«records» (length l.yielded) k.ensures.1 l.invariant.few);
+      tested = ok_next _ _ _ split whole l.ok _ _ (c.record_ok-right.ensures ∙ ap record_ok c.new-event.ensures) l.invariant.tested;
+      inside = within_next a.start _ _ _ split whole l.within _ _ (k.ensures.0 ∙ ap (inside a.start) c.new-event.ensures) l.invariant.inside;
+      tally = tallied_next a.start _ _ _ split whole l.counts _ _ (k.ensures.1 ∙ ap (stepped a.start l.counts) c.new-event.ensures) l.invariant.tally;
+      few = rw many (few-turn a.start l.counts c.in-Some.r.now _ a.t.«records» (length l.yielded) (k.ensures.1 ∙ ap (stepped a.start l.counts) c.new-event.ensures) l.invariant.few);
     }
 
 pub returns-then-not-ok : goal.returns-then-not-ok

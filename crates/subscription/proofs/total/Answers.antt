@@ -23,10 +23,6 @@ returns-then-not-t c =
     let s = ap start_ok (sym (to_z-of_z w64 a.month_start c.ranges.month_start)) ∙ sym c.start_ok.ensures ∙ c.if-not-start_ok.false in
     says_out _ (plan_ok a.plan) (start_ok a.month_start) a.t.within (sym c.plan_ok.ensures ∙ c.if-not-plan_ok.false) s (not-true _ c.if-not-t.true)
 
-pub cents-requires : goal.cents-requires
-cents-requires c =
-    (sym c.plan_ok.ensures ∙ c.if-not-plan_ok.false, c.requires)
-
 pub returns : goal.returns
 returns c =
     let a = c.args in

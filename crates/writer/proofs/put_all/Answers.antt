@@ -10,4 +10,4 @@ returns c =
     let p = c.put_repetition in
     let q = c.put_repetition-2 in
     let r = c.put_repetition-3 in
-    all_stored (repeated a.class (map odd a.body.now)) a.out.now p.new.out q.new.out r.new.out p.ensures q.ensures r.ensures
+    all_stored (repeated a.layout.class (map odd a.body.now)) a.out.now p.new.out q.new.out r.new.out p.ensures q.ensures r.ensures

@@ -12,12 +12,12 @@ use Rattle.writer.proofs.write_uplink.Goals as goal
 
 sendable : (c : Else-auth-called) → let a = c.args in Sendable a.fields a.payload.now a.auth.now
 sendable c =
-    let r = c.layout_of-layout in
+    let r = c.new-layout in
     record {
       short-payload = c.if-payload-gt-MOST_PAYLOAD.false;
       one_of_both = sym c.bit_and_payload.ensures ∙ c.if-bit_and_payload.false;
       counter = c.if-fields-gt-HIGHEST_COUNTER.false;
-      auth-size = c.if-auth-called.false ∙ c.auth_size-called.ensures ∙ ap₂ auth_size r.ensures.0 r.ensures.1;
+      auth-size = c.if-auth-called.false ∙ (c.from-called.ensures ∙ c.auth_size.ensures.0) ∙ ap₂ auth_size r.ensures.0 r.ensures.1;
     }
 
 pub returns-then-out-lt-ALL_PLACES : goal.returns-then-out-lt-ALL_PLACES
@@ -48,15 +48,15 @@ pub returns-then-auth-called : goal.returns-then-auth-called
 unfolding said_by
 returns-then-auth-called c =
     let a = c.args in
-    let r = c.layout_of-layout in
+    let r = c.new-layout in
     refuses a.fields a.payload.now a.auth.now a.out.now 9 (cause-auth a.fields a.payload.now a.auth.now a.out.now c.if-out-lt-ALL_PLACES.false c.if-payload-gt-MOST_PAYLOAD.false (sym c.bit_and_payload.ensures ∙ c.if-bit_and_payload.false) c.if-fields-gt-HIGHEST_COUNTER.false
-    (λ e. c.if-auth-called.true (e ∙ sym (c.auth_size-called.ensures ∙ ap₂ auth_size r.ensures.0 r.ensures.1))))
+    (λ e. c.if-auth-called.true (e ∙ sym ((c.from-called.ensures ∙ c.auth_size.ensures.0) ∙ ap₂ auth_size r.ensures.0 r.ensures.1))))
 
 pub frame_bytes-bytes-requires : goal.frame_bytes-bytes-requires
 frame_bytes-bytes-requires c =
     let a = c.args in
-    let r = c.layout_of-layout in
-    (r.ensures.1, r.ensures.3, c.if-payload-gt-MOST_PAYLOAD.false, size_most a.fields a.payload.now a.auth.now (sendable c))
+    let r = c.new-layout in
+    (r.ensures.1, c.if-payload-gt-MOST_PAYLOAD.false, size_most a.fields a.payload.now a.auth.now (sendable c))
 
 pub slice_bounds-bytes-end : goal.slice_bounds-bytes-end
 slice_bounds-bytes-end c =
@@ -91,7 +91,6 @@ put_all-requires c =
     let p = c.put_bits in
     let m = size_most a.fields a.payload.now a.auth.now s in
     let w = body_read_back a.fields a.payload.now a.auth.now s c.frame_bytes-bytes.result p.new.out c.frame_bytes-bytes.ensures p.ensures in (
-      c.layout_of-layout.ensures.2,
       body_are a.fields a.payload.now a.auth.now s _ w,
       omega (arith, length-take-le (8 * (6 + length a.payload.now + length a.auth.now + 2)) p.new.out (omega arith)),
       c.if-out-lt-ALL_PLACES.false,
@@ -107,4 +106,4 @@ returns c =
     let h = c.if-out-lt-ALL_PLACES.false in
     let w = body_read_back a.fields a.payload.now a.auth.now s c.frame_bytes-bytes.result p.new.out c.frame_bytes-bytes.ensures p.ensures in
     writes a.fields a.payload.now a.auth.now a.out.now (no_cause a.fields a.payload.now a.auth.now a.out.now h s) _ o.new.out (count_is a.fields a.payload.now a.auth.now s)
-    (body-odd a.fields a.payload.now a.auth.now s _ c.layout_of-layout.result.class a.out.now o.new.out w c.layout_of-layout.ensures.0 o.ensures)
+    (body-odd a.fields a.payload.now a.auth.now s _ c.new-layout.result.class a.out.now o.new.out w c.new-layout.ensures.0 o.ensures)

@@ -1,12 +1,7 @@
 use Rattle.std.proofs.Common.{w64, rules}
 use mir.ValLaws.{to_z-of_z}
+use Rattle.fleet_sheet.proofs.NumberLaws.{min_is, max_is}
 use Rattle.fleet_sheet.proofs.rows.merge.Goals as goal
-
-pub sum-requires-5 : goal.sum-requires-5
-sum-requires-5 c =
-    let ea = to_z-of_z w64 c.args.a.halves (search rules) in
-    let eb = to_z-of_z w64 c.args.b.halves (search rules) in
-    rw (ea, eb) (c.requires.0.halves_small, c.requires.1.halves_small)
 
 pub returns : goal.returns
 returns c =
@@ -22,13 +17,13 @@ returns c =
     let z3 = to_z-of_z w64 c.sum-4.result (record { sfits = c.sum-4.type_inv }) in
     let a3 = to_z-of_z w64 c.args.a.three (search rules) in
     let b3 = to_z-of_z w64 c.args.b.three (search rules) in
-    let z4 = to_z-of_z w64 c.lower.result (record { sfits = c.lower.type_inv }) in
+    let z4 = to_z-of_z w64 c.min.result (record { sfits = c.min.type_inv }) in
     let a4 = to_z-of_z w64 c.args.a.lowest (search rules) in
     let b4 = to_z-of_z w64 c.args.b.lowest (search rules) in
-    let z5 = to_z-of_z w64 c.higher.result (record { sfits = c.higher.type_inv }) in
+    let z5 = to_z-of_z w64 c.max.result (record { sfits = c.max.type_inv }) in
     let a5 = to_z-of_z w64 c.args.a.highest (search rules) in
     let b5 = to_z-of_z w64 c.args.b.highest (search rules) in
     let z6 = to_z-of_z w64 c.sum-5.result (record { sfits = c.sum-5.type_inv }) in
     let a6 = to_z-of_z w64 c.args.a.halves (search rules) in
     let b6 = to_z-of_z w64 c.args.b.halves (search rules) in
-    cc (z0, a0, b0, c.sum.ensures, z1, a1, b1, c.sum-2.ensures, z2, a2, b2, c.sum-3.ensures, z3, a3, b3, c.sum-4.ensures, z4, a4, b4, c.lower.ensures, z5, a5, b5, c.higher.ensures, z6, a6, b6, c.sum-5.ensures)
+    cc (z0, a0, b0, c.sum.ensures, z1, a1, b1, c.sum-2.ensures, z2, a2, b2, c.sum-3.ensures, z3, a3, b3, c.sum-4.ensures, z4, a4, b4, c.min.ensures.value, min_is c.args.a.lowest c.args.b.lowest, z5, a5, b5, c.max.ensures.value, max_is c.args.a.highest c.args.b.highest, z6, a6, b6, c.sum-5.ensures)

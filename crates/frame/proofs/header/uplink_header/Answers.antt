@@ -16,8 +16,8 @@ returns-then-payload-gt-MOST_PAYLOAD c = let a = c.args in
 pub returns : goal.returns
 unfolding said_by
 returns c = let a = c.args in
-    let r = c.layout_of-layout in (
+    let r = c.new-layout in (
       header_made a.fields a.payload.now a.out.now c.if-out-lt-MOST_HEADER.false c.if-payload-gt-MOST_PAYLOAD.false r.result.class c.auth_size.result r.ensures.0
-          (c.auth_size.ensures ∙ ap (auth_size r.result.class) r.ensures.1),
+          (c.auth_size.ensures.0 ∙ ap (auth_size r.result.class) r.ensures.1),
       c.write_header.ensures ∙ header-written a.fields a.payload.now a.out.now c.if-out-lt-MOST_HEADER.false c.if-payload-gt-MOST_PAYLOAD.false,
     )

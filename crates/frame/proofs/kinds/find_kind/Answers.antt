@@ -1,11 +1,8 @@
 use Rattle.std.proofs.Common.{Some}
-use mathlib.Core.Path.{refl, sym, ap, ◌∙◌}
+use mathlib.Core.Path.{sym, ap, ◌∙◌}
 use native.Mathlib.Omega.{arith}
 use Rattle.frame.proofs.KindLaws.{type_at, kind_here, kind-later, no_kind}
 use Rattle.frame.proofs.kinds.find_kind.Goals as goal
-
-pub loop-i-init : goal.loop-i-init
-loop-i-init c = refl
 
 pub returns-then-t-ft : goal.returns-then-t-ft
 returns-then-t-ft c = let i = c.loop-i.i in

@@ -8,10 +8,10 @@ pub returns-in_err-check_freq : goal.returns-in_err-check_freq
 unfolding cause_of
 returns-in_err-check_freq c = said_refused _ _ _ c.from_residual.ensures.1 c.in_err-check_freq.ensures _
 
-pub last_freq-requires : goal.last_freq-requires
+pub freq_of-requires : goal.freq_of-requires
 unfolding cause_of
-last_freq-requires c = let a = c.args in (freq-ordered a.self.now a.tuned.now a.freq.now (sym c.in_ok-check_freq.ensures)).places.freqs
+freq_of-requires c = let a = c.args in (freq-ordered a.self.now a.tunings.now (sym c.in_ok-check_freq.ensures)).places
 
 pub returns : goal.returns
 unfolding cause_of
-returns c = ap (λ (f : ℕ). said (Ok f)) c.last_freq.ensures ∙ said_accepted _ c.in_ok-check_freq.ensures _
+returns c = ap (λ (f : ℕ). said (Ok f)) c.freq_of.ensures ∙ said_accepted _ c.in_ok-check_freq.ensures _

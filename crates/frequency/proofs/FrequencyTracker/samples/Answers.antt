@@ -13,7 +13,7 @@ returns-in_err-check_samples c =
 
 pub hear_line-requires : goal.hear_line-requires
 unfolding cause_of
-hear_line-requires c = (sym c.in_ok-check_samples.ensures, IfSome_then _ c.first_look-look.ensures (λ (lead : ℕ) (l : Looked _ _ _ lead _). l.front))
+hear_line-requires c = (sym c.in_ok-check_samples.ensures, IfSome_then _ c.first_look-look.ensures (λ (lead : ℕ) (l : Looked _ _ lead _). l.front))
 
 pub returns : goal.returns
 unfolding cause_of

@@ -7,13 +7,13 @@ use Rattle.grip.proofs.looking.looked_at.Goals.{then-qualifies-is_nearer, else-q
 pub returns : goal.returns
 returns c =
     let a = c.args in
-    let t = c.time_of-time in
+    let t = c.time-time in
     let f = c.is_finite.ensures.value ∙ finite_is t.result in
     elim c.if-qualifies-is_nearer.branch [
       | then-qualifies-is_nearer w ↦
-          rw w.nearest-is (looked-taken a.grip a.within a.b a.r.now c.is_message.result c.is_finite.result c.is_nearer.result c.abs64-distance.result t.result
+          rw w.nearest-is (looked-taken a.grip a.within a.b a.r.bytes.now c.is_message.result c.is_finite.result c.is_nearer.result c.abs64-distance.result t.result
           c.is_message.ensures t.ensures f c.abs64-distance.ensures c.is_nearer.ensures w.if-qualifies-is_nearer.true)
       | else-qualifies-is_nearer w ↦
-          rw w.nearest-is (looked_kept a.grip a.within a.b a.r.now c.is_message.result c.is_finite.result c.is_nearer.result c.abs64-distance.result t.result
+          rw w.nearest-is (looked_kept a.grip a.within a.b a.r.bytes.now c.is_message.result c.is_finite.result c.is_nearer.result c.abs64-distance.result t.result
           c.is_message.ensures t.ensures f c.abs64-distance.ensures c.is_nearer.ensures w.if-qualifies-is_nearer.false)
     ]

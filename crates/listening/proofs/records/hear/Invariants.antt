@@ -1,12 +1,10 @@
-use Prim.Native.Nat.{◌-◌, ◌/◌}
+use mathlib.Core.Path.{◌≡◌}
+use lib.ListN.{length}
+use Rattle.std.specs.Slice.Iter.{chunks_exact_rest, chunks_exact_size}
 use Rattle.frequency.specs.Lent.{lists}
 use Rattle.listening.proofs.ReadLaws.{Along}
 use Rattle.listening.proofs.records.hear.Given as goal
 
-abbrev pub invariant-loop-i : goal.invariant-loop-i
-invariant-loop-i g l =
-    Along l.input (l.from / 16) l.last l.i l.initial.listener l.initial.receiver (lists l.initial.at l.initial.lo l.initial.hz l.initial.tuned l.initial.freq) l.initial.samples l.listener l.receiver l.refused l.going (lists l.at l.lo l.hz l.tuned l.freq) l.samples l.initial.out l.out
-
-abbrev pub decreases-loop-i : goal.decreases-loop-i
-decreases-loop-i g l =
-    l.last - l.i
+abbrev pub invariant-loop-bytes : goal.invariant-loop-bytes
+invariant-loop-bytes g l =
+    (chunks_exact_size l.bytes-iterator ≡ 16) × Along l.«records» (chunks_exact_rest l.bytes-iterator) (length l.yielded) l.initial.l l.initial.receiver (lists l.initial.readings l.initial.tunings) l.initial.b.samples l.l l.receiver (lists l.readings l.tunings) l.b.samples l.initial.out l.out

@@ -12,7 +12,7 @@ unfolding cause_of
 returns-in-Err c =
     let f = c.follow-f in
     let n : cause_of f.result.went ≡ 0 → ⊥ = λ z. number-positive _ (rw c.in-Err.is at z) in
-    record { goes = λ (g : Ledger by_frames) (st : StandsFor c.args.receiver.now c.args.samples.now g). f.ensures.follows.stops n g _ _ st; steps = stop-steps _ _ _ _ _ _ f.ensures.leads }
+    record { goes = λ (g : Ledger by_frames) (st : StandsFor c.args.receiver.now c.args.b.now.samples g). f.ensures.follows.stops n g _ _ st; steps = stop-steps _ _ _ _ _ _ f.ensures.leads }
 
 pub receive-requires : goal.receive-requires
 receive-requires c =
@@ -28,4 +28,4 @@ returns-in-Ok c =
     let h = f.ensures.follows in
     let r = c.receive.ensures in
     let z : cause_of f.result.went ≡ 0 = rw c.in-Ok.is refl in
-    record { goes = λ (g : Ledger by_frames) (st : StandsFor c.args.receiver.now c.args.samples.now g). goes_as (h.on z g) (r.goes g _ _ _ h.text st (h.added z)); steps = both_steps _ _ _ _ _ _ _ f.ensures.leads r.receives }
+    record { goes = λ (g : Ledger by_frames) (st : StandsFor c.args.receiver.now c.args.b.now.samples g). goes_as (h.on z g) (r.goes g _ _ h.text st (h.added z)); steps = both_steps _ _ _ _ _ _ _ f.ensures.leads r.receives }

@@ -14,11 +14,12 @@ unfolding cause_of
 returns-in-Err c =
     let e = c.in-Err.refusal in
     let t = c.in-Err.ensures in
-    let a = c.add_refusal-end.ensures in
+    let a = c.add_to-end.ensures in
+    let text = rw c.refusal_line.ensures at a.added in
     let n = number-positive e in record {
       by_index = λ (raw : List ℕ).
           record {
-            stops = λ k g v places st. goes-stop _ raw _ (Err e) _ _ _ _ _ v places t.turned n st a.added;
+            stops = λ k g v places st. goes-stop _ raw _ (Err e) _ _ _ _ _ v places t.turned n st text;
             text = [];
             added = λ z. absurd (n z);
             on = λ z. absurd (n z);
@@ -34,13 +35,14 @@ unfolding cause_of
 returns-in-Ok c =
     let f = c.in-Ok.tune in
     let t = c.in-Ok.ensures in
-    let a = c.add_tune-end.ensures in
+    let a = c.add_to-end-in-Ok.ensures in
+    let text = rw c.tune_line.ensures at a.added in
     let fit = turn-fit _ _ _ _ _ _ in record {
       by_index = λ (raw : List ℕ).
           record {
             stops = λ k. absurd (k refl);
             text = tune_line f;
-            added = λ w. a.added;
+            added = λ w. text;
             on = λ w g. turned_on _ raw _ (Ok f) _ _ fit t.turned refl;
           };
       leads = record {

@@ -4,11 +4,11 @@ use mathlib.Core.Path.{◌≡◌, ◌∙◌, refl, sym}
 use native.Mathlib.Omega.{arith}
 use lib.ListN.{length, length-map}
 use Rattle.limits.specs.Samples.{all_dbm}
-use Rattle.shifts.specs.Shifts.{Schedule, schedule_cause}
+use Rattle.shifts.specs.Shifts.{schedule, schedule_cause}
 use Rattle.ledger.specs.Ledger.{dbm_of}
 use Rattle.ledger.proofs.Basics.{and_true, clash}
 use Rattle.ledger.proofs.Raw.{raw-valid}
-use Rattle.receiver.specs.Calls.{Memory, lengths_of}
+use Rattle.receiver.specs.Calls.{memory, lengths_of}
 use Rattle.receiver.specs.Running.{Quiet}
 use Rattle.receiver.proofs.CauseLaws.{below_all, messages-nan, no_error}
 use Rattle.receiver.proofs.QuickLaws.{given-rated, none_expire, only_adds}
@@ -16,18 +16,12 @@ use Rattle.receiver.proofs.StateLaws.{not_true}
 use Rattle.receiver.proofs.SigfoxReceiver.adds_raw.Goals.{Else-is_err, Start}
 use Rattle.receiver.proofs.SigfoxReceiver.adds_raw.Goals as goal
 
-abbrev given : Start → Memory
-given c = record { samples = c.args.samples.now; events = c.args.events.now; scratch32 = c.args.scratch32.now; scratch64 = c.args.scratch64.now }
-
-abbrev plan : Start → Schedule
-plan c = record { shifts = c.args.shifts; closed = c.args.closed.now }
-
-still : (c : Else-is_err) → let s = c.args.self.now in Quiet s.rate s.held s.base s.unscanned s.starts c.args.samples.now (lengths_of (record { samples = c.args.samples.now; events = c.args.events.now; scratch32 = c.args.scratch32.now; scratch64 = c.args.scratch64.now })) (length c.args.raw.now)
+still : (c : Else-is_err) → let s = c.args.self.now in Quiet s.rate s.held s.base s.unscanned s.starts c.args.lent.now.samples.now (lengths_of (memory c.args.lent.now)) (length c.args.raw.now)
 still c =
     let u = c.quiet in
     u.ensures c.if-not-quiet.false
 
-planned : (c : Else-is_err) → schedule_cause (record { shifts = c.args.shifts; closed = c.args.closed.now }) ≡ 0
+planned : (c : Else-is_err) → schedule_cause (schedule c.args.given.now) ≡ 0
 planned c = sym c.check.ensures ∙ no_error c.check.result (sym c.is_err.ensures.value ∙ c.if-is_err.false)
 
 valid : (c : Else-is_err) → all_dbm (map dbm_of c.args.raw.now) ≡ true
@@ -45,7 +39,7 @@ pub overflow_add-held : goal.overflow_add-held
 overflow_add-held c =
     let d = goal.at.overflow_add-held c in
     let q = still d.Else-is_err in
-    omega (arith, q.fits, given-rated c.args.self.now.rate (lengths_of (given d.Start)) (length c.args.raw.now) q.given)
+    omega (arith, q.fits, given-rated c.args.self.now.rate (lengths_of (memory c.args.lent.now)) (length c.args.raw.now) q.given)
 
 pub overflow_add-self : goal.overflow_add-self
 overflow_add-self c =
@@ -65,6 +59,6 @@ returns c e =
     let d = goal.at.returns c in
     let x = and_true k.result.ok (not k.result.nan && not k.result.expires) e in
     let y = and_true (not k.result.nan) (not k.result.expires) x.1 in
-    only_adds s (plan d.Start) (given d.Start) (map dbm_of raw) (length raw) (sym (length-map raw dbm_of)) (valid d.Else-is_err) (planned d.Else-is_err) (still d.Else-is_err)
+    only_adds s (schedule c.args.given.now) (memory c.args.lent.now) (map dbm_of raw) (length raw) (sym (length-map raw dbm_of)) (valid d.Else-is_err) (planned d.Else-is_err) (still d.Else-is_err)
     (messages-nan s.waiting k.result k.ensures x.0 0 (rw (not_true k.result.nan y.0) refl))
     (rw c.seconds-time.ensures at (none_expire s.waiting k.result k.ensures x.0 (not_true k.result.expires y.1)))

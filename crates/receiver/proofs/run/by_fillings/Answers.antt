@@ -1,14 +1,15 @@
-use mathlib.Core.Bool.{false}
 use mathlib.Core.Path.{◌≡◌, ◌∙◌, refl, sym}
 use Prim.Native.Nat.{◌+◌, ◌-◌, ◌*◌, ◌≤◌, ◌<◌}
 use native.Mathlib.Omega.{arith}
 use lib.ListN.{length}
 use lib.Seq.{length-take-le}
-use Rattle.ledger.specs.Ledger.{push}
-use Rattle.shifts.specs.Shifts.{mark_of}
+use Rattle.ledger.specs.Ledger.{push, seconds}
+use Rattle.receiver_waiting.specs.declared.Leaving.TheVariants.{CompleteAt}
+use Rattle.receiver.specs.Running.{EndsBy}
+use Rattle.shifts.specs.Shifts.{schedule, mark_by}
 use Rattle.receiver.proofs.FillLaws.{FilledAt, left_le, fill-asks, fill-bounds, fill-turn, fill-still, fill-scanned, scan-asks, shift-asks, shifted_is}
-use Rattle.receiver.proofs.RunLaws.{Done, allIn, lastBuffer, fill_start, fill_end, closable, ends_push}
-use Rattle.receiver.proofs.run.by_fillings.Goals.{After-loop-from, After-slice_known-in-loop-from-2-1}
+use Rattle.receiver.proofs.RunLaws.{Done, all_in, last_buffer, fill_start, fill_end, ends_within, closable, ends_push}
+use Rattle.receiver.proofs.run.by_fillings.Goals.{After-loop-from, After-seconds, After-slice_known-in-loop-from-2-1}
 use Rattle.receiver.proofs.run.by_fillings.Goals as goal
 
 -- how far it went
@@ -17,14 +18,14 @@ bounds : (c : After-slice_known-in-loop-from-2-1) → (1 ≤ c.fill-n.result) ×
     × (c.loop-from.unscanned + c.fill-n.result < 13 * c.args.s.now.rate)
 bounds c =
     let l = c.loop-from in
-    fill-bounds c.args.s.now.rate c.args.dbm.now (allIn c.args.s.now c.args.samples.now c.args.events.now c.args.scratch.now c.args.dbm.now) (lastBuffer c.args.s.now c.args.samples.now c.args.events.now c.args.scratch.now c.args.dbm.now) c.args.events.now l.samples l.events l.held l.base l.unscanned l.t l.from c.requires.lowest c.requires.accepted.samples l.invariant.3 (omega (arith, c.loop-from-test.true)) c.halve-left.result c.fill-n.result c.halve-left.ensures.0 c.fill-n.ensures.0
+    fill-bounds c.args.s.now.rate c.args.dbm.now (all_in c.args.s.now c.args.samples.now c.args.events.now c.args.scratch.now c.args.dbm.now) (last_buffer c.args.s.now c.args.samples.now c.args.events.now c.args.scratch.now c.args.dbm.now) c.args.events.now l.samples l.events l.held l.base l.unscanned l.t l.from c.requires.lowest c.requires.accepted.samples l.invariant.3 (omega (arith, c.loop-from-test.true)) c.halve-left.result c.fill-n.result c.halve-left.ensures.0 c.fill-n.ensures.0
 
 -- what it made
-filled : (c : After-slice_known-in-loop-from-2-1) → FilledAt c.args.s.now.rate c.args.dbm.now (allIn c.args.s.now c.args.samples.now c.args.events.now c.args.scratch.now c.args.dbm.now) (lastBuffer c.args.s.now c.args.samples.now c.args.events.now c.args.scratch.now c.args.dbm.now) c.args.events.now c.fill-n.new.samples c.loop-from.events (c.halve-left.result + c.fill-n.result)
+filled : (c : After-slice_known-in-loop-from-2-1) → FilledAt c.args.s.now.rate c.args.dbm.now (all_in c.args.s.now c.args.samples.now c.args.events.now c.args.scratch.now c.args.dbm.now) (last_buffer c.args.s.now c.args.samples.now c.args.events.now c.args.scratch.now c.args.dbm.now) c.args.events.now c.fill-n.new.samples c.loop-from.events (c.halve-left.result + c.fill-n.result)
     (c.loop-from.base + (c.loop-from.held - c.halve-left.result)) (c.loop-from.unscanned + c.fill-n.result) (record { starts = c.shift.new.s; waiting = c.loop-from.t.waiting; count = c.loop-from.t.count }) (c.loop-from.from + c.fill-n.result)
 filled c =
     let l = c.loop-from in
-    fill-turn c.args.s.now.rate c.args.dbm.now (allIn c.args.s.now c.args.samples.now c.args.events.now c.args.scratch.now c.args.dbm.now) (lastBuffer c.args.s.now c.args.samples.now c.args.events.now c.args.scratch.now c.args.dbm.now) c.args.events.now l.samples l.events l.held l.base l.unscanned l.t l.from c.requires.lowest c.requires.accepted.samples l.invariant.3 (omega (arith, c.loop-from-test.true)) c.halve-left.result c.fill-n.result c.halve-left.new.samples c.fill-n.new.samples c.shift.new.s c.halve-left.ensures.0 c.halve-left.ensures.1 c.fill-n.ensures.0 c.fill-n.ensures.1
+    fill-turn c.args.s.now.rate c.args.dbm.now (all_in c.args.s.now c.args.samples.now c.args.events.now c.args.scratch.now c.args.dbm.now) (last_buffer c.args.s.now c.args.samples.now c.args.events.now c.args.scratch.now c.args.dbm.now) c.args.events.now l.samples l.events l.held l.base l.unscanned l.t l.from c.requires.lowest c.requires.accepted.samples l.invariant.3 (omega (arith, c.loop-from-test.true)) c.halve-left.result c.fill-n.result c.halve-left.new.samples c.fill-n.new.samples c.shift.new.s c.halve-left.ensures.0 c.halve-left.ensures.1 c.fill-n.ensures.0 c.fill-n.ensures.1
     (shifted_is l.t.starts c.shift.new.s (l.held - c.halve-left.result) l.invariant.3.within.starts c.shift.ensures)
 
 -- the buffer is as long as it was
@@ -47,13 +48,13 @@ pub shift-requires : goal.shift-requires
 shift-requires c =
     let l = c.loop-from in
     let h = c.halve-left in
-    shift-asks c.args.s.now.rate c.args.dbm.now (allIn c.args.s.now c.args.samples.now c.args.events.now c.args.scratch.now c.args.dbm.now) (lastBuffer c.args.s.now c.args.samples.now c.args.events.now c.args.scratch.now c.args.dbm.now) c.args.events.now l.samples l.events l.held l.base l.unscanned l.t l.from c.requires.lowest c.requires.accepted.samples l.invariant.3 (omega (arith, c.loop-from-test.true)) c.requires.highest c.requires.accepted.size h.result h.ensures.0
+    shift-asks c.args.s.now.rate c.args.dbm.now (all_in c.args.s.now c.args.samples.now c.args.events.now c.args.scratch.now c.args.dbm.now) (last_buffer c.args.s.now c.args.samples.now c.args.events.now c.args.scratch.now c.args.dbm.now) c.args.events.now l.samples l.events l.held l.base l.unscanned l.t l.from c.requires.lowest c.requires.accepted.samples l.invariant.3 (omega (arith, c.loop-from-test.true)) c.requires.highest c.requires.accepted.size h.result h.ensures.0
 
 pub fill-n-requires : goal.fill-n-requires
 fill-n-requires c =
     let l = c.loop-from in
     let h = c.halve-left in
-    let g = fill-asks c.args.s.now.rate c.args.dbm.now (allIn c.args.s.now c.args.samples.now c.args.events.now c.args.scratch.now c.args.dbm.now) (lastBuffer c.args.s.now c.args.samples.now c.args.events.now c.args.scratch.now c.args.dbm.now) c.args.events.now l.samples l.events l.held l.base l.unscanned l.t l.from c.requires.lowest c.requires.accepted.samples l.invariant.3 (omega (arith, c.loop-from-test.true)) in
+    let g = fill-asks c.args.s.now.rate c.args.dbm.now (all_in c.args.s.now c.args.samples.now c.args.events.now c.args.scratch.now c.args.dbm.now) (last_buffer c.args.s.now c.args.samples.now c.args.events.now c.args.scratch.now c.args.dbm.now) c.args.events.now l.samples l.events l.held l.base l.unscanned l.t l.from c.requires.lowest c.requires.accepted.samples l.invariant.3 (omega (arith, c.loop-from-test.true)) in
     (rw h.ensures.1 g.0, rw h.ensures.0 g.1, g.2)
 
 pub overflow_add-held : goal.overflow_add-held
@@ -108,16 +109,27 @@ done c =
     let l = c.loop-from in
     fill_end a.s.now a.samples.now a.events.now a.scratch.now a.dbm.now l.samples l.events l.held l.base l.unscanned l.t l.from l.invariant.3 (omega (arith, c.loop-from-test.false))
 
+pub seconds-requires : goal.seconds-requires
+seconds-requires c =
+    let a = c.args in
+    ends_within a.s.now (push a.dbm.now) a.samples.now _ a.events.now _ a.scratch.now _ _ _ _ c.requires (done (goal.at.seconds-requires c).After-loop-from)
+
+-- its messages leave by its time
+leaving : (c : After-seconds) → EndsBy (push c.args.dbm.now) (CompleteAt c.seconds.result) (seconds c.args.s.now.rate (c.loop-from.base + c.loop-from.held))
+leaving c = rw c.seconds.ensures (ends_push c.args.dbm.now _)
+
 pub finish-requires : goal.finish-requires
 finish-requires c =
     let a = c.args in
-    closable (mark_of a.shifts a.closed.now) a.s.now (push a.dbm.now) a.samples.now _ a.events.now _ a.scratch.now _ _ _ _ false c.requires (done (goal.at.finish-requires c).After-loop-from) (ends_push a.dbm.now) c.loop-from.invariant.1
+    let d = goal.at.finish-requires c in
+    closable (mark_by (schedule a.given.now)) a.s.now (push a.dbm.now) a.samples.now _ a.events.now _ a.scratch.now _ _ _ _ _ c.requires (done d.After-loop-from) (leaving d.After-seconds) c.loop-from.invariant.1
 
 pub returns : goal.returns
 returns c =
     let a = c.args in
-    let d = done (goal.at.returns c).After-loop-from in
+    let g = goal.at.returns c in
+    let d = done g.After-loop-from in
     record {
-      ended = c.finish.ensures (push a.dbm.now) (allIn a.s.now a.samples.now a.events.now a.scratch.now a.dbm.now) a.events.now (ends_push a.dbm.now) d.under;
+      ended = c.finish.ensures (push a.dbm.now) (all_in a.s.now a.samples.now a.events.now a.scratch.now a.dbm.now) a.events.now (leaving g.After-seconds) d.under;
       samples = d.samples;
     }

@@ -1,4 +1,4 @@
-use Rattle.shifts.specs.Shifts.{mark_of}
+use Rattle.shifts.specs.Shifts.{schedule, mark_by}
 use Rattle.receiver.proofs.AddLaws.{addable, added}
 use Rattle.receiver.proofs.run.hear.Goals as goal
 
@@ -10,4 +10,4 @@ add-requires c = (c.only_adds.ensures c.if-only_adds.true, c.requires.highest, c
 
 pub returns-then-only_adds : goal.returns-then-only_adds
 returns-then-only_adds c = let a = c.args in
-    added a.s.now a.dbm.now a.samples.now a.events.now a.scratch.now c.requires (c.only_adds.ensures c.if-only_adds.true) (mark_of a.shifts a.closed.now) _ _ c.add.ensures
+    added a.s.now a.dbm.now a.samples.now a.events.now a.scratch.now c.requires (c.only_adds.ensures c.if-only_adds.true) (mark_by (schedule a.given.now)) _ _ c.add.ensures

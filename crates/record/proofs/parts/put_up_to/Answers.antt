@@ -2,7 +2,7 @@ use mathlib.Core.Path.{ap, ◌∙◌}
 use Prim.Native.Nat.{◌+◌, ◌-◌}
 use native.Mathlib.Omega.{arith}
 use lib.ListN.{length, take}
-use lib.Seq.{sets, take-length, length-take-le}
+use lib.Seq.{sets, length-take-le}
 use Rattle.record.specs.Record.{spare}
 use Rattle.record.proofs.PartLaws.{follow, up_to_all, up_to_some}
 use Rattle.record.proofs.parts.put_up_to.Goals as goal
@@ -10,7 +10,7 @@ use Rattle.record.proofs.parts.put_up_to.Goals as goal
 pub returns-then-bytes-len : goal.returns-then-bytes-len
 returns-then-bytes-len c = let a = c.args in
     let l = a.bytes.now in
-    c.copy_into.ensures ∙ ap (sets a.out.now a.at) (take-length l ∙ up_to_all a.len l c.if-bytes-len.true)
+    c.copy_into.ensures ∙ ap (sets a.out.now a.at) (up_to_all a.len l c.if-bytes-len.true)
 
 pub returns : goal.returns
 returns c = let a = c.args in

@@ -2,7 +2,7 @@ use native.Mathlib.Omega.{arith}
 use mathlib.Core.Path.{◌≡◌, refl, ap, ◌∙◌}
 use lib.Dec.{leb}
 use lib.ListN.{get_or}
-use Rattle.subscription.specs.Charges.{all_to, dearest}
+use Rattle.subscription.specs.Charges.{all_to, dearest, no_step}
 use Rattle.subscription.proofs.PriceLaws.{all_more}
 use Rattle.subscription.proofs.prices.cheap.Goals as goal
 
@@ -12,13 +12,13 @@ loop-j-init c = refl
 
 pub loop-j-preserved : goal.loop-j-preserved
 loop-j-preserved c =
-    let prices = c.args.plan.prices in
+    let steps = c.args.plan.steps in
     let l = c.loop-j in
-    all_more (λ i. leb (get_or prices i 0) dearest) l.j l.ok (leb (get_or prices l.j 0) dearest) l.invariant refl
+    all_more (λ i. leb ((get_or steps i no_step).price) dearest) l.j l.ok (leb ((get_or steps l.j no_step).price) dearest) l.invariant refl
 
 pub returns : goal.returns
 returns c =
     let a = c.args in
     let l = c.loop-j in
     let e : l.j ≡ a.n = omega arith in
-    l.invariant ∙ ap (all_to (λ i. leb (get_or a.plan.prices i 0) dearest)) e
+    l.invariant ∙ ap (all_to (λ i. leb ((get_or a.plan.steps i no_step).price) dearest)) e

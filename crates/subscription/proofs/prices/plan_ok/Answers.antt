@@ -18,7 +18,7 @@ returns-then-steps-lt1 c =
 pub returns : goal.returns
 returns c =
     plan_is c.args.plan c.cheap-low.result c.rising-rises.result c.saturating_sub-neighbours.result c.if-steps-lt1.false c.if-steps-gt-MOST_STEPS.false c.cheap-low.ensures
-    (c.saturating_sub-neighbours.ensures ∙ two c.args.plan.steps) c.rising-rises.ensures
+    (c.saturating_sub-neighbours.ensures ∙ two c.args.plan.count) c.rising-rises.ensures
   where
     two : (n : ℕ) → n - 2 ≡ n - 1 - 1
     two n = omega arith

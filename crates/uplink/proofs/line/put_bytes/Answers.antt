@@ -1,27 +1,23 @@
-use borrow.Author.Rules.{rules}
-use mathlib.Core.Path.{refl}
+use mathlib.Core.Path.{sym, ap, ◌∙◌}
+use Prim.Native.Nat.{ℕ, ◌+◌, ◌*◌}
 use native.Mathlib.Omega.{arith}
-use lib.ListN.{length-set}
-use Rattle.uplink.proofs.Words.{stored_start, stored_end, stored-turn, none_more, none_here, none-next, two_more}
+use native.Mathlib.Numerals.{add-one}
+use lib.ListN.{drop, set, length-set, length-drop}
+use lib.Seq.{sets}
+use Rattle.uplink.specs.Line.{bytes_in}
+use Rattle.uplink.proofs.Words.{bytes-turn, bytes_short, bytes_count}
 use Rattle.uplink.proofs.line.put_bytes.Goals as goal
 
-pub loop-i-init : goal.loop-i-init
-loop-i-init c = let a = c.args in (search rules, search rules, refl, stored_start a.line.now a.out.now a.from)
-
-pub returns-then-line-i-eq-SPACE : goal.returns-then-line-i-eq-SPACE
-returns-then-line-i-eq-SPACE c = let l = c.loop-i in let a = c.args in stored_end a.line.now a.out.now a.from l.out l.n l.i (none_here a.line.now l.i (search rules) c.if-line-i-eq-SPACE.true) l.invariant.3
-
-pub returns-then-line-i-eq-SPACE-2 : goal.returns-then-line-i-eq-SPACE-2
-returns-then-line-i-eq-SPACE-2 c =
-    let l = c.loop-i in let a = c.args in stored_end a.line.now a.out.now a.from l.out l.n l.i (none-next a.line.now l.i c.loop-i-test.true c.if-line-i-eq-SPACE.false c.if-line-i-eq-SPACE-2.true) l.invariant.3
-
-pub bounds-out-n : goal.bounds-out-n
-bounds-out-n c =
-    let l = c.loop-i in omega (arith, l.invariant.1, l.invariant.2, c.requires.1, c.loop-i-test.true)
-
 pub loop-i-preserved : goal.loop-i-preserved
-loop-i-preserved c =
-    let l = c.loop-i in let a = c.args in let h = c.loop-i-test.true in (omega arith, omega (arith, l.invariant.1), simp length-set l.invariant.2, stored-turn a.line.now a.out.now a.from l.out l.n l.i c.byte_of.result (two_more a.line.now l.i h c.if-line-i-eq-SPACE.false c.if-line-i-eq-SPACE-2.false c.byte_of.result c.byte_of.ensures) l.invariant.3)
+loop-i-preserved c = let l = c.loop-i in
+    let w = c.args.w.now in
+    let v = c.byte_of.result in (
+      length-set l.out l.i v ∙ l.invariant.0,
+      ap (λ (k : ℕ). sets (set l.out l.i v) k (bytes_in (drop (2 * (l.i + 1)) w))) (add-one l.i)
+          ∙ ap (sets l.out l.i) (sym (bytes-turn w l.i v (omega arith) c.byte_of.ensures)) ∙ l.invariant.1,
+    )
 
 pub returns : goal.returns
-returns c = let l = c.loop-i in let a = c.args in stored_end a.line.now a.out.now a.from l.out l.n l.i (none_more a.line.now l.i c.loop-i-test.false) l.invariant.3
+returns c = let l = c.loop-i in
+    let w = c.args.w.now in
+    (ap (sets l.out l.i) (sym (bytes_short (drop (2 * l.i) w) (omega (arith, length-drop (2 * l.i) w)))) ∙ l.invariant.1, sym (bytes_count w))

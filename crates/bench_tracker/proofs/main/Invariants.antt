@@ -1,6 +1,0 @@
-use Rattle.frequency.specs.Lent.{lists}
-use Rattle.frequency_grown.specs.Rising.{Single}
-use Rattle.bench_tracker.proofs.main.Given as goal
-
-abbrev pub invariant-loop : goal.invariant-loop
-invariant-loop l = Single l.s.tracker (lists l.at l.lo l.hz l.tunings l.freqs)

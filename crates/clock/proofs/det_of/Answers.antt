@@ -1,6 +1,0 @@
-use Rattle.clock.specs.Running.{det}
-use Rattle.clock.proofs.det_of.Goals as goal
-
-pub returns : goal.returns
-unfolding det
-returns c = rw c.count_as_f64.ensures

@@ -1,6 +1,0 @@
-use Rattle.clock.specs.Running.{index_at}
-use Rattle.clock.proofs.index_at.Goals as goal
-
-pub returns : goal.returns
-unfolding index_at
-returns c = c.round_half_up.ensures

@@ -1,9 +1,0 @@
--- The arguments are counted up.
-use Rattle.std.proofs.Common.{◌-◌}
-use Rattle.events.proofs.arguments.are_shifts.Given as goal
-
-abbrev pub invariant-loop-i : goal.invariant-loop-i
-invariant-loop-i g l = Unit
-
-abbrev pub decreases-loop-i : goal.decreases-loop-i
-decreases-loop-i g l = l.count - l.i

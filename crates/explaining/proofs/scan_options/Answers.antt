@@ -1,7 +1,0 @@
-use Rattle.std.proofs.Common.{refl}
-use lib.Ieee.{of_bits, of_int, round}
-use Rattle.explaining.proofs.scan_options.Goals as goal
-
-pub returns : goal.returns
-unfolding of_bits of_int round
-returns c = refl
