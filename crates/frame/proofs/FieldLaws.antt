@@ -129,6 +129,15 @@ pub right_short : (rank n : ℕ) (l : List Bool) → length l < 8 * n → false 
 unfolding right_bits
 right_short rank n l h = simp (lt-leb _ _ h)
 
+-- from the bytes that the code has, with zeros after them
+pub right_padded : (rank n : ℕ) (l : List Bool) (bytes : List ℕ) → 2 ≤ n → 8 * n ≤ length l → bytes ≡ padded most_bytes (to_bytes n (deconvolved rank fresh l))
+    → crc_right n bytes ≡ right_bits rank n l
+unfolding right_bits
+right_padded rank n l bytes h k e =
+    let b = to_bytes n (deconvolved rank fresh l) in
+    ap (crc_right n) e ∙ crc-front n b (replicate (most_bytes - length b) 0) h (length-bytes n (deconvolved rank fresh l))
+    ∙ ap (λ (t : Bool). t && crc_right n b) (sym (le-leb (8 * n) (length l) k))
+
 -- ---- when a repair passes
 
 module _ (kind : FrameKind) (how : Option Repair) (body : List Bool) where
