@@ -22,13 +22,14 @@ use Rattle.frame.specs.Repairs.{repaired}
 use Rattle.frame.specs.Decode.{is_right, parse_body, passes, mends}
 use Rattle.frame.specs.Plain.{right_bits}
 use Rattle.frame.specs.Splices.{spliced}
-use Rattle.frame.specs.Bodies.{bits_of}
+use Rattle.frame.specs.Bodies.{bits_of, IsOf}
 use Rattle.frame.specs.declared.bodies.Body.{Body}
 use Rattle.frame.specs.declared.splices.Spliced.{Spliced}
 use Rattle.frame.specs.declared.kinds.FrameKind.{FrameKind}
 use Rattle.frame.specs.declared.Repair.{Repair}
 use Rattle.frame.specs.declared.UplinkFrame.{UplinkFrame}
 use Rattle.frame.proofs.SizeLaws.{li_cancels, body_least}
+use Rattle.frame.proofs.SpliceLaws.{bits_are}
 
 -- ---- LI is below 4
 
@@ -168,8 +169,9 @@ module _ (kind : FrameKind) (how : Option Repair) (body : List Bool) where
       ∙ ap (λ (x : List Bool). cond (leb (8 * n) (length x)) (Some (frame_from kind how (to_bytes n (deconvolved kind.rank fresh x)))) None) e
 
 -- what the code's test of a body with a splice says of the repair that it makes
-pub tested : (b : Body) (how : Repair) (v : Spliced) (r : Bool) → v.body ≡ b → spliced v.splice (map odd b.bits.now) ≡ repaired (Some how) (map odd b.bits.now)
-    → r ≡ right_bits v.body.kind.rank v.body.size (bits_of v) → mends b.kind (map odd b.bits.now) how ≡ r
+pub tested : (b : Body) (how : Repair) (v : Spliced) (r : Bool) → IsOf v b → spliced v.splice (map odd b.bits.now) ≡ repaired (Some how) (map odd b.bits.now)
+    → r ≡ right_bits v.rank v.size (bits_of v) → mends b.kind (map odd b.bits.now) how ≡ r
 tested b how v r e m f =
     passes_is b.kind (Some how) (map odd b.bits.now)
-    ∙ sym (f ∙ ap (λ (x : Body). right_bits x.kind.rank x.size (spliced v.splice (map odd x.bits.now))) e ∙ ap₂ (right_bits b.kind.rank) b.whole m)
+    ∙ sym (f ∙ ap (λ (k : ℕ). right_bits k v.size (bits_of v)) e.1
+    ∙ ap₂ (right_bits b.kind.rank) (e.2 ∙ b.whole) (bits_are b v e (repaired (Some how) (map odd b.bits.now)) m))
