@@ -204,7 +204,7 @@ fn check_messages(w: &Waiting) -> Result<(), Refusal>
 {
     let c = receiver_waiting::check(w, 0.0);
     if !c.ok {
-        return Err(Refusal::BadState);
+        return Err(Refusal::BadState); // over 40 too
     }
     if c.nan {
         return Err(Refusal::BadNumber);
@@ -233,7 +233,7 @@ fn check_state(s: &SigfoxReceiver, samples: &[f32], n: usize) -> Result<(), Refu
     }
     let c = receiver_waiting::check(&s.waiting, 0.0);
     if !c.ok {
-        return Err(Refusal::BadState);
+        return Err(Refusal::BadState); // over 40 waiting too
     }
     check_stream(s.base, s.held, n)?;
     let nan = c.nan;
