@@ -207,7 +207,7 @@ fn check_messages(w: &Waiting) -> Result<(), Refusal>
         return Err(Refusal::BadState); // over 40 too
     }
     if c.nan {
-        return Err(Refusal::BadNumber);
+        return Err(Refusal::BadNumber); // before 11
     }
     Ok(())
 }
@@ -238,7 +238,7 @@ fn check_state(s: &SigfoxReceiver, samples: &[f32], n: usize) -> Result<(), Refu
     check_stream(s.base, s.held, n)?;
     let nan = c.nan;
     if nan {
-        return Err(Refusal::BadNumber);
+        return Err(Refusal::BadNumber); // 11 comes after it
     }
     Ok(())
 }
