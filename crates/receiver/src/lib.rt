@@ -204,10 +204,10 @@ fn check_messages(w: &Waiting) -> Result<(), Refusal>
 {
     let c = receiver_waiting::check(w, 0.0);
     if !c.ok {
-        return Err(Refusal::BadState);
+        return Err(Refusal::BadState); // over 40 too
     }
     if c.nan {
-        return Err(Refusal::BadNumber);
+        return Err(Refusal::BadNumber); // before 11
     }
     Ok(())
 }
@@ -233,12 +233,12 @@ fn check_state(s: &SigfoxReceiver, samples: &[f32], n: usize) -> Result<(), Refu
     }
     let c = receiver_waiting::check(&s.waiting, 0.0);
     if !c.ok {
-        return Err(Refusal::BadState);
+        return Err(Refusal::BadState); // over 40 waiting too
     }
     check_stream(s.base, s.held, n)?;
     let nan = c.nan;
     if nan {
-        return Err(Refusal::BadNumber);
+        return Err(Refusal::BadNumber); // 11 comes after it
     }
     Ok(())
 }
