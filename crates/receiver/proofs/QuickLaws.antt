@@ -1,7 +1,7 @@
 -- A push that is accepted and only adds its samples, by what its callers ask first. Assumes nothing.
 use mathlib.Core.Bool.{cond, false, true}
 use mathlib.Core.List.{List}
-use mathlib.Core.Path.{◌≡◌, ◌∙◌, refl, sym}
+use mathlib.Core.Path.{◌≡◌, ◌∙◌, refl, subst, sym}
 use mathlib.Core.Logic.{⊎_elim}
 use Prim.Native.Nat.{ℕ, ◌+◌, ◌*◌, ◌≤◌, ◌<◌}
 use native.Mathlib.Omega.{arith}
@@ -23,7 +23,8 @@ use Rattle.receiver_waiting.specs.declared.Condition.{Condition}
 use Rattle.receiver_waiting.specs.declared.Waiting.{Waiting}
 use Rattle.receiver.specs.State.{given_cause, messages_cause, numbers_ok, samples_ok, state_cause}
 use Rattle.receiver.specs.Calls.{Memory, lengths_of}
-use Rattle.receiver.specs.Running.{Quiet, OnlyAdds}
+use Rattle.receiver.specs.Running.{Quiet, OnlyAdds, viewed, Views}
+use Rattle.receiver.specs.declared.View.{View}
 use Rattle.receiver.specs.declared.SigfoxReceiver.{SigfoxReceiver}
 use Rattle.receiver.proofs.AnswerLaws.{refusal_is}
 use Rattle.receiver.proofs.CauseLaws.{order_cause, order-messages, push-later, state-last}
@@ -49,6 +50,13 @@ stream_none k x e z =
     (λ f. absurd (let w : x ≡ stream = rw f at e in omega arith))
     (λ f. ltb-false longest_stream k f)
     (either (ltb longest_stream k))
+
+-- of the memory that is looked at
+pub view_quiet : (rate held base u : ℕ) (s : Starts) (v : View) (m : Memory) (n : ℕ) → Views v m → Quiet rate held base u s v.samples.now (viewed v) n
+    → Quiet rate held base u s m.samples (lengths_of m) n
+view_quiet rate held base u s v m n w q =
+    subst (λ (b : Lent). Quiet rate held base u s m.samples b n) w.lengths
+    (subst (λ (l : List Float). Quiet rate held base u s l (viewed v) n) w.samples q)
 
 -- messages in order, none of which is found complete
 pub none_expire : (w : Waiting) {now : Float} (r : Condition) → waiting.Checked w now r → r.ok ≡ true → r.expires ≡ false → any_expires now (waiting_of w) ≡ false
