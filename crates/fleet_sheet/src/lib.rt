@@ -4,13 +4,13 @@
 pub mod rows; // a device's row
 pub mod table; // the rows of the devices met so far
 
-ghost use Rattle.std.specs.Prelude.{◌≡◌, ◌+◌, ◌*◌, ◌≤◌, true, ◌&&◌, [], length};
+ghost use Rattle.std.specs.Prelude.{◌≡◌, ◌+◌, ◌*◌, ◌≤◌, true, ◌&&◌, [], length, replicate};
 ghost use Rattle.std.proofs.lemmas.List.Edits.{sets};
 ghost use Rattle.limits.specs.Answer.{said, answer, number, leaves};
 ghost use Rattle.event_list.specs.Events.{wholes, most_records, list_ok};
 ghost use Rattle.fleet_sheet.specs.Fleet.{devices_of};
 ghost use Rattle.fleet_sheet.specs.Report.{nine, sheet, sheet_places, fleet_messages, fleet_cause};
-ghost use Rattle.fleet_sheet.specs.Table.{devices_in, rows_in, nines};
+ghost use Rattle.fleet_sheet.specs.Table.{no_entry, rows_most, devices_in, rows_in, nines};
 ghost use Rattle.fleet_sheet.specs.declared.Tally.{Tally};
 ghost use Rattle.fleet_sheet.specs.Tallies.{Held, Tallied, Adds, Reported};
 
@@ -48,7 +48,7 @@ pub fn no_records() -> Tally
 
 // A table without rows.
 pub fn no_rows() -> [DeviceRow; 256]
-    ensures { (t : Tally) → t.devices ≡ 0 → Held t result [] }
+    ensures { (result ≡ replicate rows_most no_entry) × ((t : Tally) → t.devices ≡ 0 → Held t result []) }
 {
     let row = Row {
         messages: 0,

@@ -7,5 +7,5 @@ loop-bytes-init c =
     let r = c.no_records-t in (
       search rules,
       omega (arith, r.ensures.0),
-      record { messages = []; held = c.no_rows-table.ensures r.result r.ensures.2 },
+      record { messages = []; held = c.no_rows-table.ensures.1 r.result r.ensures.2 },
     )

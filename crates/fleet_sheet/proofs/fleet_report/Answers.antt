@@ -17,13 +17,13 @@ returns-then-records-gt-MOST_RECORD_BYTES c =
 pub read_records-t-requires : goal.read_records-t-requires
 read_records-t-requires c = (
   omega (arith, c.no_records.ensures.0, c.if-records-gt-MOST_RECORD_BYTES.false),
-  record { messages = []; held = c.no_rows-table.ensures c.no_records.result c.no_records.ensures.2 },
+  record { messages = []; held = c.no_rows-table.ensures.1 c.no_records.result c.no_records.ensures.2 },
 )
 
 pub report-requires : goal.report-requires
 report-requires c = (
   search rules,
-  record { messages = fleet_messages c.args.«records».now; held = c.read_records-t.ensures.2 [] (c.no_rows-table.ensures c.no_records.result c.no_records.ensures.2) },
+  record { messages = fleet_messages c.args.«records».now; held = c.read_records-t.ensures.2 [] (c.no_rows-table.ensures.1 c.no_records.result c.no_records.ensures.2) },
 )
 
 pub returns : goal.returns
@@ -33,4 +33,4 @@ returns c =
     let l = a.«records».now in
     let e : w.result.ok ≡ list_ok l = w.ensures.1 ∙ ap (λ (b : Bool). b && list_ok l) c.no_records.ensures.1 in
     says_read l a.rows.now (omega (arith, c.if-rows-lt-SHEET.false)) (omega (arith, c.if-records-gt-MOST_RECORD_BYTES.false)) w.result.ok e c.report.result _
-    (c.report.ensures (fleet_messages l) (w.ensures.2 [] (c.no_rows-table.ensures c.no_records.result c.no_records.ensures.2)))
+    (c.report.ensures (fleet_messages l) (w.ensures.2 [] (c.no_rows-table.ensures.1 c.no_records.result c.no_records.ensures.2)))
