@@ -17,7 +17,7 @@ use lib.Dec.{leb, ltb}
 use lib.Ieee.{Float}
 use lib.ListN.{get_or, length}
 use borrow.Author.Tests.{le-ltb, lt-ltb, ltb-false}
-use Rattle.ledger.specs.Causes.{Lent, any_nan, call_cause, cause, most_waiting, orderly, too_short}
+use Rattle.ledger.specs.Causes.{Lent, all_fit, any_nan, call_cause, cause, most_waiting, orderly, too_short, unlike}
 use Rattle.ledger.proofs.Basics.{and_true, either}
 use Rattle.ledger.specs.Ledger.{Call, by_entry, capacity, flush, push}
 use Rattle.ledger.specs.Room.{Below}
@@ -170,6 +170,11 @@ module _ (s : SigfoxReceiver) (buf : List Float) (b : Lent) where
   flush-later x e h = h ∙ pick_none (rate_ok s.rate) (too_short s.rate b) (ltb (capacity s.rate) 0) (order_cause s buf) e ∙ flush_is
 
 -- ---- the state's causes
+
+-- no message, none out of order
+pub none_wait : (w : Waiting) → w.count ≡ 0 → 0 ≡ messages_cause w
+unfolding messages_cause unlike all_fit any_nan
+none_wait w z = rw z refl
 
 module _ (w : Waiting) {now : Float} (r : Condition) (k : waiting.Checked w now r) where
   pub messages-order : r.ok ≡ false → bad_state ≡ messages_cause w

@@ -27,7 +27,7 @@ use Rattle.receiver.specs.Running.{Quiet, OnlyAdds, viewed, Views}
 use Rattle.receiver.specs.declared.View.{View}
 use Rattle.receiver.specs.declared.SigfoxReceiver.{SigfoxReceiver}
 use Rattle.receiver.proofs.AnswerLaws.{refusal_is}
-use Rattle.receiver.proofs.CauseLaws.{order_cause, order-messages, push-later, state-last}
+use Rattle.receiver.proofs.CauseLaws.{order_cause, order-messages, push-later, state-last, none_wait}
 
 pub samples-calm : (rate held base u : ℕ) (s : Starts) (buf : List Float) → samples_ok rate held base u s buf ≡ true → 2 * u < rate
 unfolding samples_ok
@@ -75,3 +75,8 @@ module _ (s : SigfoxReceiver) (p : Schedule) (m : Memory) (xs : List Float) (n :
         accepted = sym (refusal_is s (push xs) p m 0 0 (sym planned ∙ first_zero 0 (schedule_cause p) refl) (push-later s m.samples (lengths_of m) xs n 0 en q.given (t ∙ rw v refl)));
         adds = record { some = q.some; fits = q.fits; quiet = q.calm; stay = stay };
       }
+
+  -- with no message
+  pub only_adds_none : s.waiting.count ≡ 0 → OnlyAdds s (push xs) p n m
+  unfolding any_expires
+  only_adds_none z = only_adds (none_wait s.waiting z) (rw z refl)
