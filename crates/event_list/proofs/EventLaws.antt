@@ -8,6 +8,8 @@ use native.Mathlib.Numerals.{add-one}
 use lib.ListN.{length, get_or, take, drop, length-append, length-drop}
 use lib.Seq.{drop-cons, drop-drop, take-append-le, drop-append-le, take-append_seam, drop-append_seam}
 use Rattle.limits.specs.Limits.{record_size, most_record_bytes}
+use Rattle.std.specs.Prelude.{Ok, Err}
+use Rattle.limits.specs.declared.Refusal.{Refusal}
 use Rattle.limits.proofs.Samples.{and_assoc, and_true}
 use Rattle.event_list.specs.Events.{records_of, wholes, events_of, record_ok, all_ok, list_ok, Reordered}
 
@@ -139,3 +141,14 @@ none_left l h es i n e = omega (arith, ap length (sym (event_end l h) ∙ e), le
 pub ok_last : (l : List ℕ) → length l < record_size → (ok w : Bool) → ok && all_ok (events_of l) ≡ w → ok ≡ w
 unfolding all_ok
 ok_last l h ok w p = sym (and_true ok) ∙ ap (λ (es : List (List ℕ)). ok && all_ok es) (sym (event_end l h)) ∙ p
+
+-- ---- what is read of a list that may be refused: v, or the refusal
+
+module _ {A : Type 0} (v : A) (refusal : Refusal) where
+  pub when_ok : (ok : Bool) (t : A) → Ok t ≡ cond ok (Ok v) (Err refusal) → (ok ≡ true) × (t ≡ v)
+  when_ok true t e = (refl, cc)
+  when_ok false t e = absurd cc
+
+  pub when_bad : (ok : Bool) (x : Refusal) → Err x ≡ cond ok (Ok v) (Err refusal) → (ok ≡ false) × (x ≡ refusal)
+  when_bad true x e = absurd cc
+  when_bad false x e = (refl, cc)
