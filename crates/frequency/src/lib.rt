@@ -14,7 +14,7 @@ ghost use Rattle.frequency.specs.Waiting.{Settling, settled_of, step_by};
 
 use frequency_lists::{Reading, Tuning};
 use frequency_measure::FrameFrequency;
-use frequency_signal::{Signal, Stream};
+use frequency_signal::{Pace, Signal, Stream};
 use frequency_tuning::Step;
 use limits::Refusal;
 
@@ -275,11 +275,8 @@ fn settled_step(t: &FrequencyTracker, held: &[Reading], out: &mut [f64]) -> Step
     requires { Settling t.now held.now out.old }
     ensures { result ≡ settled_by (settled_of t.now held.now) }
 {
-    let stream = Stream {
-        rate: t.rate,
-        n: t.signal.n,
-    };
-    let m = frequency_measure::gather_late(stream, t.signal.frame_from, held, out);
+    let pace = Pace { rate: t.rate };
+    let m = frequency_measure::gather_late(pace, t.signal.frame_from, held, out);
     if m < frequency_measure::FEWEST {
         return Step::Stay;
     }

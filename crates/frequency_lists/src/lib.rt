@@ -7,7 +7,7 @@ ghost use Rattle.limits.specs.Limits.{longest_stream, most_readings};
 ghost use Rattle.frequency_lists.specs.Lists.{read_up_to, tuned_up_to, all_numbers, ReachesAll, last_or, readings_from, fits_readings, fits_tunings, ats, tuneds, freqs};
 ghost use Rattle.frequency_lists.specs.Marks.{put};
 
-use frequency_signal::Stream;
+use frequency_signal::{Pace, Stream};
 
 // One CFO value per 8 RSSI samples.
 const CFO_EVERY: u64 = 8;
@@ -130,6 +130,7 @@ pub fn read_values(
     ensures next { result ≡ count + length (readings_from start.rate step more tuned_at f start.n raw.now) }
     ensures list { readings.new ≡ sets readings.old count (readings_from start.rate step more tuned_at f start.n raw.now) }
 {
+    let pace = Pace { rate: start.rate };
     let mut w = count;
     for (k, v) in raw.iter().enumerate() {
         let at = start.n + CFO_EVERY * (k as u64);
@@ -138,7 +139,7 @@ pub fn read_values(
             lo: f,
             hz: cfo::reading_hz(f, *v, step),
         };
-        let settling = start.is_settling(tuned_at, at);
+        let settling = pace.is_settling(tuned_at, at);
         w = put(!(settling & more), w, x, readings);
     }
     w
