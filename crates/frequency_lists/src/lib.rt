@@ -1,7 +1,8 @@
 // The tracker's lent lists: readings, and tunings. Tests of what is held, the last tuning, and appending.
 #![tactic(auto)]
 
-ghost use Rattle.std.specs.Prelude.{◌≡◌, cond, ◌+◌, ◌<◌, ◌≤◌, true, not, length, is_nan};
+ghost use Rattle.std.specs.Prelude.{◌≡◌, cond, ◌+◌, ◌<◌, ◌≤◌, true, not, ◌&&◌, length, is_nan, IfSome};
+ghost use Rattle.std.specs.Option.{is_some};
 ghost use Rattle.std.proofs.lemmas.List.Edits.{sets};
 ghost use Rattle.limits.specs.Limits.{longest_stream, most_readings};
 ghost use Rattle.frequency_lists.specs.Lists.{read_up_to, tuned_up_to, all_numbers, ReachesAll, last_or, readings_from, fits_readings, fits_tunings, ats, tuneds, freqs};
@@ -11,6 +12,9 @@ use frequency_signal::{Pace, Stream};
 
 // One CFO value per 8 RSSI samples.
 const CFO_EVERY: u64 = 8;
+
+// The readings of a block. A loop over a number of readings that is known is laid out without a test between them.
+const BLOCK: usize = 16;
 
 // A frequency that was read (Hz): at which sample, against which receiver frequency.
 #[derive(Clone, Copy)]
@@ -79,6 +83,56 @@ pub fn no_nan(readings: &[Reading]) -> bool
     ensures { result ≡ all_numbers readings.now }
 {
     readings.iter().all(|x| is_number(x.hz))
+}
+
+// `spread` and `no_nan` of a block, or of what is left of the list. No early exit, so that two frequencies are tested by one
+// comparison.
+fn look_part(readings: &[Reading], low: u64) -> (u64, bool)
+    ensures { ReachesAll low result.0 (ats readings.now) × (result.1 ≡ all_numbers readings.now) }
+{
+    let mut bits = 0u64;
+    let mut ok = true;
+    for x in readings {
+        let here = is_number(x.hz);
+        bits |= std::num::wrapping_sub_u64(x.at, low);
+        ok &= here;
+    }
+    (bits, ok)
+}
+
+// `spread` and `no_nan` in one pass, since most of a pass is to read the list: nothing where a frequency is a NaN.
+pub fn spread_of_numbers(readings: &[Reading], low: u64) -> Option<u64>
+    ensures numbers { is_some result ≡ all_numbers readings.now }
+    ensures bits { IfSome result (λ r. ReachesAll low r (ats readings.now)) }
+{
+    let mut bits = 0u64;
+    let blocks = readings.len() / BLOCK;
+    for k in 0..blocks {
+        let (more, ok) = look_part(&readings[BLOCK * k..BLOCK * k + BLOCK], low);
+        if !ok {
+            return None;
+        }
+        bits |= more;
+    }
+    let (more, ok) = look_part(&readings[BLOCK * blocks..], low);
+    ok.then_some(bits | more)
+}
+
+// `within` and `no_nan` in one pass.
+pub fn numbers_within(readings: &[Reading], limit: u64) -> bool
+    ensures { result ≡ (read_up_to limit readings.now && all_numbers readings.now) }
+{
+    if readings.is_empty() {
+        return true;
+    }
+    let low = readings[0].at;
+    let Some(bits) = spread_of_numbers(readings, low) else {
+        return false;
+    };
+    if low <= limit && bits <= limit - low {
+        return true;
+    }
+    each_within(readings, limit)
 }
 
 // The receiver frequency: the last tuning's, or the base frequency (freq).
