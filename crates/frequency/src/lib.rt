@@ -108,7 +108,8 @@ fn is_due(t: &FrequencyTracker, hz: u32, tunings: &[Tuning]) -> bool
 
 // A look at the readings before a line of `more` samples: one pass for their order and for what the line makes go.
 pub fn first_look(t: &FrequencyTracker, more: usize, readings: &[Reading]) -> Option<usize>
-    ensures { IfSome result (λ lead. Looked (oldest_of t.now.rate (t.now.signal.n + more)) (t.now.signal.n + ahead) lead (take t.now.readings readings.now)) }
+    ensures { IfSome result (λ lead. (t.now.readings ≤ length readings.now)
+        × Looked (oldest_of t.now.rate (t.now.signal.n + more)) (t.now.signal.n + ahead) lead (take t.now.readings readings.now)) }
 {
     let n = t.signal.n;
     if n > limits::LONGEST_STREAM || more > limits::MOST_SAMPLES || readings.len() < t.readings {
