@@ -393,18 +393,11 @@ pub fn choose_tuning(
 }
 
 impl FrequencyTracker {
-    // A tracker that has heard nothing; refusals 1 (rate) and 9 (step).
-    pub fn new(rate: u32, base_freq: u32, step_hz: f64) -> Result<Self, Refusal>
-        ensures number { cause_of result ≡ cause_new rate step_hz }
-        ensures value { IfOk result (λ t. t ≡ fresh rate base_freq step_hz) }
+    // A tracker that has heard nothing, of any rate and step: its calls refuse those that are out of range.
+    pub fn fresh(rate: u32, base_freq: u32, step_hz: f64) -> Self
+        ensures { result ≡ fresh rate base_freq step_hz }
     {
-        if !limits::rate_ok(rate) {
-            return Err(Refusal::BadRate);
-        }
-        if !frequency_tuning::step_ok(step_hz) {
-            return Err(Refusal::BadNumber);
-        }
-        Ok(FrequencyTracker {
+        FrequencyTracker {
             rate,
             base_freq,
             step_hz,
@@ -419,7 +412,21 @@ impl FrequencyTracker {
                 last_signal: None,
                 retuned: false,
             },
-        })
+        }
+    }
+
+    // The same where rate and step are in range; refusals 1 (rate) and 9 (step).
+    pub fn new(rate: u32, base_freq: u32, step_hz: f64) -> Result<Self, Refusal>
+        ensures number { cause_of result ≡ cause_new rate step_hz }
+        ensures value { IfOk result (λ t. t ≡ fresh rate base_freq step_hz) }
+    {
+        if !limits::rate_ok(rate) {
+            return Err(Refusal::BadRate);
+        }
+        if !frequency_tuning::step_ok(step_hz) {
+            return Err(Refusal::BadNumber);
+        }
+        Ok(Self::fresh(rate, base_freq, step_hz))
     }
 
     // The frequency that the receiver is tuned to; refusals 1, 5, 9.
