@@ -31,9 +31,8 @@ pub struct Tuning {
     pub freq: u32,
 }
 
-// The bits of the differences of the indices to low: two operations an index, so that it is the quickest look at all of them.
-// One that is before low leaves a large difference.
-pub fn spread(readings: &[Reading], low: u64) -> u64
+// `spread` of a block, or of what is left of the list.
+fn spread_part(readings: &[Reading], low: u64) -> u64
     ensures { ReachesAll low result (ats readings.now) }
 {
     let mut bits = 0u64;
@@ -41,6 +40,19 @@ pub fn spread(readings: &[Reading], low: u64) -> u64
         bits |= std::num::wrapping_sub_u64(x.at, low);
     }
     bits
+}
+
+// The bits of the differences of the indices to low: two operations an index, so that it is the quickest look at all of them.
+// One that is before low leaves a large difference.
+pub fn spread(readings: &[Reading], low: u64) -> u64
+    ensures { ReachesAll low result (ats readings.now) }
+{
+    let mut bits = 0u64;
+    let blocks = readings.len() / BLOCK;
+    for k in 0..blocks {
+        bits |= spread_part(&readings[BLOCK * k..BLOCK * k + BLOCK], low);
+    }
+    bits | spread_part(&readings[BLOCK * blocks..], low)
 }
 
 // Whether the indices are at most limit, one by one.
