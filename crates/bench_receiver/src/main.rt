@@ -48,9 +48,9 @@ fn adds(receiver: &SigfoxReceiver, proved: bool, raw: &[u8], given: &Given, lent
     ensures { result ≡ true → OnlyAdds receiver.now (push_raw raw.now) (schedule given.now) (length raw.now) (memory lent.now) }
 {
     if proved {
-        return receiver_grown::adds_raw(receiver, raw, given, lent);
+        return receiver_grown::adds_raw(receiver, raw, given, lent.view());
     }
-    receiver.adds_raw(raw, given, lent)
+    receiver.adds_raw(raw, given, lent.view())
 }
 
 // One push.

@@ -131,3 +131,8 @@ state_agrees rank n bytes l =
     ap (λ (s : State). state_after s (deconvolved rank s l)) (states_agree rank n bytes)
     ∙ sym (state-append (numbered n) x (deconvolved rank (state_after (numbered n) x) l))
     ∙ ap (state_after (numbered n)) (sym (deconvolve-append rank (numbered n) (bytes_bits bytes) l))
+
+pub state-lt : (rank n : ℕ) (bytes : List ℕ) → n < 4 → state_bytes rank n bytes < 4
+unfolding state_bytes
+state-lt rank n [] h = h
+state-lt rank n (b ∷ bs) h = state-lt rank (next_state rank n b) bs (next-lt rank n b)

@@ -3,12 +3,9 @@
 
 mod words; // a number in an argument
 
-ghost use Rattle.event_list.specs.Events.{most_records};
-ghost use Rattle.subscription.specs.Counting.{Few};
-
 use limits::Refusal;
 use std::rt::Env;
-use subscription::{MOST_STEPS, Plan, Step, Tally};
+use subscription::{MOST_STEPS, Plan, Step};
 
 // Arguments before those of the steps: the program's name, fee, allowance and month's start.
 const FIRST_STEP: usize = 4;
@@ -103,24 +100,12 @@ fn print_charge(rt: &impl Print, charge: Result<u64, Refusal>) {
     }
 }
 
-// What the plan takes for what was read.
-fn total(
-    tally: Result<Tally, Refusal>,
-    counts: &[u32; 31],
-    plan: Plan,
-    month_start: i64,
-) -> Result<u64, Refusal>
-    requires { Few counts.now most_records }
-{
-    subscription::total(tally?, counts, plan, month_start)
-}
-
 // The list is read in parts of 512 records, so that it need not stand in memory.
 fn charge_input(rt: &(impl Input + Print + Eprint), plan: Plan, month_start: i64) {
     let start = subscription::second_of(month_start);
     let mut part = [0u8; 61440];
     let mut counts = [0u32; 31];
-    let mut tally = Ok(subscription::no_records());
+    let mut t = subscription::no_records();
     let mut bytes: usize = 0;
     while bytes <= limits::MOST_RECORD_BYTES {
         let fetched = reading::fill(&mut rt.reader(), &mut part);
@@ -129,7 +114,7 @@ fn charge_input(rt: &(impl Input + Print + Eprint), plan: Plan, month_start: i64
             return;
         };
         if n == 0 {
-            print_charge(rt, total(tally, &counts, plan, month_start));
+            print_charge(rt, subscription::total(t, &counts, plan, month_start));
             return;
         }
         bytes += n;
@@ -137,9 +122,7 @@ fn charge_input(rt: &(impl Input + Print + Eprint), plan: Plan, month_start: i64
             replay::print_refusal(rt, Refusal::Long);
             return;
         }
-        if let Ok(t) = tally {
-            tally = subscription::read_records(t, &part[..n], start, &mut counts);
-        }
+        t = subscription::read_records(t, &part[..n], start, &mut counts);
     }
 }
 

@@ -98,9 +98,11 @@ pub fn convolve_from(bits: &[u8], rank: u8, state: u8, out: &mut [u8]) -> u8
 {
     let (mut p, mut q) = inputs_of(state);
     for (i, b) in bits.iter().enumerate() {
-        out[i] = coded_bit(*b, rank, p, q);
+        // read once, before `out` is written, so that several are worked out at a time
+        let x = *b;
+        out[i] = coded_bit(x, rank, p, q);
         q = p;
-        p = *b;
+        p = x;
     }
     2 * p + q
 }

@@ -2,7 +2,7 @@
 use mathlib.Core.Path.{◌≡◌, refl, sym, ap, ◌∙◌, subst}
 use mathlib.Core.List.{List, [], ◌∷◌, ◌++◌, append_assoc}
 use Prim.Native.Nat.{ℕ, zero, suc, ◌+◌, ◌-◌, ◌*◌, ◌/◌, ◌%◌, ◌^◌, ◌≤◌, ◌<◌}
-use native.Mathlib.Nat.{pow-suc, one-le-pow, zero-lt-suc, div-div-eq-div-mul}
+use native.Mathlib.Nat.{pow-suc, one-le-pow, pow-le-pow_right, lt_of_lt_of_le, zero-lt-suc, div-div-eq-div-mul}
 use native.Mathlib.Omega.{arith}
 use lib.ListN.{length, get_or, take, drop, replicate}
 use lib.Seq.{sets, sets-eq, drop-cons, drop-drop, get_or-drop, take_all, length-take-le}
@@ -139,3 +139,41 @@ read w j k at s vs h r ej ek e =
 
     long : length vs ≡ w
     long = ap length first ∙ length-take-le w (drop at s) (omega (arith, length-drop at s))
+
+-- ---- the loop that reads: from the last byte to the first, i bytes are left
+
+module _ (k : ℕ) (s : List ℕ) (at i : ℕ) (I : 0 < i) (K : i ≤ k) where
+  pub get-turn : at + k ≤ length s → number_at (k - i) s (at + i) * 256 + get_or s (at + (i - 1)) 0 ≡ number_at (k - (i - 1)) s (at + (i - 1))
+  get-turn h =
+      turned (number_at (k - i) s (at + i)) (get_or s (at + (i - 1)) 0)
+      ∙ ap (λ (j : ℕ). get_or s (at + (i - 1)) 0 + 256 * number_at (k - i) s j) (place at i I)
+      ∙ sym (number_step (k - i) s (at + (i - 1)) (omega arith))
+      ∙ ap (λ (j : ℕ). number_at j s (at + (i - 1))) (more k i I K)
+    where
+      turned : (a b : ℕ) → a * 256 + b ≡ b + 256 * a
+      turned a b = omega arith
+
+      place : (at i : ℕ) → 0 < i → at + i ≡ suc (at + (i - 1))
+      place at i h = omega arith
+
+      more : (k i : ℕ) → 0 < i → i ≤ k → suc (k - i) ≡ k - (i - 1)
+      more k i h l = omega arith
+
+  -- one byte more still fits 64 bits
+  pub get-room : k ≤ 8 → ((j : ℕ) → get_or s j 0 < 256) → number_at (k - i) s (at + i) < 2 ^ 56
+  get-room E b = lt_of_lt_of_le (number_lt (k - i) s (at + i) b) (pow-le-pow_right (zero-lt-suc 255) {i = k - i} {j = 7} (omega arith))
+
+pub get_start : (k : ℕ) (s : List ℕ) (at : ℕ) → 0 ≡ number_at (k - k) s (at + k)
+get_start k s at = sym (ap (λ (j : ℕ). number_at j s (at + k)) (none k) ∙ number_none s (at + k))
+  where
+    none : (k : ℕ) → k - k ≡ 0
+    none k = omega arith
+
+pub get_end : (k : ℕ) (s : List ℕ) (at i : ℕ) → i ≡ 0 → number_at (k - i) s (at + i) ≡ number_at k s at
+get_end k s at i e = ap (λ (j : ℕ). number_at (k - j) s (at + j)) e ∙ ap (λ (j : ℕ). number_at j s (at + 0)) (a k) ∙ ap (number_at k s) (b at)
+  where
+    a : (n : ℕ) → n - 0 ≡ n
+    a n = omega arith
+
+    b : (n : ℕ) → n + 0 ≡ n
+    b n = omega arith

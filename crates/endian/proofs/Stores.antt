@@ -4,7 +4,7 @@ use mathlib.Core.List.{List, [], ◌∷◌, ◌++◌, append_assoc}
 use Prim.Native.Nat.{ℕ, suc, ◌+◌, ◌-◌, ◌^◌, ◌≤◌, ◌<◌}
 use native.Mathlib.Omega.{arith}
 use lib.ListN.{length, set, take, drop}
-use lib.Seq.{sets, sets-eq, length-take-le, take_at, drop_at, drop-set-lt, drop-set-add, take-set-le}
+use lib.Seq.{sets, sets-eq, length-take-le, take_at, drop_at, drop-append-add, drop-set-lt, drop-set-add, take-set-le}
 use Rattle.endian.specs.Bytes.{bytes_of, number_of, number_at}
 use Rattle.endian.proofs.Numbers.{bytes-length, number-bytes}
 
@@ -16,6 +16,11 @@ number-field k n a rest at e h =
     ∙ ap (λ (l : List ℕ). number_of (take k l)) (drop_at a (bytes_of k n ++ rest) at e)
     ∙ ap number_of (take_at (bytes_of k n) rest k (bytes-length k n))
     ∙ number-bytes k n h
+
+-- a place counted from the end of a first part
+pub number-later : (k : ℕ) (a l : List ℕ) (at : ℕ) → number_at k (a ++ l) (length a + at) ≡ number_at k l at
+unfolding number_at
+number-later k a l at = ap (λ (r : List ℕ). number_of (take k r)) (drop-append-add a l at)
 
 -- get undoes put
 pub number_put : (k n : ℕ) (l : List ℕ) (at : ℕ) → at + k ≤ length l → n < 256 ^ k → number_at k (sets l at (bytes_of k n)) at ≡ n

@@ -12,7 +12,8 @@ use lib.Dec.{T, ltb}
 use lib.IntN.{ℤ, pos, negsuc}
 use lib.Signed.{mag}
 use mir.Syntax.{w32}
-use mir.Val.{of_z, to_z, sel}
+use mir.Val.{SFits, of_z, to_z, sel}
+use mir.ValLaws.{to_z-Fits}
 use lib.Ieee.{Float, Format, top, fits, of_bits}
 use lib.Ieee.Bits.{of_bits-to_bits, to_bits-lt}
 use Rattle.endian.specs.Bytes.{bytes_of, number_at, bits_of, float_at, signed_bits, signed_of}
@@ -46,6 +47,9 @@ number_is n = go (ltb n (2 ^ 31))
     go : (b : Bool) → sel b (pos n) (negsuc (2 ^ 32 - suc n)) ≡ cond b (pos n) (negsuc (2 ^ 32 - suc n))
     go true = refl
     go false = refl
+
+pub signed_in : (n : ℕ) → n < 2 ^ 32 → SFits w32 (signed_of 32 n)
+signed_in n h = subst (SFits w32) (number_is n) (to_z-Fits w32 n record { fits = h })
 
 -- and the machine's bits of a signed number
 pub bits_are : (z : ℤ) → of_z w32 z ≡ signed_bits 32 z

@@ -164,12 +164,22 @@ pub fn put<T: LittleEndian>(out: &mut [u8], at: usize, x: T)
     out[at..at + T::SIZE].copy_from_slice(&bytes[..T::SIZE]);
 }
 
+// The number whose k bytes stand at a place. Byte by byte it becomes one load; copied into an array of 8 it is a store, and a wider load that waits for it.
+fn number(s: &[u8], at: usize, k: usize) -> u64
+    requires { (at + k ≤ length s.now) × (k ≤ 8) }
+    ensures { result ≡ number_at k s.now at }
+{
+    let mut n: u64 = 0;
+    for i in (0..k).rev() {
+        n = n * 256 + u64::from(s[at + i]);
+    }
+    n
+}
+
 // The number whose bytes stand at a place, the lowest first: Rust's from_le_bytes.
 pub fn get<T: LittleEndian>(s: &[u8], at: usize) -> T
     requires { at + T.SIZE ≤ length s.now }
     ensures { result ≡ T.of_pattern (number_at T.SIZE s.now at) }
 {
-    let mut bytes = [0; 8];
-    bytes[..T::SIZE].copy_from_slice(&s[at..at + T::SIZE]);
-    T::of_bits(u64::from_le_bytes(bytes))
+    T::of_bits(number(s, at, T::SIZE))
 }

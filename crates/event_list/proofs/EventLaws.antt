@@ -2,12 +2,12 @@
 use mathlib.Core.Path.{◌≡◌, refl, sym, ap, ◌∙◌}
 use mathlib.Core.Bool.{Bool, true, false, cond, ◌&&◌}
 use mathlib.Core.List.{List, [], ◌∷◌, ◌++◌, Permᴰ}
-use Prim.Native.Nat.{ℕ, zero, suc, ◌+◌, ◌*◌, ◌%◌, ◌≤◌, ◌<◌}
+use Prim.Native.Nat.{ℕ, zero, suc, ◌+◌, ◌-◌, ◌*◌, ◌%◌, ◌^◌, ◌≤◌, ◌<◌}
 use native.Mathlib.Omega.{arith}
 use native.Mathlib.Numerals.{add-one}
 use lib.ListN.{length, get_or, take, drop, length-append, length-drop}
-use lib.Seq.{drop-cons, take-append-le, drop-append-le, take-append_seam, drop-append_seam}
-use Rattle.limits.specs.Limits.{record_size}
+use lib.Seq.{drop-cons, drop-drop, take-append-le, drop-append-le, take-append_seam, drop-append_seam}
+use Rattle.limits.specs.Limits.{record_size, most_record_bytes}
 use Rattle.std.specs.Prelude.{Ok, Err}
 use Rattle.limits.specs.declared.Refusal.{Refusal}
 use Rattle.limits.proofs.Samples.{and_assoc, and_true}
@@ -19,6 +19,32 @@ pub length-records : (n : ℕ) (l : List ℕ) → length (records_of n l) ≡ n
 unfolding records_of
 length-records zero l = refl
 length-records (suc n) l = ap suc (length-records n (drop record_size l))
+
+pub record_at : (n i : ℕ) (l : List ℕ) → i < n → get_or (records_of n l) i [] ≡ take record_size (drop (record_size * i) l)
+unfolding records_of
+record_at zero i l h = absurd (omega arith)
+record_at (suc n) zero l h = refl
+record_at (suc n) (suc i) l h =
+    record_at n i (drop record_size l) (omega arith)
+    ∙ ap (take record_size) (drop-drop (record_size * i) record_size l ∙ ap (λ (k : ℕ). drop k l) (place i))
+  where
+    place : (i : ℕ) → 120 + 120 * i ≡ 120 * suc i
+    place i = omega arith
+
+-- a whole record ends inside the list
+pub inside : (l : List ℕ) (i : ℕ) → i < wholes l → 120 * i + 120 ≤ length l
+inside l i h = omega arith
+
+-- the part of the list that it is
+pub event_part : (l : List ℕ) (i : ℕ) → i < wholes l → take (120 * i + 120 - 120 * i) (drop (120 * i) l) ≡ get_or (events_of l) i []
+event_part l i h = ap (λ (k : ℕ). take k (drop (120 * i) l)) (size i) ∙ sym (record_at (wholes l) i l h)
+  where
+    size : (i : ℕ) → 120 * i + 120 - 120 * i ≡ 120
+    size i = omega arith
+
+-- a list that is not refused with 3 has at most a million
+pub events-few : (l : List ℕ) → length l ≤ most_record_bytes → length (events_of l) ≤ 2 ^ 20
+events-few l h = omega (arith, length-records (wholes l) l)
 
 -- ---- a list that goes on
 

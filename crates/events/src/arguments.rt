@@ -1,4 +1,6 @@
 // What the arguments say of shifts: a start second, then windows A-B and closed dates in any sequence (README.md).
+ghost use Rattle.std.specs.Prelude.{IfSome, ◌≤◌, length};
+
 use shifts::{Given, Shifts, Window};
 use std::rt::Env;
 
@@ -63,7 +65,9 @@ fn add_window(shifts: &mut Shifts, window: Window) {
 }
 
 // What the arguments give, no shifts where there is none; the closed dates for which the list has a place. None where they say something else.
-pub fn read_given<'a>(rt: &impl Env, closed: &'a mut [u32]) -> Option<Given<'a>> {
+pub fn read_given<'a>(rt: &impl Env, closed: &'a mut [u32]) -> Option<Given<'a>>
+    ensures { IfSome result (λ g. length g.closed.now ≤ length closed.old) }
+{
     let count = command_line::arg_count(rt);
     let mut shifts = Shifts::none();
     if MOST < count {

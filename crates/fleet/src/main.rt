@@ -1,7 +1,6 @@
 // The fleet report of the event records on standard input, a line a device (README.md).
 #![tactic(auto)]
 
-ghost use Rattle.std.specs.Prelude.{◌≤◌, length, IfOk};
 ghost use Rattle.fleet_sheet.specs.Tallies.{Tallied};
 
 use fleet_sheet::table::DeviceRow;
@@ -28,23 +27,12 @@ fn print_row(rt: &impl Print, row: &[i64]) {
     replay::print_end(rt);
 }
 
-// The report of what was read.
-fn report(
-    tally: Result<Tally, Refusal>,
-    table: &[DeviceRow; 256],
-    rows: &mut [i64; 2304],
-) -> Result<usize, Refusal>
-    requires { IfOk tally (λ t. Tallied t table.now) }
-{
-    fleet_sheet::report(tally?, table, rows)
-}
-
-// Its lines, or that of its refusal.
-fn finish(rt: &impl Print, tally: Result<Tally, Refusal>, table: &[DeviceRow; 256])
-    requires { IfOk tally (λ t. Tallied t table.now) }
+// The lines of the report of what was read, or that of its refusal.
+fn finish(rt: &impl Print, t: Tally, table: &[DeviceRow; 256])
+    requires { Tallied t table.now }
 {
     let mut rows = [0i64; 2304];
-    match report(tally, table, &mut rows) {
+    match fleet_sheet::report(t, table, &mut rows) {
         Ok(n) => {
             for row in rows.chunks_exact(NUMBERS).take(n) {
                 print_row(rt, row);
@@ -65,7 +53,7 @@ fn main(rt: HostRuntime) {
     let mut part = [0u8; 61440];
     let mut table = fleet_sheet::no_rows();
     let mut hints = [0u8; 4096];
-    let mut tally = Ok(fleet_sheet::no_records());
+    let mut t = fleet_sheet::no_records();
     let mut bytes: usize = 0;
     while bytes <= limits::MOST_RECORD_BYTES {
         let fetched = reading::fill(&mut rt.reader(), &mut part);
@@ -74,7 +62,7 @@ fn main(rt: HostRuntime) {
             return;
         };
         if n == 0 {
-            finish(&rt, tally, &table);
+            finish(&rt, t, &table);
             return;
         }
         bytes += n;
@@ -82,8 +70,6 @@ fn main(rt: HostRuntime) {
             replay::print_refusal(&rt, Refusal::Long);
             return;
         }
-        if let Ok(t) = tally {
-            tally = fleet_sheet::read_records(t, &part[..n], &mut table, &mut hints);
-        }
+        t = fleet_sheet::read_records(t, &part[..n], &mut table, &mut hints);
     }
 }

@@ -51,6 +51,10 @@ rows_in = map (λ e. e.row)
 abbrev pub no_row : Row
 no_row = record { messages = pos 0; one = pos 0; two = pos 0; three = pos 0; lowest = pos 0; highest = pos 0; halves = pos 0 }
 
+-- what stands in a table where no device has a row
+abbrev pub no_entry : DeviceRow
+no_entry = record { device = 0; row = no_row }
+
 -- the row at a place
 abbrev pub row_at : List Row → ℕ → Row
 row_at t p = slice_index_or t p no_row

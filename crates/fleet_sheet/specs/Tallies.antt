@@ -1,9 +1,7 @@
 -- Scaffolding. What is read so far of a list that comes in parts: the tally and the table stand for the messages among it. `fleet_report` reads its list as one part. Assumes nothing.
-use Rattle.std.specs.Prelude.{◌≡◌, ℕ, ◌+◌, ◌≤◌, true, cond, Result, Ok, Err, List, ◌++◌, length, ℤ}
+use Rattle.std.specs.Prelude.{◌≡◌, ℕ, ◌≤◌, Result, List, ◌++◌, length, ℤ}
 use Rattle.std.proofs.lemmas.List.Edits.{sets}
 use Rattle.limits.specs.Answer.{said, answer, number, leaves}
-use Rattle.limits.specs.declared.Refusal.TheVariants.{BadRecords}
-use Rattle.event_list.specs.Events.{wholes, list_ok}
 use Rattle.fleet_sheet.specs.declared.Tally.{Tally}
 use Rattle.limits.specs.declared.Refusal.{Refusal}
 use Rattle.fleet_sheet.specs.Fleet.{devices_of}
@@ -25,15 +23,8 @@ pub record Tallied (t : Tally) (table : List DeviceRow) : Type 0 where
 abbrev pub Adds : List ℕ → Tally → List DeviceRow → Tally → List DeviceRow → Type 0
 Adds l t table t' table' = (ms : List (List ℕ)) → Held t table ms → Held t' table' (ms ++ fleet_messages l)
 
--- and 12 applies where it applies to it
-pub record Reads (l : List ℕ) (t : Tally) (table : List DeviceRow) (r : Result Tally Refusal) (table' : List DeviceRow) : Type 0 where
-  pub read : Tally
-  pub answered : r ≡ cond (list_ok l) (Ok read) (Err BadRecords)
-  pub counted : read.«records» ≡ t.«records» + wholes l
-  pub adds : Adds l t table read table'
-
--- the report of what was read, or refusal 13
+-- the report of what was read, or refusal 12 or 13
 abbrev pub Reported : Tally → List DeviceRow → Result ℕ Refusal → List ℤ → List ℤ → Type 0
 Reported t table r before after =
     (ms : List (List ℕ)) → Held t table ms
-    → (said r ≡ answer (sheet_cause true ms) (length (devices_of ms))) × (after ≡ leaves (number (said r)) (sets before 0 (sheet ms)) before)
+    → (said r ≡ answer (sheet_cause t.ok ms) (length (devices_of ms))) × (after ≡ leaves (number (said r)) (sets before 0 (sheet ms)) before)

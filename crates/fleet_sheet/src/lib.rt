@@ -4,15 +4,15 @@
 pub mod rows; // a device's row
 pub mod table; // the rows of the devices met so far
 
-ghost use Rattle.std.specs.Prelude.{◌≡◌, ◌+◌, ◌*◌, ◌≤◌, [], length};
+ghost use Rattle.std.specs.Prelude.{◌≡◌, ◌+◌, ◌*◌, ◌≤◌, true, ◌&&◌, [], length, replicate};
 ghost use Rattle.std.proofs.lemmas.List.Edits.{sets};
 ghost use Rattle.limits.specs.Answer.{said, answer, number, leaves};
-ghost use Rattle.event_list.specs.Events.{wholes, most_records};
+ghost use Rattle.event_list.specs.Events.{wholes, most_records, list_ok};
 ghost use Rattle.fleet_sheet.specs.Fleet.{devices_of};
 ghost use Rattle.fleet_sheet.specs.Report.{nine, sheet, sheet_places, fleet_messages, fleet_cause};
-ghost use Rattle.fleet_sheet.specs.Table.{devices_in, rows_in, nines};
+ghost use Rattle.fleet_sheet.specs.Table.{no_entry, rows_most, devices_in, rows_in, nines};
 ghost use Rattle.fleet_sheet.specs.declared.Tally.{Tally};
-ghost use Rattle.fleet_sheet.specs.Tallies.{Held, Tallied, Reads, Reported};
+ghost use Rattle.fleet_sheet.specs.Tallies.{Held, Tallied, Adds, Reported};
 
 use crate::rows::Row;
 use crate::table::{DeviceRow, taken};
@@ -27,26 +27,28 @@ pub const NUMBERS: usize = 9;
 
 pub const SHEET: usize = 2304;
 
-// What was read: how many records, and how many devices have a row, one more than the table holds where there are more.
+// What was read: how many records, whether refusal 12 does not apply to them, and how many devices have a row, one more than the table holds where there are more.
 #[derive(Clone, Copy)]
 pub struct Tally {
     pub records: usize,
+    pub ok: bool,
     pub devices: usize,
 }
 
 // Nothing is read.
 pub fn no_records() -> Tally
-    ensures { (result.«records» ≡ 0) × (result.devices ≡ 0) }
+    ensures { (result.«records» ≡ 0) × (result.ok ≡ true) × (result.devices ≡ 0) }
 {
     Tally {
         records: 0,
+        ok: true,
         devices: 0,
     }
 }
 
 // A table without rows.
 pub fn no_rows() -> [DeviceRow; 256]
-    ensures { (t : Tally) → t.devices ≡ 0 → Held t result [] }
+    ensures { (result ≡ replicate rows_most no_entry) × ((t : Tally) → t.devices ≡ 0 → Held t result []) }
 {
     let row = Row {
         messages: 0,
@@ -60,17 +62,19 @@ pub fn no_rows() -> [DeviceRow; 256]
     [DeviceRow { device: 0, row }; 256]
 }
 
-// More records are read into the rows, in one pass; every record is tested for refusal 12, also where there are too many devices.
+// More records are read into the rows, in one pass; every record is tested, also where there are too many devices.
 pub fn read_records(
     t: Tally,
     records: &[u8],
     table: &mut [DeviceRow; 256],
     hints: &mut [u8; 4096],
-) -> Result<Tally, Refusal>
+) -> Tally
     requires { (t.«records» + wholes records.now ≤ most_records) × Tallied t table.old }
-    ensures { Reads records.now t table.old result table.new }
+    ensures { (result.«records» ≡ t.«records» + wholes records.now) × (result.ok ≡ t.ok && list_ok records.now)
+        × Adds records.now t table.old result table.new }
 {
-    let mut ok = records.len() % limits::RECORD == 0;
+    let whole = records.len() % limits::RECORD == 0;
+    let mut ok = t.ok & whole;
     let mut n = t.devices;
     for r in records.chunks_exact(limits::RECORD) {
         let event = EventRecord::new(r);
@@ -79,13 +83,11 @@ pub fn read_records(
             n = taken(table, hints, n, event);
         }
     }
-    if !ok {
-        return Err(Refusal::BadRecords);
-    }
-    Ok(Tally {
+    Tally {
         records: t.records + records.len() / limits::RECORD,
+        ok,
         devices: n,
-    })
+    }
 }
 
 // The nine numbers of a device.
@@ -114,11 +116,14 @@ fn put_sheet(table: &[DeviceRow], rows: &mut [i64])
     }
 }
 
-// How many rows of nine numbers are written: the report of what was read, or refusal 13, which changes nothing.
+// How many rows of nine numbers are written: the report of what was read, or refusal 12 or 13, which changes nothing.
 pub fn report(t: Tally, table: &[DeviceRow; 256], rows: &mut [i64]) -> Result<usize, Refusal>
     requires { (sheet_places ≤ length rows.old) × Tallied t table.now }
     ensures { Reported t table.now result rows.old rows.new }
 {
+    if !t.ok {
+        return Err(Refusal::BadRecords);
+    }
     let n = t.devices;
     if MOST_DEVICES < n {
         return Err(Refusal::ManyDevices);
@@ -140,6 +145,6 @@ pub fn fleet_report(records: &[u8], rows: &mut [i64]) -> Result<usize, Refusal>
     }
     let mut table = no_rows();
     let mut hints = [0u8; 4096];
-    let t = read_records(no_records(), records, &mut table, &mut hints)?;
+    let t = read_records(no_records(), records, &mut table, &mut hints);
     report(t, &table, rows)
 }

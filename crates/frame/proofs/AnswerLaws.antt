@@ -2,20 +2,22 @@
 use Rattle.std.proofs.Common.{Option, None, Some}
 use mathlib.Core.Path.{◌≡◌, refl, sym, ap, ◌∙◌, subst}
 use mathlib.Core.Bool.{Bool, true, false, cond}
-use mathlib.Core.List.{List}
+use mathlib.Core.List.{List, map}
 use Prim.Native.Nat.{ℕ, zero, suc, ◌+◌, ◌-◌, ◌*◌, ◌≤◌, min}
 use native.Mathlib.Omega.{arith}
-use lib.Dec.{leb}
+use lib.Dec.{leb, ltb}
 use lib.ListN.{length, take, drop, replicate, length-append, length-replicate}
 use borrow.Author.Tests.{lt-ltb, ltb-true}
-use Rattle.coding.specs.Bits.{value, to_bytes}
+use Rattle.limits.specs.Limits.{most_bits, long, bad_number}
+use Rattle.limits.specs.Answer.{Answer, refused, accepted}
+use Rattle.coding.specs.Bits.{odd, value, to_bytes, are_bits}
 use Rattle.coding.specs.Convolution.{fresh, deconvolved}
 use Rattle.coding.specs.Answers.{highest_rank}
 use Rattle.frame.specs.Kinds.{sync_size, kinds, kind_of}
 use Rattle.frame.specs.Sizes.{header_size, most_payload, most_auth, payload_size, auth_size, body_bytes}
 use Rattle.frame.specs.Fields.{li, payload_of, auth_of, padded, frame_from}
 use Rattle.frame.specs.Repairs.{repaired}
-use Rattle.frame.specs.Decode.{parse_body, passes, mends, first_repair, decode_body, decide_at, search_from, starts, first_start, decode_uplink}
+use Rattle.frame.specs.Decode.{parse_body, passes, mends, first_repair, decode_body, decide_at, search_from, starts, first_start, decode_uplink, uplink_answer}
 use Rattle.frame.specs.Splices.{placed}
 use Rattle.frame.specs.declared.kinds.FrameKind.{FrameKind}
 use Rattle.frame.specs.declared.Repair.{Repair}
@@ -43,6 +45,14 @@ pub record FrameOk (f : UplinkFrame) : Type 0 where
 abbrev pub DecodedOk : Option UplinkFrame → Type 0
 DecodedOk None = Unit {0}
 DecodedOk (Some f) = FrameOk f
+
+-- of an answer: a refusal bears no frame
+abbrev pub AnswerOk : Answer (Option UplinkFrame) → Type 0
+AnswerOk (refused n) = Unit {0}
+AnswerOk (accepted o) = DecodedOk o
+
+pub without_ok : (n : ℕ) → AnswerOk (refused n) × AnswerOk (accepted None)
+without_ok n = (tt, tt)
 
 length-padded : (n : ℕ) (l : List ℕ) → length l ≤ n → length (padded n l) ≡ n
 length-padded n l h = omega (arith, length-append l (replicate (n - length l) 0), length-replicate {A = ℕ} (n - length l) 0)
@@ -116,3 +126,12 @@ search_ok (suc n) start l = go (leb (start + sync_size) (length l)) (kind_of (va
 pub answer_ok : (l : List Bool) → DecodedOk (decode_uplink l)
 unfolding decode_uplink
 answer_ok l = search_ok starts first_start l
+
+pub uplink_ok : (bits : List ℕ) → AnswerOk (uplink_answer bits)
+unfolding uplink_answer
+uplink_ok bits = go (ltb most_bits (length bits)) (are_bits bits)
+  where
+    go : (a b : Bool) → AnswerOk (cond a (refused long) (cond b (accepted (decode_uplink (map odd bits))) (refused bad_number)))
+    go true b = (without_ok long).0
+    go false true = answer_ok (map odd bits)
+    go false false = (without_ok bad_number).0

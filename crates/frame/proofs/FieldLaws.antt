@@ -22,13 +22,14 @@ use Rattle.frame.specs.Repairs.{repaired}
 use Rattle.frame.specs.Decode.{is_right, parse_body, passes, mends}
 use Rattle.frame.specs.Plain.{right_bits}
 use Rattle.frame.specs.Splices.{spliced}
-use Rattle.frame.specs.Bodies.{bits_of}
+use Rattle.frame.specs.Bodies.{bits_of, IsOf}
 use Rattle.frame.specs.declared.bodies.Body.{Body}
 use Rattle.frame.specs.declared.splices.Spliced.{Spliced}
 use Rattle.frame.specs.declared.kinds.FrameKind.{FrameKind}
 use Rattle.frame.specs.declared.Repair.{Repair}
 use Rattle.frame.specs.declared.UplinkFrame.{UplinkFrame}
 use Rattle.frame.proofs.SizeLaws.{li_cancels, body_least}
+use Rattle.frame.proofs.SpliceLaws.{bits_are}
 
 -- ---- LI is below 4
 
@@ -129,6 +130,15 @@ pub right_short : (rank n : ℕ) (l : List Bool) → length l < 8 * n → false 
 unfolding right_bits
 right_short rank n l h = simp (lt-leb _ _ h)
 
+-- from the bytes that the code has, with zeros after them
+pub right_padded : (rank n : ℕ) (l : List Bool) (bytes : List ℕ) → 2 ≤ n → 8 * n ≤ length l → bytes ≡ padded most_bytes (to_bytes n (deconvolved rank fresh l))
+    → crc_right n bytes ≡ right_bits rank n l
+unfolding right_bits
+right_padded rank n l bytes h k e =
+    let b = to_bytes n (deconvolved rank fresh l) in
+    ap (crc_right n) e ∙ crc-front n b (replicate (most_bytes - length b) 0) h (length-bytes n (deconvolved rank fresh l))
+    ∙ ap (λ (t : Bool). t && crc_right n b) (sym (le-leb (8 * n) (length l) k))
+
 -- ---- when a repair passes
 
 module _ (kind : FrameKind) (how : Option Repair) (body : List Bool) where
@@ -159,8 +169,9 @@ module _ (kind : FrameKind) (how : Option Repair) (body : List Bool) where
       ∙ ap (λ (x : List Bool). cond (leb (8 * n) (length x)) (Some (frame_from kind how (to_bytes n (deconvolved kind.rank fresh x)))) None) e
 
 -- what the code's test of a body with a splice says of the repair that it makes
-pub tested : (b : Body) (how : Repair) (v : Spliced) (r : Bool) → v.body ≡ b → spliced v.splice (map odd b.bits.now) ≡ repaired (Some how) (map odd b.bits.now)
-    → r ≡ right_bits v.body.kind.rank v.body.size (bits_of v) → mends b.kind (map odd b.bits.now) how ≡ r
+pub tested : (b : Body) (how : Repair) (v : Spliced) (r : Bool) → IsOf v b → spliced v.splice (map odd b.bits.now) ≡ repaired (Some how) (map odd b.bits.now)
+    → r ≡ right_bits v.rank v.size (bits_of v) → mends b.kind (map odd b.bits.now) how ≡ r
 tested b how v r e m f =
     passes_is b.kind (Some how) (map odd b.bits.now)
-    ∙ sym (f ∙ ap (λ (x : Body). right_bits x.kind.rank x.size (spliced v.splice (map odd x.bits.now))) e ∙ ap₂ (right_bits b.kind.rank) b.whole m)
+    ∙ sym (f ∙ ap (λ (k : ℕ). right_bits k v.size (bits_of v)) e.1
+    ∙ ap₂ (right_bits b.kind.rank) (e.2 ∙ b.whole) (bits_are b v e (repaired (Some how) (map odd b.bits.now)) m))

@@ -20,7 +20,7 @@ use Rattle.frame.specs.Sizes.{most_bytes}
 use Rattle.frame.specs.Fields.{byte_at, padded, crc_right}
 use Rattle.frame.specs.Plain.{NextByte, Passed, right_bits}
 use Rattle.frame.specs.Splices.{keeping}
-use Rattle.frame.specs.Bodies.{bits_of}
+use Rattle.frame.specs.Bodies.{bits_of, IsOf}
 use Rattle.frame.specs.declared.bodies.Body.{Body}
 use Rattle.frame.specs.declared.plain.Prefix.{Prefix}
 use Rattle.frame.specs.declared.splices.Spliced.{Spliced}
@@ -43,18 +43,18 @@ passed_same rank l m f e r =
     sym (deconvolve-take n rank fresh l) ∙ ap (deconvolved rank fresh) e ∙ deconvolve-take n rank fresh m in
     record { crc = r.crc ∙ ap (run 0) g; state = r.state ∙ ap (state_after fresh) g }
 
-pub passed-spliced : (rank : ℕ) (v : Spliced) (f : Prefix) → 8 * f.bytes ≤ v.splice.at → Passed rank (map odd v.body.bits.now) f → Passed rank (bits_of v) f
-passed-spliced rank v f h r = passed_same rank (map odd v.body.bits.now) (bits_of v) f (sym (take-spliced v (8 * f.bytes) h)) r
+pub passed-spliced : (rank : ℕ) (v : Spliced) (f : Prefix) → 8 * f.bytes ≤ v.splice.at → Passed rank (map odd v.bits.now) f → Passed rank (bits_of v) f
+passed-spliced rank v f h r = passed_same rank (map odd v.bits.now) (bits_of v) f (sym (take-spliced v (8 * f.bytes) h)) r
 
 -- of a body, and of it with the splice that changes nothing
-module _ (b : Body) (v : Spliced) (e : v.body ≡ b) (k : v.splice ≡ keeping) (f : Prefix) where
-  pub passed_kept : Passed b.kind.rank (map odd b.bits.now) f → Passed v.body.kind.rank (bits_of v) f
+module _ (b : Body) (v : Spliced) (e : IsOf v b) (k : v.splice ≡ keeping) (f : Prefix) where
+  pub passed_kept : Passed b.kind.rank (map odd b.bits.now) f → Passed v.rank (bits_of v) f
   passed_kept r =
-      subst (λ (n : ℕ). Passed n (bits_of v) f) (ap (λ (x : Body). x.kind.rank) (sym e)) (subst (λ (l : List Bool). Passed b.kind.rank l f) (sym (bits_kept b v e k)) r)
+      subst (λ (n : ℕ). Passed n (bits_of v) f) (sym e.1) (subst (λ (l : List Bool). Passed b.kind.rank l f) (sym (bits_kept b v e k)) r)
 
-  pub kept_passed : Passed v.body.kind.rank (bits_of v) f → Passed b.kind.rank (map odd b.bits.now) f
+  pub kept_passed : Passed v.rank (bits_of v) f → Passed b.kind.rank (map odd b.bits.now) f
   kept_passed r =
-      subst (λ (n : ℕ). Passed n (map odd b.bits.now) f) (ap (λ (x : Body). x.kind.rank) e) (subst (λ (l : List Bool). Passed v.body.kind.rank l f) (bits_kept b v e k) r)
+      subst (λ (n : ℕ). Passed n (map odd b.bits.now) f) e.1 (subst (λ (l : List Bool). Passed v.rank l f) (bits_kept b v e k) r)
 
 -- ---- a byte more
 

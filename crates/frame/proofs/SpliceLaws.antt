@@ -1,5 +1,5 @@
 -- The bits of a body with a splice, by index, and the splice of each repair. Assumes nothing.
-use Rattle.std.proofs.Common.{Some}
+use Rattle.std.proofs.Common.{Some, Bor}
 use mathlib.Core.Path.{◌≡◌, refl, sym, ap, ◌∙◌}
 use mathlib.Core.Bool.{Bool, true, false, not}
 use mathlib.Core.List.{List, [], ◌∷◌, ◌++◌, map}
@@ -11,8 +11,9 @@ use borrow.Author.Tests.{ltb-true, lt-ltb}
 use Rattle.coding.specs.Bits.{odd, bit_of, are_bits}
 use Rattle.coding.proofs.BitLaws.{odd-bit, bit_at, length-map-odd}
 use Rattle.frame.specs.Repairs.{replaced, repaired}
+use Rattle.frame.specs.Sizes.{most_bytes}
 use Rattle.frame.specs.Splices.{spliced, placed, place, keeping}
-use Rattle.frame.specs.Bodies.{bits_of}
+use Rattle.frame.specs.Bodies.{bits_of, IsOf}
 use Rattle.frame.specs.declared.bodies.Body.{Body}
 use Rattle.frame.specs.declared.Repair.{Repair}
 use Rattle.frame.specs.declared.Repair.TheVariants.{Inserted, Deleted, Flipped}
@@ -74,7 +75,7 @@ module _ (at : ℕ) (middle : List Bool) (skip : ℕ) (l : List Bool) (h : at + 
 
 module _ (v : Spliced) where
   abbrev bits : List ℕ
-  bits = v.body.bits.now
+  bits = v.bits.now
 
   abbrev s : Splice
   s = v.splice
@@ -117,6 +118,12 @@ module _ (v : Spliced) where
       let e = length-replicate s.put (odd s.bit) in
       drop-replaced s.at middle s.skip (map odd bits) in_bits n (omega (arith, e)) ∙ ap (λ (k : ℕ). drop (n - k + s.skip) (map odd bits)) e
 
+-- nothing more is asked of bits than that they are bits, nor of a splice than that it lies in them: they may be as many as memory holds, of any rank and any size of a frame
+pub any_spliced : (bits : Bor (List ℕ)) (rank size : ℕ) (splice : Splice) → are_bits bits.now ≡ true → 2 ≤ size → size ≤ most_bytes
+    → splice.bit < 2 → splice.put ≤ 1 → splice.skip ≤ 1 → splice.at + splice.skip ≤ length bits.now → Spliced
+any_spliced bits rank size splice valid some most bit put skip inside =
+    record { bits = bits; rank = rank; size = size; splice = splice; valid = valid; some = some; most = most; bit = bit; put = put; skip = skip; inside = inside }
+
 -- ---- the splice of a repair
 
 pub odd_not : (b : ℕ) → b < 2 → odd (1 - b) ≡ not (odd b)
@@ -141,9 +148,9 @@ unfolding spliced replaced
 kept l = refl
 
 -- the bits of a body with a splice, from the body itself
-module _ (b : Body) (v : Spliced) (e : v.body ≡ b) where
+module _ (b : Body) (v : Spliced) (e : IsOf v b) where
   pub bits_are : (l : List Bool) → spliced v.splice (map odd b.bits.now) ≡ l → bits_of v ≡ l
-  bits_are l m = ap (λ (x : Body). spliced v.splice (map odd x.bits.now)) e ∙ m
+  bits_are l m = ap (λ (x : List ℕ). spliced v.splice (map odd x)) e.0 ∙ m
 
   pub bits_kept : v.splice ≡ keeping → bits_of v ≡ map odd b.bits.now
   bits_kept m = bits_are (map odd b.bits.now) (ap (λ (s : Splice). spliced s (map odd b.bits.now)) m ∙ kept (map odd b.bits.now))

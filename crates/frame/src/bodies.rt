@@ -29,6 +29,32 @@ pub struct Body<'a> {
     pub ghost most: { size ≤ most_bytes },
 }
 
+// The frame of a kind that plain bytes hold.
+#[inline(always)]
+pub fn frame_from(plain: Plaintext, kind: FrameKind, how: Option<Repair>) -> UplinkFrame
+    requires { (kind.class ≤ 4) × (plain.crc_ok ≡ crc_right (body_bytes kind.class) plain.bytes) }
+    ensures { result ≡ frame_from kind how plain.bytes }
+{
+    let layout = Layout {
+        class: kind.class,
+        li: plain.li(),
+    };
+    UplinkFrame {
+        rank: kind.rank,
+        device_id: plain.device(),
+        counter: plain.counter(),
+        payload: plain.payload(layout),
+        payload_len: layout.payload_size(),
+        bit: layout.bit(),
+        downlink: plain.bytes[0] / 32 % 2 == 1,
+        control: kind.control,
+        auth: plain.auth(layout),
+        auth_len: layout.auth_size(),
+        crc_ok: plain.crc_ok,
+        repaired: how,
+    }
+}
+
 impl<'a> Body<'a> {
     pub fn new(bits: &'a [u8], kind: FrameKind) -> Body<'a>
         requires { (are_bits bits.now ≡ true) × (length bits.now ≤ most_bits) × (kind.class ≤ 4) }
@@ -51,42 +77,7 @@ impl<'a> Body<'a> {
         requires { from + 8 ≤ length self.bits.now }
         ensures { NextByte self.entry.kind.rank (drop from (map odd self.entry.bits.now)) last result }
     {
-        let mut v: u8 = 0;
-        let mut a = last % 2;
-        let mut b = last / 2 % 2;
-        for bit in &self.bits[from..from + 8] {
-            let x = coding::coded_bit(*bit, self.kind.rank, a, b);
-            v = (v % 128) * 2 + x;
-            b = a;
-            a = x;
-        }
-        v
-    }
-
-    // The frame that its plain bytes hold.
-    #[inline(always)]
-    fn frame(self, plain: Plaintext, how: Option<Repair>) -> UplinkFrame
-        requires { plain.crc_ok ≡ crc_right self.size plain.bytes }
-        ensures { result ≡ frame_from self.entry.kind how plain.bytes }
-    {
-        let layout = Layout {
-            class: self.kind.class,
-            li: plain.li(),
-        };
-        UplinkFrame {
-            rank: self.kind.rank,
-            device_id: plain.device(),
-            counter: plain.counter(),
-            payload: plain.payload(layout),
-            payload_len: layout.payload_size(),
-            bit: layout.bit(),
-            downlink: plain.bytes[0] / 32 % 2 == 1,
-            control: self.kind.control,
-            auth: plain.auth(layout),
-            auth_len: layout.auth_size(),
-            crc_ok: plain.crc_ok,
-            repaired: how,
-        }
+        self.unchanged().straight_byte(from, last)
     }
 
     // Its frame when it is repaired; none where it has too few bits.
@@ -98,7 +89,7 @@ impl<'a> Body<'a> {
         if spliced.len() < 8 * self.size {
             return None;
         }
-        Some(self.frame(spliced.plain_bytes(), how))
+        Some(frame_from(spliced.plain_bytes(), self.kind, how))
     }
 
     // The bytes before a place, for the repairs there: a byte more where it is whole, up to the CRC.

@@ -16,6 +16,10 @@ fails b e = rw e refl
 pub holds : (b : Bool) {a : Bool} → a ≡ true → (a && b) ≡ b
 holds b e = rw e refl
 
+pub with_true : (a : Bool) → a ≡ (a && true)
+with_true true = refl
+with_true false = refl
+
 -- a cause that is none
 pub not_refused : (k y : ℕ) (a : Bool) → cond a (suc k) y ≡ 0 → (a ≡ false) × (y ≡ 0)
 not_refused k y true e = absurd (omega arith)

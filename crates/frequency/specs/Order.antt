@@ -1,5 +1,5 @@
 -- 01's order rules for the tracker's state, and the causes of its calls. Assumes nothing.
-use Rattle.std.specs.Prelude.{ℕ, ◌+◌, ◌*◌, Bool, true, cond, not, ◌&&◌, List, ltb, eqb, length, take, Float}
+use Rattle.std.specs.Prelude.{◌≡◌, ℕ, ◌+◌, ◌*◌, Bool, true, cond, not, ◌&&◌, List, ltb, eqb, length, take, Float}
 use Rattle.limits.specs.Limits.{bad_rate, short, long, bad_sample, bad_state, stream, full, bad_number, buffer_s, most_readings, longest_stream}
 use Rattle.limits.specs.Samples.{rate_ok, all_dbm}
 use Rattle.frequency_signal.specs.Order.{signal_ok, floor_ok}
@@ -32,6 +32,11 @@ floats_ok s = step_ok s.step_hz && floor_ok s.signal.floor
 -- 'any NaN': a call that is lent the readings looks at the frequencies that the count names too
 unfoldable pub numbers_ok : FrequencyTracker → List Reading → Bool
 numbers_ok s rs = floats_ok s && all_numbers (take s.readings rs)
+
+-- what one look at the readings held may settle: that they are in order and that none of their frequencies is a NaN
+pub record Sound (s : FrequencyTracker) (rs : List Reading) : Type 0 where
+  pub indices : read_up_to (s.signal.n + ahead) (take s.readings rs) ≡ true
+  pub numbers : all_numbers (take s.readings rs) ≡ true
 
 -- ---- the causes, one nested choice a call, in the order of their numbers
 

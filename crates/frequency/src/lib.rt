@@ -3,18 +3,18 @@
 
 ghost use Rattle.std.specs.Prelude.{◌≡◌, true, ◌+◌, ◌≤◌, length, take, IfOk, IfSome};
 ghost use Rattle.frequency_signal.specs.Seconds.{oldest_of};
-ghost use Rattle.frequency_lists.specs.Lists.{read_up_to, ats, freqs, last_or};
+ghost use Rattle.frequency_lists.specs.Lists.{ats, freqs, last_or};
 ghost use Rattle.frequency_retain.specs.Retain.{Leads, Looked};
 ghost use Rattle.frequency_tuning.specs.Steps.{settled_by};
 ghost use Rattle.frequency.specs.Lent.{lists};
-ghost use Rattle.frequency.specs.Order.{ahead, tunings_in_order, readings_in_order, in_order, floats_ok, numbers_ok, due_of, cause_new, cause_freq, cause_tuned, cause_samples, cause_cfo, cause_next, cause_frame};
+ghost use Rattle.frequency.specs.Order.{ahead, tunings_in_order, readings_in_order, in_order, floats_ok, numbers_ok, due_of, cause_new, cause_freq, cause_tuned, cause_samples, cause_cfo, cause_next, cause_frame, Sound};
 ghost use Rattle.limits.specs.Answer.{said, cause_of};
 ghost use Rattle.frequency.specs.Calls.{SamplesEnd, CfoEnd, TunedEnd, NextEnd, FrameEnd, Frame1End, freq_answer, tune_of, fresh};
 ghost use Rattle.frequency.specs.Waiting.{Settling, settled_of, step_by};
 
 use frequency_lists::{Reading, Tuning};
 use frequency_measure::FrameFrequency;
-use frequency_signal::{Signal, Stream};
+use frequency_signal::{Pace, Signal, Stream};
 use frequency_tuning::Step;
 use limits::Refusal;
 
@@ -41,11 +41,15 @@ fn floats_ok(t: &FrequencyTracker) -> bool
     step & frequency_signal::floor_ok(t.signal.floor)
 }
 
-fn numbers_ok(t: &FrequencyTracker, readings: &[Reading]) -> bool
-    requires { t.now.readings ≤ length readings.now }
+// settled: whether a look has settled that the readings held are in order and numbers.
+fn numbers_ok(t: &FrequencyTracker, settled: bool, readings: &[Reading]) -> bool
+    requires { (t.now.readings ≤ length readings.now) × (settled ≡ true → Sound t.now readings.now) }
     ensures { result ≡ numbers_ok t.now readings.now }
 {
     let floats = floats_ok(t);
+    if settled {
+        return floats;
+    }
     floats & frequency_lists::no_nan(&readings[..t.readings])
 }
 
@@ -61,7 +65,8 @@ fn tunings_in_order(t: &FrequencyTracker, tunings: &[Tuning]) -> bool
     frequency_lists::tuned_within(&tunings[..t.tunings], t.signal.n)
 }
 
-fn readings_in_order(t: &FrequencyTracker, readings: &[Reading]) -> bool
+fn readings_in_order(t: &FrequencyTracker, settled: bool, readings: &[Reading]) -> bool
+    requires { settled ≡ true → Sound t.now readings.now }
     ensures { result ≡ readings_in_order t.now readings.now }
 {
     if !frequency_signal::signal_ok(t.line_start, t.signal) {
@@ -70,32 +75,19 @@ fn readings_in_order(t: &FrequencyTracker, readings: &[Reading]) -> bool
     if !frequency_lists::fits_readings(t.readings, readings) {
         return false;
     }
+    if settled {
+        return true;
+    }
     frequency_lists::within(&readings[..t.readings], t.signal.n + AHEAD)
 }
 
-fn in_order(t: &FrequencyTracker, readings: &[Reading], tunings: &[Tuning]) -> bool
+fn in_order(t: &FrequencyTracker, settled: bool, readings: &[Reading], tunings: &[Tuning]) -> bool
+    requires { settled ≡ true → Sound t.now readings.now }
     ensures { result ≡ in_order t.now (lists readings.now tunings.now) }
 {
     let a = tunings_in_order(t, tunings);
-    let b = readings_in_order(t, readings);
+    let b = readings_in_order(t, settled, readings);
     a & b
-}
-
-// The same where a look may have settled the readings' indices.
-fn in_order_looked(
-    t: &FrequencyTracker,
-    settled: bool,
-    readings: &[Reading],
-    tunings: &[Tuning],
-) -> bool
-    requires { settled ≡ true → read_up_to (t.now.signal.n + ahead) (take t.now.readings readings.now) ≡ true }
-    ensures { result ≡ in_order t.now (lists readings.now tunings.now) }
-{
-    if settled {
-        let a = tunings_in_order(t, tunings);
-        return a & frequency_lists::fits_readings(t.readings, readings);
-    }
-    in_order(t, readings, tunings)
 }
 
 // The receiver frequency.
@@ -116,7 +108,8 @@ fn is_due(t: &FrequencyTracker, hz: u32, tunings: &[Tuning]) -> bool
 
 // A look at the readings before a line of `more` samples: one pass for their order and for what the line makes go.
 pub fn first_look(t: &FrequencyTracker, more: usize, readings: &[Reading]) -> Option<usize>
-    ensures { IfSome result (λ lead. Looked (oldest_of t.now.rate (t.now.signal.n + more)) (t.now.signal.n + ahead) lead (take t.now.readings readings.now)) }
+    ensures { IfSome result (λ lead. (t.now.readings ≤ length readings.now)
+        × Looked (oldest_of t.now.rate (t.now.signal.n + more)) (t.now.signal.n + ahead) lead (take t.now.readings readings.now)) }
 {
     let n = t.signal.n;
     if n > limits::LONGEST_STREAM || more > limits::MOST_SAMPLES || readings.len() < t.readings {
@@ -124,6 +117,32 @@ pub fn first_look(t: &FrequencyTracker, more: usize, readings: &[Reading]) -> Op
     }
     let low = frequency_signal::oldest(t.rate, n + (more as u64));
     frequency_retain::look_at(low, n + AHEAD, &readings[..t.readings])
+}
+
+// The same pass settles that the readings held are in order and numbers too, or it settles nothing.
+fn sound_look(t: &FrequencyTracker, more: usize, readings: &[Reading]) -> Option<usize>
+    ensures { IfSome result (λ lead. Sound t.now readings.now
+        × Leads (oldest_of t.now.rate (t.now.signal.n + more)) lead (ats (take t.now.readings readings.now))) }
+{
+    if t.signal.n > limits::LONGEST_STREAM
+        || more > limits::MOST_SAMPLES
+        || readings.len() < t.readings
+    {
+        return None;
+    }
+    let low = frequency_signal::oldest(t.rate, t.signal.n + (more as u64));
+    frequency_retain::look_at_numbers(low, t.signal.n + AHEAD, &readings[..t.readings])
+}
+
+// One pass over the readings held, whose order and whose frequencies 01 asks of a call: where it settles nothing, the causes ask
+// for each by itself.
+fn is_sound(t: &FrequencyTracker, readings: &[Reading]) -> bool
+    ensures { result ≡ true → Sound t.now readings.now }
+{
+    if t.signal.n > limits::LONGEST_STREAM || readings.len() < t.readings {
+        return false;
+    }
+    frequency_lists::numbers_within(&readings[..t.readings], t.signal.n + AHEAD)
 }
 
 // The first cause that applies to `freq`.
@@ -170,7 +189,7 @@ fn check_samples(
     readings: &[Reading],
     tunings: &[Tuning],
 ) -> Result<(), Refusal>
-    requires { settled ≡ true → read_up_to (t.now.signal.n + ahead) (take t.now.readings readings.now) ≡ true }
+    requires { settled ≡ true → Sound t.now readings.now }
     ensures { cause_of result ≡ cause_samples t.now (lists readings.now tunings.now) dbm.now }
 {
     if !limits::rate_ok(t.rate) {
@@ -182,13 +201,13 @@ fn check_samples(
     if !limits::all_dbm(dbm) {
         return Err(Refusal::BadSample);
     }
-    if !in_order_looked(t, settled, readings, tunings) {
+    if !in_order(t, settled, readings, tunings) {
         return Err(Refusal::BadState);
     }
     if t.signal.n + (dbm.len() as u64) > limits::LONGEST_STREAM {
         return Err(Refusal::Stream);
     }
-    if !numbers_ok(t, readings) {
+    if !numbers_ok(t, settled, readings) {
         return Err(Refusal::BadNumber);
     }
     Ok(())
@@ -209,13 +228,14 @@ fn check_cfo(
     if raw.len() > limits::MOST_READINGS {
         return Err(Refusal::Long);
     }
-    if !in_order(t, readings, tunings) {
+    let settled = is_sound(t, readings);
+    if !in_order(t, settled, readings, tunings) {
         return Err(Refusal::BadState);
     }
     if !frequency_lists::fits_readings(t.readings + raw.len(), readings) {
         return Err(Refusal::Full);
     }
-    if !numbers_ok(t, readings) {
+    if !numbers_ok(t, settled, readings) {
         return Err(Refusal::BadNumber);
     }
     Ok(())
@@ -236,10 +256,11 @@ fn check_next(
     if room < t.readings {
         return Err(Refusal::Short);
     }
-    if !in_order(t, readings, tunings) {
+    let settled = is_sound(t, readings);
+    if !in_order(t, settled, readings, tunings) {
         return Err(Refusal::BadState);
     }
-    if !numbers_ok(t, readings) {
+    if !numbers_ok(t, settled, readings) {
         return Err(Refusal::BadNumber);
     }
     Ok(())
@@ -260,10 +281,11 @@ fn check_frame(
     if room < t.readings {
         return Err(Refusal::Short);
     }
-    if !readings_in_order(t, readings) {
+    let settled = is_sound(t, readings);
+    if !readings_in_order(t, settled, readings) {
         return Err(Refusal::BadState);
     }
-    let numbers = numbers_ok(t, readings);
+    let numbers = numbers_ok(t, settled, readings);
     if !(numbers & ok) {
         return Err(Refusal::BadNumber);
     }
@@ -275,11 +297,8 @@ fn settled_step(t: &FrequencyTracker, held: &[Reading], out: &mut [f64]) -> Step
     requires { Settling t.now held.now out.old }
     ensures { result ≡ settled_by (settled_of t.now held.now) }
 {
-    let stream = Stream {
-        rate: t.rate,
-        n: t.signal.n,
-    };
-    let m = frequency_measure::gather_late(stream, t.signal.frame_from, held, out);
+    let pace = Pace { rate: t.rate };
+    let m = frequency_measure::gather_late(pace, t.signal.frame_from, held, out);
     if m < frequency_measure::FEWEST {
         return Step::Stay;
     }
@@ -374,18 +393,11 @@ pub fn choose_tuning(
 }
 
 impl FrequencyTracker {
-    // A tracker that has heard nothing; refusals 1 (rate) and 9 (step).
-    pub fn new(rate: u32, base_freq: u32, step_hz: f64) -> Result<Self, Refusal>
-        ensures number { cause_of result ≡ cause_new rate step_hz }
-        ensures value { IfOk result (λ t. t ≡ fresh rate base_freq step_hz) }
+    // A tracker that has heard nothing, of any rate and step: its calls refuse those that are out of range.
+    pub fn fresh(rate: u32, base_freq: u32, step_hz: f64) -> Self
+        ensures { result ≡ fresh rate base_freq step_hz }
     {
-        if !limits::rate_ok(rate) {
-            return Err(Refusal::BadRate);
-        }
-        if !frequency_tuning::step_ok(step_hz) {
-            return Err(Refusal::BadNumber);
-        }
-        Ok(FrequencyTracker {
+        FrequencyTracker {
             rate,
             base_freq,
             step_hz,
@@ -400,7 +412,21 @@ impl FrequencyTracker {
                 last_signal: None,
                 retuned: false,
             },
-        })
+        }
+    }
+
+    // The same where rate and step are in range; refusals 1 (rate) and 9 (step).
+    pub fn new(rate: u32, base_freq: u32, step_hz: f64) -> Result<Self, Refusal>
+        ensures number { cause_of result ≡ cause_new rate step_hz }
+        ensures value { IfOk result (λ t. t ≡ fresh rate base_freq step_hz) }
+    {
+        if !limits::rate_ok(rate) {
+            return Err(Refusal::BadRate);
+        }
+        if !frequency_tuning::step_ok(step_hz) {
+            return Err(Refusal::BadNumber);
+        }
+        Ok(Self::fresh(rate, base_freq, step_hz))
     }
 
     // The frequency that the receiver is tuned to; refusals 1, 5, 9.
@@ -436,7 +462,7 @@ impl FrequencyTracker {
         ensures { SamplesEnd self.old dbm.now (lists readings.old tunings.old)
             (cause_of result) self.new (lists readings.new tunings.new) }
     {
-        let look = first_look(self, dbm.len(), readings);
+        let look = sound_look(self, dbm.len(), readings);
         check_samples(self, look.is_some(), dbm, readings, tunings)?;
         hear_line(self, look, dbm, readings, tunings);
         Ok(())

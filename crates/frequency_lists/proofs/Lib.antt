@@ -4,3 +4,4 @@ pub mod Reach
 pub mod Lasts
 pub mod Gather
 pub mod Appending
+pub mod Blocks

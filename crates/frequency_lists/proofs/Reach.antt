@@ -12,6 +12,13 @@ or_left a b = omega (arith, or_add_and a b, and_le_r a b)
 or_right : (a b : ℕ) → b ≤ bit_or a b
 or_right a b = omega (arith, or_add_and a b, and_le_l a b)
 
+-- what some bits reach, more bits do
+pub reaches_left : (low r s a : ℕ) → Reaches low r a → Reaches low (bit_or r s) a
+reaches_left low r s a f = let o = or_left r s in (omega (arith, f.0), λ m. f.1 (omega arith))
+
+pub reaches_right : (low r s a : ℕ) → Reaches low s a → Reaches low (bit_or r s) a
+reaches_right low r s a f = let o = or_right r s in (omega (arith, f.0), λ m. f.1 (omega arith))
+
 -- low and r reach the first i indices
 abbrev pub Reached : ℕ → ℕ → List ℕ → ℕ → Type 0
 Reached low r l i = (j : ℕ) → j < i → Reaches low r (get_or l j 0)

@@ -3,7 +3,8 @@ use Rattle.std.proofs.Common.{◌≡◌, ℕ, ◌+◌, ◌≤◌, ◌<◌, Bool,
 use Rattle.std.specs.List as list
 use Rattle.std.specs.Option.{unwrap_or}
 use Rattle.std.proofs.lemmas.Bool.{le-leb, lt-leb}
-use Rattle.std.proofs.lemmas.List.{append-nil}
+use Rattle.std.proofs.lemmas.List.{append-nil, drop-set-lt}
+use Rattle.std.proofs.lemmas.Grind.{drop_more_same}
 use Rattle.std.proofs.lemmas.List.Folds.{list_all-map}
 use lib.Seq.{append_snoc, take-suc-set}
 use lib.ListN.{length-set}
@@ -47,6 +48,7 @@ module _ (p : Reading → Bool) (l : List Reading) where
   -- ---- gathering into scratch
   pub record Gathers (old : List Float) (i w : ℕ) (cur : List Float) : Type 0 where
     pub upto : w ≤ i
+    pub behind : drop w cur ≡ drop w old
     pub size : length cur ≡ length old
     pub done : take w cur ++ hzs (left i) ≡ hzs (left 0)
 
@@ -60,17 +62,18 @@ module _ (p : Reading → Bool) (l : List Reading) where
           let s = g.size in
           record {
             upto = omega arith;
+            behind = rw (n, q) (drop-set-lt (w + 1) cur w (get_or l i d).hz (omega arith) ∙ drop_more_same cur old w g.behind);
             size = ap length q ∙ length-set cur w (get_or l i d).hz ∙ s;
             done = rw (n, q, add-one w, take-suc-set cur w (get_or l i d).hz (omega arith)) (append_snoc (take w cur) (get_or l i d).hz (hzs (left (i + 1))) ∙ e);
           }
-      go false n q e = let u = g.upto in record { upto = omega arith; size = ap length q ∙ g.size; done = rw (n, q) e }
+      go false n q e = let u = g.upto in record { upto = omega arith; behind = rw (n, q) g.behind; size = ap length q ∙ g.size; done = rw (n, q) e }
 
   pub gathers_end : (old : List Float) (i w : ℕ) (cur : List Float) → length l ≤ i → i ≤ length old → Gathers old i w cur → Front (hzs (passing p l)) old w cur
   gathers_end old i w cur h k g =
       let u = g.upto in
       let s = g.size in
       let f : take w cur ≡ hzs (passing p l) = sym (append-nil (take w cur)) ∙ ap (λ (z : List Reading). take w cur ++ hzs z) (sym (left_none i h)) ∙ g.done in
-      record { count = sym (length-take-le w cur (omega arith)) ∙ ap length f; fits = omega arith; front = f; size = s }
+      record { count = sym (length-take-le w cur (omega arith)) ∙ ap length f; fits = omega arith; front = f; behind = g.behind; size = s }
 
 -- retention by one test and then by the other is retention by both
 pub passing_both : (p q : Reading → Bool) (l : List Reading) → passing q (passing p l) ≡ passing (λ (x : Reading). p x && q x) l

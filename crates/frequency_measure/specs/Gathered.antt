@@ -1,5 +1,5 @@
 -- Scaffolding. What the functions that gather into scratch ask, and what they leave. Assumes nothing.
-use Rattle.std.specs.Prelude.{ℕ, ◌≤◌, ◌≡◌, Bool, true, ◌&&◌, List, map, eqb, length, take, Float}
+use Rattle.std.specs.Prelude.{ℕ, ◌≤◌, ◌≡◌, Bool, true, ◌&&◌, List, map, eqb, length, take, drop, Float}
 use Rattle.frequency_lists.specs.declared.Reading.{Reading}
 use Rattle.frequency_lists.specs.Lists.{all_numbers}
 use Rattle.frequency_lists.specs.Marks.{retained}
@@ -19,11 +19,12 @@ of_frame first past lo l = passing (λ (x : Reading). inside first past x.at && 
 abbrev pub los : List Reading → List ℕ
 los l = map (λ (x : Reading). x.lo) l
 
--- the numbers l in front of the scratch
+-- the numbers l in front of the scratch; what lies behind them stays
 pub record Front (l out : List Float) (r : ℕ) (out' : List Float) : Type 0 where
   pub count : r ≡ length l
   pub fits : r ≤ length out'
   pub front : take r out' ≡ l
+  pub behind : drop r out' ≡ drop r out
   pub size : length out' ≡ length out
 
 -- scratch for every reading, none of whose frequencies is a NaN

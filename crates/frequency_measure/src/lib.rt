@@ -12,7 +12,7 @@ ghost use Rattle.frequency_measure.specs.Measured.{median, sample_of, first_of, 
 ghost use Rattle.frequency_measure.specs.Gathered.{Front, Free, in_frame, of_frame, los};
 
 use frequency_lists::Reading;
-use frequency_signal::Stream;
+use frequency_signal::Pace;
 use record::FrameSpan;
 
 // The frequency of a frame, and a retune, need this many readings.
@@ -48,18 +48,13 @@ struct Trusted {
 }
 
 // The frequencies of the readings that are at least GAP_S into the frame, in front of the scratch (hz of next_tuning).
-pub fn gather_late(
-    stream: Stream,
-    from: Option<u64>,
-    readings: &[Reading],
-    out: &mut [f64],
-) -> usize
+pub fn gather_late(pace: Pace, from: Option<u64>, readings: &[Reading], out: &mut [f64]) -> usize
     requires { Index longest_stream from × Small (ats readings.now) × (length readings.now ≤ length out.old) }
-    ensures { Front (hzs (retained (map (late stream.rate from) (ats readings.now)) readings.now)) out.old result out.new }
+    ensures { Front (hzs (retained (map (late pace.rate from) (ats readings.now)) readings.now)) out.old result out.new }
 {
     let mut w = 0usize;
     for x in readings {
-        w = frequency_lists::put(stream.is_late(from, x.at), w, x.hz, out);
+        w = frequency_lists::put(pace.is_late(from, x.at), w, x.hz, out);
     }
     w
 }

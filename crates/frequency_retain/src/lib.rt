@@ -3,7 +3,7 @@
 
 ghost use Rattle.std.specs.Prelude.{◌≡◌, IfSome, cond, true, false, map, ℕ, ◌+◌, ◌-◌, ◌≤◌, ◌<◌, ◌^◌, length, get_or, eqb, leb};
 ghost use Rattle.frequency_signal.specs.Seconds.{kept, oldest_of};
-ghost use Rattle.frequency_lists.specs.Lists.{Small, ats, tuneds};
+ghost use Rattle.frequency_lists.specs.Lists.{Small, all_numbers, ats, tuneds};
 ghost use Rattle.frequency_retain.specs.Retain.{moved, stays, Leads, Looked, Compacted};
 
 use frequency_lists::{Reading, Tuning};
@@ -25,7 +25,8 @@ fn compact_readings(stream: Stream, readings: &mut [Reading]) -> usize
     w
 }
 
-// The first `lead` readings go; how many stay.
+// The first `lead` readings go; how many stay. A line of 8 samples mostly lets one go, and a copy by a number that is known is
+// a block move.
 fn forget(lead: usize, readings: &mut [Reading]) -> usize
     requires { lead ≤ length readings.old }
     ensures count { result ≡ length readings.old - lead }
@@ -33,6 +34,10 @@ fn forget(lead: usize, readings: &mut [Reading]) -> usize
 {
     let count = readings.len() - lead;
     if lead == 0 {
+        return count;
+    }
+    if lead == 1 {
+        readings.copy_within(1.., 0);
         return count;
     }
     readings.copy_within(lead.., 0);
@@ -61,6 +66,23 @@ pub fn look_at(low: u64, limit: u64, readings: &[Reading]) -> Option<usize>
     }
     let lead = leading(low, readings);
     (frequency_lists::spread(&readings[lead..], low) <= limit - low).then_some(lead)
+}
+
+// The same of readings none of whose frequencies is a NaN, in the same pass; nothing is settled of others.
+pub fn look_at_numbers(low: u64, limit: u64, readings: &[Reading]) -> Option<usize>
+    ensures { IfSome result (λ lead. Looked low limit lead readings.now × (all_numbers readings.now ≡ true)) }
+{
+    if limit < low {
+        return None;
+    }
+    let lead = leading(low, readings);
+    if !frequency_lists::no_nan(&readings[..lead]) {
+        return None;
+    }
+    let Some(bits) = frequency_lists::spread_of_numbers(&readings[lead..], low) else {
+        return None;
+    };
+    (bits <= limit - low).then_some(lead)
 }
 
 // The readings of the last 60 s stay (readings.retain). Readings come in the order of their indices, so that those that go

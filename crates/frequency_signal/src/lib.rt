@@ -36,6 +36,34 @@ pub struct Signal {
     pub retuned: bool,
 }
 
+// A stream's rate, which is right.
+#[derive(Clone, Copy)]
+pub struct Pace {
+    pub rate: u32,
+    pub ghost right: { Rate rate },
+}
+
+impl Pace {
+    // Whether a reading is at least GAP_S into the frame.
+    pub fn is_late(self, from: Option<u64>, at: u64) -> bool
+        requires { Index longest_stream from × (at ≤ 2 ^ 41) }
+        ensures { result ≡ late self.rate from at }
+    {
+        match from {
+            None => GAP_TENTHS * (self.rate as u64) <= TENTHS * at + TENTHS,
+            Some(s) => TENTHS * s + GAP_TENTHS * (self.rate as u64) <= TENTHS * at,
+        }
+    }
+
+    // Whether a value is read less than SETTLE_S after a retune: the register is still catching up.
+    pub fn is_settling(self, tuned_at: u64, at: u64) -> bool
+        requires { (tuned_at ≤ longest_stream) × (at ≤ 2 ^ 41) }
+        ensures { result ≡ settling self.rate tuned_at at }
+    {
+        TENTHS * at < TENTHS * tuned_at + SETTLE_TENTHS * (self.rate as u64)
+    }
+}
+
 // A stream's rate, which is right, and how many samples it has, which are not too many.
 #[derive(Clone, Copy)]
 pub struct Stream {
@@ -77,25 +105,6 @@ impl Stream {
             None => TENTHS * (self.n + 1) < SETTLE_TENTHS * (self.rate as u64),
             Some(s) => TENTHS * (self.n - s) < SETTLE_TENTHS * (self.rate as u64),
         }
-    }
-
-    // Whether a reading is at least GAP_S into the frame.
-    pub fn is_late(self, from: Option<u64>, at: u64) -> bool
-        requires { Index longest_stream from × (at ≤ 2 ^ 41) }
-        ensures { result ≡ late self.rate from at }
-    {
-        match from {
-            None => GAP_TENTHS * (self.rate as u64) <= TENTHS * at + TENTHS,
-            Some(s) => TENTHS * s + GAP_TENTHS * (self.rate as u64) <= TENTHS * at,
-        }
-    }
-
-    // Whether a value is read less than SETTLE_S after a retune: the register is still catching up.
-    pub fn is_settling(self, tuned_at: u64, at: u64) -> bool
-        requires { (tuned_at ≤ longest_stream) × (at ≤ 2 ^ 41) }
-        ensures { result ≡ settling self.rate tuned_at at }
-    {
-        TENTHS * at < TENTHS * tuned_at + SETTLE_TENTHS * (self.rate as u64)
     }
 
     // Whether what was at a sample is of the last KEEP_S.

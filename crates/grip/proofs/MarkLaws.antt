@@ -8,7 +8,7 @@ use native.Mathlib.Numerals.{add-one}
 use native.Mathlib.Omega.{arith}
 use lib.Bits.{bit_or, or_shr, or_step}
 use lib.Dec.{eqb, ltb}
-use lib.ListN.{length, get_or, set, replicate, length-append}
+use lib.ListN.{length, get_or, set, replicate, length-append, length-set}
 use lib.Seq.{sets, get_or-set_same, get_or-set_other}
 use lib.Ieee.{Float}
 use borrow.Author.Tests.{eqb-true, eqb-false, eq-eqb, ne_eqb, ltb-true, ltb-false, lt-ltb, le-ltb}
@@ -191,3 +191,7 @@ module _ (marks : List ℕ) where
       where
         zero-plus : (n m : ℕ) → n ≡ m → n ≡ 0 + m
         zero-plus n m q = omega arith
+
+pub length-mark : (t : Bool) (marks : List ℕ) (i : ℕ) → length (cond t (with_mark marks i) marks) ≡ length marks
+length-mark true marks i = length-set marks (i / 8) _
+length-mark false marks i = refl

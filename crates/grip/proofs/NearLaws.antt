@@ -2,24 +2,24 @@
 use mathlib.Core.Path.{◌≡◌, refl, sym, ap, ◌∙◌, subst}
 use mathlib.Core.Bool.{Bool, true, false, ◌&&◌, ◌||◌}
 use mathlib.Core.List.{List, [], ◌∷◌, ◌++◌, append_assoc, append-nil}
-use Prim.Native.Nat.{ℕ, ◌+◌, ◌≤◌, ◌<◌}
+use Prim.Native.Nat.{ℕ, ◌+◌, ◌%◌, ◌≤◌, ◌<◌}
 use native.Mathlib.Omega.{arith}
 use borrow.Author.Tests.{ltb-true, ltb-false, le-ltb}
-use lib.Dec.{ltb}
+use lib.Dec.{ltb, eqb}
 use lib.ListN.{length, get_or, length-append, get_or-append}
 use lib.Seq.{get_or-append_seam}
 use lib.Ieee.{Float, lt, eq}
-use Rattle.limits.proofs.Samples.{and_left}
+use Rattle.limits.proofs.Samples.{and_left, and_assoc, and_true}
 use Rattle.record.specs.Readers.{time_of}
 use Rattle.limits.specs.Limits.{record_size}
-use Rattle.event_list.specs.Events.{events_of}
+use Rattle.event_list.specs.Events.{events_of, record_ok, all_ok, list_ok}
 use Rattle.event_list.proofs.EventLaws.{event_next, event_end}
 use Rattle.std.specs.Prelude.{Option, Some, None}
 use Rattle.grip.specs.declared.Match.{Match}
 use Rattle.grip.specs.declared.Best.{Best}
 use Rattle.grip.specs.Times.{is_finite}
 use Rattle.grip.specs.Nearest.{distance, qualifies, better, IsNearest, NoneQualifies, Found, at, none, Tells}
-use Rattle.grip.specs.Reading.{takes, looked, looks, read_part, Stands, Adds, found_of}
+use Rattle.grip.specs.Reading.{takes, looked, looks, tested, read_part, Stands, Adds, found_of}
 use Rattle.grip.proofs.OrderLaws.{cases, clash}
 use Rattle.grip.proofs.BetterLaws.{better-trans, better-total, better-self}
 
@@ -171,10 +171,23 @@ module _ (grip within : Float) where
   unfolding looks
   looks-last l h b = ap (looks grip within b) (event_end l h)
 
+  -- whether refusal 12 does not apply
+  pub looks_ok : (rs : List (List ℕ)) (b : Best) → (looks grip within b rs).ok ≡ b.ok && all_ok rs
+  unfolding looks looked all_ok
+  looks_ok [] b = sym (and_true b.ok)
+  looks_ok (r ∷ rs) b = looks_ok rs (looked grip within b r) ∙ and_assoc b.ok (record_ok r) (all_ok rs)
+
   pub looked-count : (b : Best) (r : List ℕ) → (looked grip within b r).count ≡ b.count + 1
   unfolding looked
   looked-count b r = refl
 
+-- whether refusal 12 does not apply to what was read with a part
+pub part_ok : (grip within : Float) (b : Best) (l : List ℕ) → (read_part grip within b l).ok ≡ b.ok && list_ok l
+part_ok grip within b l = looks_ok grip within (events_of l) (tested b l) ∙ and_assoc b.ok (eqb (length l % record_size) 0) (all_ok (events_of l))
+
 -- a part that is read adds up
 pub part-adds : (grip within : Float) → is_finite within ≡ true → (b : Best) (l : List ℕ) → Adds grip within b l (read_part grip within b l)
-part-adds grip within W b l = λ es st. stands_all grip within W (events_of l) es b st
+part-adds grip within W b l = record {
+  fine = part_ok grip within b l;
+  behind = λ es st. stands_all grip within W (events_of l) es (tested b l) (record { counted = st.counted; nothing = st.nothing; nearest = st.nearest; far = st.far; when = st.when });
+}

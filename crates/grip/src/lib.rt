@@ -5,10 +5,9 @@ mod looking; // one more record for a grip
 mod marks; // a bit for each record
 mod spans; // the spans across an instant
 
-ghost use Rattle.std.specs.Prelude.{◌≡◌, cond, true, ◌+◌, ◌≤◌, length, Some, None, Ok, Err, IfOk};
+ghost use Rattle.std.specs.Prelude.{◌≡◌, true, ◌&&◌, ◌+◌, ◌≤◌, length, None};
 ghost use Rattle.std.proofs.lemmas.List.Edits.{sets};
 ghost use Rattle.limits.specs.Answer.{said, said_by, answer, number, leaves};
-ghost use Rattle.limits.specs.declared.Refusal.TheVariants.{BadRecords};
 ghost use Rattle.event_list.specs.Events.{wholes, most_records, list_ok};
 ghost use Rattle.grip.specs.Times.{distance_ok};
 ghost use Rattle.grip.specs.Nearest.{found_or_none, grip_cause, Call};
@@ -29,10 +28,11 @@ pub struct Match {
     pub time: f64,
 }
 
-// What was read: how many records, and the nearest message among them, if one qualifies.
+// What was read: how many records, whether refusal 12 does not apply to them, and the nearest message among them, if one qualifies.
 #[derive(Clone, Copy)]
 pub struct Best {
     pub count: usize,
+    pub ok: bool,
     pub nearest: Option<Match>,
 }
 
@@ -45,37 +45,39 @@ fn distance_ok(x: f64) -> bool
 
 // Nothing is read.
 pub fn no_records() -> Best
-    ensures { (result.count ≡ 0) × (result.nearest ≡ None) }
+    ensures { (result.count ≡ 0) × (result.ok ≡ true) × (result.nearest ≡ None) }
 {
     Best {
         count: 0,
+        ok: true,
         nearest: None,
     }
 }
 
-// More records are read, in one pass: each is tested for refusal 12, and looked at.
-pub fn read_records(b: Best, records: &[u8], grip: f64, within: f64) -> Result<Best, Refusal>
+// More records are read, in one pass, those behind a bad one too.
+pub fn read_records(b: Best, records: &[u8], grip: f64, within: f64) -> Best
     requires { b.count + wholes records.now ≤ most_records }
-    ensures { (result ≡ cond (list_ok records.now) (Ok (read_part grip within b records.now)) (Err BadRecords))
-        × IfOk result (λ read. read.count ≡ b.count + wholes records.now) }
+    ensures { (result ≡ read_part grip within b records.now) × (result.count ≡ b.count + wholes records.now)
+        × (result.ok ≡ b.ok && list_ok records.now) }
 {
-    let mut ok = records.len() % limits::RECORD == 0;
-    let mut best = b;
+    let whole = records.len() % limits::RECORD == 0;
+    let mut best = Best {
+        ok: b.ok & whole,
+        ..b
+    };
     for r in records.chunks_exact(limits::RECORD) {
-        let event = EventRecord::new(r);
-        ok &= event_list::record_ok(event);
-        best = looking::looked_at(best, event, grip, within);
+        best = looking::looked_at(best, EventRecord::new(r), grip, within);
     }
-    if !ok {
-        return Err(Refusal::BadRecords);
-    }
-    Ok(best)
+    best
 }
 
-// The record number of the nearest message of what was read, or none, or refusal 14.
+// The record number of the nearest message of what was read, or none, or refusal 12 or 14.
 pub fn found(b: Best, grip: f64, within: f64) -> Result<Option<usize>, Refusal>
-    ensures { said_by found_or_none result ≡ answer (grip_cause true grip within) (found_of b) }
+    ensures { said_by found_or_none result ≡ answer (grip_cause b.ok grip within) (found_of b) }
 {
+    if !b.ok {
+        return Err(Refusal::BadRecords);
+    }
     let times = grip.is_finite() & distance_ok(within);
     if !times {
         return Err(Refusal::BadTime);
@@ -93,7 +95,7 @@ pub fn nearest_message(records: &[u8], grip: f64, within: f64) -> Result<Option<
     if limits::MOST_RECORD_BYTES < records.len() {
         return Err(Refusal::Long);
     }
-    let best = read_records(no_records(), records, grip, within)?;
+    let best = read_records(no_records(), records, grip, within);
     found(best, grip, within)
 }
 
@@ -109,7 +111,9 @@ pub fn on_air(records: &[u8], x: f64, numbers: &mut [u32]) -> Result<usize, Refu
         return Err(Refusal::Long);
     }
     let mut marks = [0u8; MARKS];
-    spans::mark_all(records, x, &mut marks)?;
+    if !spans::mark_all(records, x, &mut marks) {
+        return Err(Refusal::BadRecords);
+    }
     if !x.is_finite() {
         return Err(Refusal::BadTime);
     }

@@ -24,6 +24,7 @@ pub fn looked_at(b: Best, r: EventRecord, grip: f64, within: f64) -> Best
     requires { b.count < most_records }
     ensures { result ≡ looked grip within b r.entry.bytes.now }
 {
+    let right = event_list::record_ok(r);
     let time = r.time();
     let distance = floats::abs64(time - grip);
     let near = distance <= within;
@@ -38,6 +39,7 @@ pub fn looked_at(b: Best, r: EventRecord, grip: f64, within: f64) -> Best
     }
     Best {
         count: b.count + 1,
+        ok: b.ok & right,
         nearest,
     }
 }

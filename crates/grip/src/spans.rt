@@ -1,14 +1,11 @@
 // The messages on air across an instant.
-ghost use Rattle.std.specs.Prelude.{◌≡◌, cond, ◌+◌, ◌*◌, ◌≤◌, ◌<◌, length};
+ghost use Rattle.std.specs.Prelude.{◌≡◌, ◌+◌, ◌*◌, ◌≤◌, ◌<◌, length};
 ghost use Rattle.std.proofs.lemmas.List.Edits.{sets};
-ghost use Rattle.limits.specs.Limits.{bad_records};
-ghost use Rattle.limits.specs.Answer.{cause_of};
 ghost use Rattle.event_list.specs.Events.{wholes, list_ok, most_records};
 ghost use Rattle.grip.specs.OnAir.{span_on, is_on_air, air_numbers};
 ghost use Rattle.grip.specs.Marks.{Unmarked, number_if, marked_of};
 
 use crate::marks;
-use limits::Refusal;
 use record::FrameSpan;
 use record::read::EventRecord;
 
@@ -33,10 +30,10 @@ fn is_on_air(x: f64, r: EventRecord) -> bool
     message & (first | (second | third))
 }
 
-// One pass over the records: each is tested for refusal 12, and marked where it is a message on air.
-pub fn mark_all(records: &[u8], x: f64, marks: &mut [u8]) -> Result<(), Refusal>
+// One pass over the records: each is tested, and marked where it is a message on air. Whether refusal 12 does not apply.
+pub fn mark_all(records: &[u8], x: f64, marks: &mut [u8]) -> bool
     requires { (wholes records.now ≤ 8 * length marks.old) × Unmarked marks.old }
-    ensures { (cause_of result ≡ cond (list_ok records.now) 0 bad_records) × (marked_of (wholes records.now) marks.new ≡ air_numbers x records.now) }
+    ensures { (result ≡ list_ok records.now) × (marked_of (wholes records.now) marks.new ≡ air_numbers x records.now) }
 {
     let mut ok = records.len() % limits::RECORD == 0;
     for (i, r) in records.chunks_exact(limits::RECORD).enumerate() {
@@ -44,10 +41,7 @@ pub fn mark_all(records: &[u8], x: f64, marks: &mut [u8]) -> Result<(), Refusal>
         ok &= event_list::record_ok(event);
         marks::mark(marks, i, is_on_air(x, event));
     }
-    if !ok {
-        return Err(Refusal::BadRecords);
-    }
-    Ok(())
+    ok
 }
 
 // Record number i is noted behind the first n where it is marked.

@@ -3,7 +3,6 @@
 
 mod seconds; // a number of seconds in text
 
-use grip::Best;
 use limits::Refusal;
 use std::fs;
 use std::io::{Error, ErrorKind, Read, Seek, SeekFrom};
@@ -69,20 +68,15 @@ struct Records<F> {
     within: f64,
 }
 
-// The record number for a grip of what was read.
-fn found(best: Result<Best, Refusal>, grip: f64, within: f64) -> Result<Option<usize>, Refusal> {
-    grip::found(best?, grip, within)
-}
-
 // The line of a grip, or why the records can't be read. They are read in parts of 512, so that they need not stand in memory.
 fn read_for(rt: &impl Print, file: &mut impl Read, grip: f64, within: f64) -> Result<(), Error> {
     let mut part = [0u8; 61440];
-    let mut best = Ok(grip::no_records());
+    let mut best = grip::no_records();
     let mut bytes: usize = 0;
     while bytes <= limits::MOST_RECORD_BYTES {
         let n = reading::fill(file, &mut part)?;
         if n == 0 {
-            print_nearest(rt, found(best, grip, within));
+            print_nearest(rt, grip::found(best, grip, within));
             return Ok(());
         }
         bytes += n;
@@ -90,9 +84,7 @@ fn read_for(rt: &impl Print, file: &mut impl Read, grip: f64, within: f64) -> Re
             replay::print_refusal(rt, Refusal::Long);
             return Ok(());
         }
-        if let Ok(so_far) = best {
-            best = grip::read_records(so_far, &part[..n], grip, within);
-        }
+        best = grip::read_records(best, &part[..n], grip, within);
     }
     Ok(())
 }

@@ -1,7 +1,7 @@
 -- Texts behind each other in a buffer, and the digits of numbers. Assumes nothing.
 use Prim.Native.Nat.{ℕ, zero, suc, ◌+◌, ◌-◌, ◌*◌, ◌/◌, ◌%◌, ◌^◌, ◌≤◌, ◌<◌, min, max}
 use mathlib.Core.Path.{◌≡◌, refl, ap, sym, ◌∙◌}
-use mathlib.Core.Bool.{Bool, true, false}
+use mathlib.Core.Bool.{Bool, true, false, cond}
 use mathlib.Core.List.{List, [], ◌∷◌, ◌++◌, append_assoc, append-nil}
 use native.Mathlib.Omega.{arith}
 use native.Mathlib.Numerals.{add-one}
@@ -42,6 +42,19 @@ decimal-digits (suc f) (suc k) n le lt lo =
     let h : 10 ≤ n = omega arith in
     let d : ltb (n % 10) 10 ≡ true = lt-ltb (n % 10) 10 (omega arith) in
     rw (le-ltb n 10 h, d, ← decimal-digits f k (n / 10) (omega arith) ((div-lt_iff_lt-mul {k = 10} {x = n} {y = 10 ^ suc k} (omega arith)).1 high) (λ z. (le-div_iff_mul-le {k = 10} {x = 10 ^ k} {y = n} (omega arith)).1 low)) refl
+
+pub decimal_by_length : (k n : ℕ) → length (decimal_by k n) ≤ k
+unfolding decimal_by
+decimal_by_length zero n = omega arith
+decimal_by_length (suc k) n = both (decimal_by_length k (n / 10)) (ltb n 10)
+  where
+    both : length (decimal_by k (n / 10)) ≤ k → (b : Bool) → length (cond b ((48 + n) ∷ []) (decimal_by k (n / 10) ++ ((48 + n % 10) ∷ []))) ≤ suc k
+    both h true = omega arith
+    both h false = rw (length-append (decimal_by k (n / 10)) ((48 + n % 10) ∷ [])) (omega arith)
+
+pub decimal-length : (n : ℕ) → length (decimal n) ≤ 20
+unfolding decimal
+decimal-length n = decimal_by_length 20 n
 
 -- ---- hexadecimal digits
 

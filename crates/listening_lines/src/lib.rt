@@ -8,7 +8,7 @@ ghost use Rattle.limits.specs.Refusals.{number_of};
 ghost use Rattle.listening_lines.specs.Text.{widest};
 ghost use Rattle.listening_lines.specs.Lines.{tune_line, payload_text, hz_text, sender_text, message_line, refusal_line, end_line};
 
-pub use crate::line::Line;
+pub use crate::line::{Line, WIDEST};
 use limits::Refusal;
 use record::read::EventRecord;
 
@@ -80,14 +80,20 @@ pub fn message_line(event: EventRecord, answer: Option<u32>) -> Line
     line
 }
 
-// `R number`
+// `R number`, of any number.
+pub fn number_line(n: u8) -> Line
+    ensures { result ≡ refusal_line n }
+{
+    let mut line = Line::head(b'R');
+    line.put_field(u64::from(n), b'\n');
+    line
+}
+
+// The same of a refusal's number.
 pub fn refusal_line(refusal: Refusal) -> Line
     ensures { result ≡ refusal_line (number_of refusal) }
 {
-    let mut line = Line::head(b'R');
-    let number = u8::from(refusal);
-    line.put_field(u64::from(number), b'\n');
-    line
+    number_line(u8::from(refusal))
 }
 
 // `E samples frames messages leftover-bytes`

@@ -4,10 +4,13 @@ ghost use Rattle.listening_lines.specs.Text.{Added, decimal, hex, widest};
 
 use std::marker::Model;
 
-// Its bytes so far, at the front of its room: no line is longer.
+// The room of a line: no line is longer.
+pub const WIDEST: usize = 128;
+
+// Its bytes so far, at the front of its room.
 #[derive(Drop)]
 pub struct Line {
-    bytes: [u8; 128],
+    bytes: [u8; WIDEST],
     len: usize,
 }
 
@@ -25,7 +28,7 @@ impl Line {
         ensures { result ≡ [] }
     {
         Line {
-            bytes: [0; 128],
+            bytes: [0; WIDEST],
             len: 0,
         }
     }

@@ -1,5 +1,5 @@
 -- The places of the two quantiles as whole numbers, and that they are places of the list. The floats of 0.2 and 0.9 are above 0.2 and 0.9, so that no whole product is missed. Assumes nothing.
-use mathlib.Core.Path.{◌≡◌, refl}
+use mathlib.Core.Path.{◌≡◌, refl, sym, subst}
 use Prim.Native.Nat.{ℕ, zero, suc, ◌+◌, ◌*◌, ◌/◌, ◌^◌, ◌≤◌, ◌<◌}
 use native.Mathlib.Omega.{arith}
 use lib.Ieee.{Float, round, mul, of_int, to_unsigned}
@@ -37,3 +37,9 @@ nine-tenths_is (suc m) M = go (suc m) (omega arith) M
   where
     go : (n : ℕ) → 0 < n → n ≤ 2 ^ 40 → index_at level_quantile n ≡ 9 * n / 10
     go n N M = index_is level-value n (9216 * n / 10) (9 * n / 10) (omega arith)
+
+pub fifth_lt : (n : ℕ) → 0 < n → n ≤ 2 ^ 40 → fifth_of n < n
+fifth_lt n N M = subst (λ (k : ℕ). k < n) (sym (fifth_is n M)) (omega arith)
+
+pub nine-tenths-lt : (n : ℕ) → 0 < n → n ≤ 2 ^ 40 → nine_tenths_of n < n
+nine-tenths-lt n N M = subst (λ (k : ℕ). k < n) (sym (nine-tenths_is n M)) (omega arith)

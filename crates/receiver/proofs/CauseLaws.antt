@@ -2,7 +2,7 @@
 use mathlib.Core.Bool.{Bool, ◌||◌, cond, false, not, true}
 use mathlib.Core.List.{List, [], ◌∷◌}
 use mathlib.Core.Logic.{⊎_elim}
-use mathlib.Core.Path.{◌∙◌, ◌≡◌, refl, sym}
+use mathlib.Core.Path.{◌∙◌, ◌≡◌, ap, refl, sym}
 use Prim.Native.Nat.{◌+◌, ◌<◌, ◌≤◌, suc, ℕ}
 use native.Mathlib.Nat.{not-suc-le-zero}
 use native.Mathlib.Omega.{arith}
@@ -17,14 +17,17 @@ use lib.Dec.{leb, ltb}
 use lib.Ieee.{Float}
 use lib.ListN.{get_or, length}
 use borrow.Author.Tests.{le-ltb, lt-ltb, ltb-false}
-use Rattle.ledger.specs.Causes.{Lent, any_nan, call_cause, cause, most_waiting, orderly, too_short}
+use Rattle.ledger.specs.Causes.{Lent, all_fit, any_nan, call_cause, cause, most_waiting, orderly, too_short, unlike}
 use Rattle.ledger.proofs.Basics.{and_true, either}
-use Rattle.ledger.specs.Ledger.{by_entry, capacity, flush, push}
+use Rattle.ledger.specs.Ledger.{Call, by_entry, capacity, flush, push}
 use Rattle.ledger.specs.Room.{Below}
 use Rattle.limits.specs.Limits.{bad_number, bad_rate, bad_sample, bad_state, events_size, long, longest_stream, scratch64, short, stream}
 use Rattle.limits.specs.Samples.{all_dbm, rate_ok}
 use Rattle.receiver.proofs.StateLaws.{orderly_is}
 use Rattle.receiver.specs.State.{counts_of, given_cause, ledger_of, messages_cause, samples_ok, state_cause}
+use Rattle.receiver.specs.Calls.{Memory, lengths_of}
+use Rattle.receiver.specs.Running.{viewed, Views}
+use Rattle.receiver.specs.declared.View.{View}
 use Rattle.receiver_waiting.specs.Waiting as waiting
 use Rattle.receiver_waiting.specs.declared.Condition.{Condition}
 use Rattle.receiver_waiting.specs.declared.Waiting.{Waiting}
@@ -108,6 +111,19 @@ module _ (rate : ℕ) (b : Lent) (n : ℕ) where
   unfolding given_cause
   given_none e f h = rw (e, f, le-ltb (capacity rate) n h) refl
 
+-- ---- by what the checks look at
+
+-- of the same lengths
+pub given_same : (rate : ℕ) {b d : Lent} (n : ℕ) {x : ℕ} → b ≡ d → x ≡ given_cause rate b n → x ≡ given_cause rate d n
+given_same rate n e f = f ∙ ap (λ (y : Lent). given_cause rate y n) e
+
+-- of a view of the memory
+pub view_cause : (s : SigfoxReceiver) (c : Call) (v : View) (m : Memory) → Views v m
+    → cause s.rate (viewed v) (counts_of s) (ledger_of s v.samples.now) c ≡ cause s.rate (lengths_of m) (counts_of s) (ledger_of s m.samples) c
+view_cause s c v m w =
+    ap (λ (b : Lent). cause s.rate b (counts_of s) (ledger_of s v.samples.now) c) w.lengths
+    ∙ ap (λ (l : List Float). cause s.rate (lengths_of m) (counts_of s) (ledger_of s l) c) w.samples
+
 -- cause 5 or 9 of a state
 unfoldable pub order_cause : SigfoxReceiver → List Float → ℕ
 order_cause s buf =
@@ -154,6 +170,11 @@ module _ (s : SigfoxReceiver) (buf : List Float) (b : Lent) where
   flush-later x e h = h ∙ pick_none (rate_ok s.rate) (too_short s.rate b) (ltb (capacity s.rate) 0) (order_cause s buf) e ∙ flush_is
 
 -- ---- the state's causes
+
+-- no message, none out of order
+pub none_wait : (w : Waiting) → w.count ≡ 0 → 0 ≡ messages_cause w
+unfolding messages_cause unlike all_fit any_nan
+none_wait w z = rw z refl
 
 module _ (w : Waiting) {now : Float} (r : Condition) (k : waiting.Checked w now r) where
   pub messages-order : r.ok ≡ false → bad_state ≡ messages_cause w

@@ -1,7 +1,7 @@
 -- A push that is accepted and only adds its samples, by what its callers ask first. Assumes nothing.
 use mathlib.Core.Bool.{cond, false, true}
 use mathlib.Core.List.{List}
-use mathlib.Core.Path.{◌≡◌, ◌∙◌, refl, sym}
+use mathlib.Core.Path.{◌≡◌, ◌∙◌, refl, subst, sym}
 use mathlib.Core.Logic.{⊎_elim}
 use Prim.Native.Nat.{ℕ, ◌+◌, ◌*◌, ◌≤◌, ◌<◌}
 use native.Mathlib.Omega.{arith}
@@ -23,10 +23,11 @@ use Rattle.receiver_waiting.specs.declared.Condition.{Condition}
 use Rattle.receiver_waiting.specs.declared.Waiting.{Waiting}
 use Rattle.receiver.specs.State.{given_cause, messages_cause, numbers_ok, samples_ok, state_cause}
 use Rattle.receiver.specs.Calls.{Memory, lengths_of}
-use Rattle.receiver.specs.Running.{Quiet, OnlyAdds}
+use Rattle.receiver.specs.Running.{Quiet, OnlyAdds, viewed, Views}
+use Rattle.receiver.specs.declared.View.{View}
 use Rattle.receiver.specs.declared.SigfoxReceiver.{SigfoxReceiver}
 use Rattle.receiver.proofs.AnswerLaws.{refusal_is}
-use Rattle.receiver.proofs.CauseLaws.{order_cause, order-messages, push-later, state-last}
+use Rattle.receiver.proofs.CauseLaws.{order_cause, order-messages, push-later, state-last, none_wait}
 
 pub samples-calm : (rate held base u : ℕ) (s : Starts) (buf : List Float) → samples_ok rate held base u s buf ≡ true → 2 * u < rate
 unfolding samples_ok
@@ -50,6 +51,13 @@ stream_none k x e z =
     (λ f. ltb-false longest_stream k f)
     (either (ltb longest_stream k))
 
+-- of the memory that is looked at
+pub view_quiet : (rate held base u : ℕ) (s : Starts) (v : View) (m : Memory) (n : ℕ) → Views v m → Quiet rate held base u s v.samples.now (viewed v) n
+    → Quiet rate held base u s m.samples (lengths_of m) n
+view_quiet rate held base u s v m n w q =
+    subst (λ (b : Lent). Quiet rate held base u s m.samples b n) w.lengths
+    (subst (λ (l : List Float). Quiet rate held base u s l (viewed v) n) w.samples q)
+
 -- messages in order, none of which is found complete
 pub none_expire : (w : Waiting) {now : Float} (r : Condition) → waiting.Checked w now r → r.ok ≡ true → r.expires ≡ false → any_expires now (waiting_of w) ≡ false
 none_expire w {now} r k o e =
@@ -67,3 +75,8 @@ module _ (s : SigfoxReceiver) (p : Schedule) (m : Memory) (xs : List Float) (n :
         accepted = sym (refusal_is s (push xs) p m 0 0 (sym planned ∙ first_zero 0 (schedule_cause p) refl) (push-later s m.samples (lengths_of m) xs n 0 en q.given (t ∙ rw v refl)));
         adds = record { some = q.some; fits = q.fits; quiet = q.calm; stay = stay };
       }
+
+  -- with no message
+  pub only_adds_none : s.waiting.count ≡ 0 → OnlyAdds s (push xs) p n m
+  unfolding any_expires
+  only_adds_none z = only_adds (none_wait s.waiting z) (rw z refl)

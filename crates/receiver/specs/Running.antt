@@ -17,8 +17,10 @@ use Rattle.receiver_scan.specs.Midway.{Midway}
 use Rattle.receiver_scan.specs.declared.Scanned.{Scanned}
 use Rattle.receiver_closing.specs.Written.{written}
 use Rattle.receiver.specs.State.{ledger_of, counts_of, state_over, samples_ok, given_cause}
-use Rattle.receiver.specs.Calls.{Memory, Received, refusal_of, samples_after}
+use Rattle.receiver.specs.Calls.{Memory, Received, lengths_of, refusal_of, samples_after}
 use Rattle.receiver.specs.declared.SigfoxReceiver.{SigfoxReceiver}
+use Rattle.receiver.specs.declared.Lengths.{Lengths}
+use Rattle.receiver.specs.declared.View.{View}
 
 -- no cause applies to the call c on the state s
 pub record Passes (s : SigfoxReceiver) (c : Call) (samples : List Float) (events : List ℕ) (scratch : List Float) : Type 0 where
@@ -108,3 +110,16 @@ pub record Quiet (rate held base unscanned : ℕ) (s : Starts) (samples : List F
 pub record OnlyAdds (s : SigfoxReceiver) (c : Call) (p : Schedule) (n : ℕ) (m : Memory) : Type 0 where
   pub accepted : refusal_of s c p m ≡ 0
   pub adds : Adds s n
+
+-- ---- what a call's checks look at
+
+abbrev pub lent_of : Lengths → causes.Lent
+lent_of b = record { samples = b.samples; events = b.events; scratch32 = b.scratch32; scratch64 = b.scratch64 }
+
+abbrev pub viewed : View → causes.Lent
+viewed v = record { samples = length v.samples.now; events = v.events; scratch32 = v.scratch32; scratch64 = v.scratch64 }
+
+-- the samples and the lengths are those of the memory m
+pub record Views (v : View) (m : Memory) : Type 0 where
+  pub samples : v.samples.now ≡ m.samples
+  pub lengths : viewed v ≡ lengths_of m

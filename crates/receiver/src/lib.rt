@@ -9,8 +9,8 @@ ghost use Rattle.ledger.specs.Causes.{most_starts, too_short, cause};
 ghost use Rattle.ledger.specs.Room.{open_places};
 ghost use Rattle.shifts.specs.Shifts.{schedule};
 ghost use Rattle.receiver.specs.State.{new_state, ledger_of, counts_of, numbers_ok, samples_ok, given_cause, messages_cause, state_cause};
-ghost use Rattle.receiver.specs.Calls.{Answered, Same, memory, lengths_of, received};
-ghost use Rattle.receiver.specs.Running.{Quiet, OnlyAdds};
+ghost use Rattle.receiver.specs.Calls.{Answered, Same, Memory, memory, received};
+ghost use Rattle.receiver.specs.Running.{Quiet, OnlyAdds, lent_of, viewed, Views};
 
 pub mod run; // an accepted call
 
@@ -40,6 +40,50 @@ pub struct Lent<'a, 'b, 'c, 'd> {
     pub scratch64: &'d mut [f64],
 }
 
+// What the checks of a call look at: the samples, and how many places the rest of what is lent has. They take it by shared reference, and need no more.
+#[derive(Clone, Copy)]
+pub struct View<'a> {
+    pub samples: &'a [f32],
+    pub events: usize,
+    pub scratch32: usize,
+    pub scratch64: usize,
+}
+
+// Lengths of what is lent.
+#[derive(Clone, Copy)]
+pub struct Lengths {
+    pub samples: usize,
+    pub events: usize,
+    pub scratch32: usize,
+    pub scratch64: usize,
+}
+
+impl Lent<'_, '_, '_, '_> {
+    pub fn view(&self) -> View<'_>
+        ensures { Views result (memory self.now) }
+    {
+        View {
+            samples: self.samples,
+            events: self.events.len(),
+            scratch32: self.scratch32.len(),
+            scratch64: self.scratch64.len(),
+        }
+    }
+}
+
+impl View<'_> {
+    pub fn lengths(self) -> Lengths
+        ensures { lent_of result ≡ viewed self.entry }
+    {
+        Lengths {
+            samples: self.samples.len(),
+            events: self.events,
+            scratch32: self.scratch32,
+            scratch64: self.scratch64,
+        }
+    }
+}
+
 impl SigfoxReceiver {
     // A fresh receiver of any rate.
     pub fn new(rate: u32) -> Self
@@ -63,7 +107,7 @@ impl SigfoxReceiver {
         ensures answered { Answered self.old (push dbm.now) (schedule given.now) (memory lent.old) (memory lent.new) (received result self.new) }
     {
         lengths_known(self);
-        check_push(self, dbm, lent)?;
+        check_push(self, dbm, lent.view())?;
         given.check()?;
         let samples = &mut *lent.samples;
         let events = &mut *lent.events;
@@ -77,7 +121,7 @@ impl SigfoxReceiver {
         ensures answered { Answered self.old (push_raw raw.now) (schedule given.now) (memory lent.old) (memory lent.new) (received result self.new) }
     {
         lengths_known(self);
-        check_push_raw(self, raw, lent)?;
+        check_push_raw(self, raw, lent.view())?;
         given.check()?;
         let samples = &mut *lent.samples;
         let events = &mut *lent.events;
@@ -90,8 +134,8 @@ impl SigfoxReceiver {
     }
 
     // Whether a push of these raw samples is accepted and only adds them to those held: then `add_raw` does it.
-    pub fn adds_raw(&self, raw: &[u8], given: &Given, lent: &Lent) -> bool
-        ensures { result ≡ true → OnlyAdds self.now (push_raw raw.now) (schedule given.now) (length raw.now) (memory lent.now) }
+    pub fn adds_raw(&self, raw: &[u8], given: &Given, lent: View) -> bool
+        ensures { result ≡ true → (m : Memory) → Views lent.entry m → OnlyAdds self.now (push_raw raw.now) (schedule given.now) (length raw.now) m }
     {
         let n = raw.len();
         if !quiet(self, lent, n) {
@@ -126,7 +170,7 @@ impl SigfoxReceiver {
         ensures answered { Answered self.old flush (schedule given.now) (memory lent.old) (memory lent.new) (received result self.new) }
     {
         lengths_known(self);
-        check_flush(self, lent)?;
+        check_flush(self, lent.view())?;
         given.check()?;
         let samples = &mut *lent.samples;
         let events = &mut *lent.events;
@@ -144,14 +188,14 @@ fn lengths_known(s: &SigfoxReceiver)
 }
 
 // Whether a lent slice is short.
-pub fn too_short(rate: u32, lent: &Lent) -> bool
-    ensures { result ≡ too_short rate (lengths_of (memory lent.now)) }
+pub fn too_short(rate: u32, lent: Lengths) -> bool
+    ensures { result ≡ too_short rate (lent_of lent) }
 {
     let capacity = receiver_samples::capacity(rate);
-    let samples = lent.samples.len() < capacity;
-    let events = lent.events.len() < limits::EVENTS;
-    let scratch32 = lent.scratch32.len() < capacity;
-    let scratch64 = lent.scratch64.len() < limits::SCRATCH64;
+    let samples = lent.samples < capacity;
+    let events = lent.events < limits::EVENTS;
+    let scratch32 = lent.scratch32 < capacity;
+    let scratch64 = lent.scratch64 < limits::SCRATCH64;
     samples | (events | (scratch32 | scratch64))
 }
 
@@ -183,8 +227,8 @@ fn samples_in_order(s: &SigfoxReceiver, samples: &[f32]) -> bool
 // ---- causes
 
 // Causes 1 to 3 of a call that hands in n samples.
-pub fn check_given(rate: u32, lent: &Lent, n: usize) -> Result<(), Refusal>
-    ensures { cause_of result ≡ given_cause rate (lengths_of (memory lent.now)) n }
+pub fn check_given(rate: u32, lent: Lengths, n: usize) -> Result<(), Refusal>
+    ensures { cause_of result ≡ given_cause rate (lent_of lent) n }
 {
     if !limits::rate_ok(rate) {
         return Err(Refusal::BadRate);
@@ -204,10 +248,10 @@ fn check_messages(w: &Waiting) -> Result<(), Refusal>
 {
     let c = receiver_waiting::check(w, 0.0);
     if !c.ok {
-        return Err(Refusal::BadState);
+        return Err(Refusal::BadState); // over 40 too
     }
     if c.nan {
-        return Err(Refusal::BadNumber);
+        return Err(Refusal::BadNumber); // before 11
     }
     Ok(())
 }
@@ -233,21 +277,21 @@ fn check_state(s: &SigfoxReceiver, samples: &[f32], n: usize) -> Result<(), Refu
     }
     let c = receiver_waiting::check(&s.waiting, 0.0);
     if !c.ok {
-        return Err(Refusal::BadState);
+        return Err(Refusal::BadState); // over 40 waiting too
     }
     check_stream(s.base, s.held, n)?;
     let nan = c.nan;
     if nan {
-        return Err(Refusal::BadNumber);
+        return Err(Refusal::BadNumber); // 11 comes after it
     }
     Ok(())
 }
 
 // Whether no cause but the messages' applies to a push of n samples, there is room for them without a drop, and no scan is due.
-fn quiet(s: &SigfoxReceiver, lent: &Lent, n: usize) -> bool
-    ensures { result ≡ true → Quiet s.now.rate s.now.held s.now.base s.now.unscanned s.now.starts lent.now.samples.now (lengths_of (memory lent.now)) n }
+fn quiet(s: &SigfoxReceiver, lent: View, n: usize) -> bool
+    ensures { result ≡ true → Quiet s.now.rate s.now.held s.now.base s.now.unscanned s.now.starts lent.entry.samples.now (viewed lent.entry) n }
 {
-    if check_given(s.rate, lent, n).is_err() {
+    if check_given(s.rate, lent.lengths(), n).is_err() {
         return false;
     }
     if !samples_in_order(s, lent.samples) {
@@ -260,10 +304,10 @@ fn quiet(s: &SigfoxReceiver, lent: &Lent, n: usize) -> bool
 }
 
 // The cause of a push, the first by number.
-pub fn check_push(s: &SigfoxReceiver, dbm: &[f32], lent: &Lent) -> Result<(), Refusal>
-    ensures { cause_of result ≡ cause s.now.rate (lengths_of (memory lent.now)) (counts_of s.now) (ledger_of s.now lent.now.samples.now) (push dbm.now) }
+pub fn check_push(s: &SigfoxReceiver, dbm: &[f32], lent: View) -> Result<(), Refusal>
+    ensures { cause_of result ≡ cause s.now.rate (viewed lent.entry) (counts_of s.now) (ledger_of s.now lent.entry.samples.now) (push dbm.now) }
 {
-    check_given(s.rate, lent, dbm.len())?;
+    check_given(s.rate, lent.lengths(), dbm.len())?;
     if !limits::all_dbm(dbm) {
         return Err(Refusal::BadSample);
     }
@@ -271,18 +315,18 @@ pub fn check_push(s: &SigfoxReceiver, dbm: &[f32], lent: &Lent) -> Result<(), Re
 }
 
 // The cause of a push of raw bytes: all of them are valid samples.
-pub fn check_push_raw(s: &SigfoxReceiver, raw: &[u8], lent: &Lent) -> Result<(), Refusal>
-    ensures { cause_of result ≡ cause s.now.rate (lengths_of (memory lent.now)) (counts_of s.now) (ledger_of s.now lent.now.samples.now) (push_raw raw.now) }
+pub fn check_push_raw(s: &SigfoxReceiver, raw: &[u8], lent: View) -> Result<(), Refusal>
+    ensures { cause_of result ≡ cause s.now.rate (viewed lent.entry) (counts_of s.now) (ledger_of s.now lent.entry.samples.now) (push_raw raw.now) }
 {
-    check_given(s.rate, lent, raw.len())?;
+    check_given(s.rate, lent.lengths(), raw.len())?;
     check_state(s, lent.samples, raw.len())
 }
 
 // The cause of a flush.
-pub fn check_flush(s: &SigfoxReceiver, lent: &Lent) -> Result<(), Refusal>
-    ensures { cause_of result ≡ cause s.now.rate (lengths_of (memory lent.now)) (counts_of s.now) (ledger_of s.now lent.now.samples.now) flush }
+pub fn check_flush(s: &SigfoxReceiver, lent: View) -> Result<(), Refusal>
+    ensures { cause_of result ≡ cause s.now.rate (viewed lent.entry) (counts_of s.now) (ledger_of s.now lent.entry.samples.now) flush }
 {
-    check_given(s.rate, lent, 0)?;
+    check_given(s.rate, lent.lengths(), 0)?;
     if !samples_in_order(s, lent.samples) {
         return Err(Refusal::BadState);
     }

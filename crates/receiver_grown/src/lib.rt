@@ -4,20 +4,20 @@
 ghost use Rattle.std.specs.Prelude.{◌≡◌, true, length};
 ghost use Rattle.ledger.specs.Ledger.{push_raw};
 ghost use Rattle.shifts.specs.Shifts.{schedule};
-ghost use Rattle.receiver.specs.Calls.{memory};
-ghost use Rattle.receiver.specs.Running.{OnlyAdds};
+ghost use Rattle.receiver.specs.Calls.{Memory};
+ghost use Rattle.receiver.specs.Running.{OnlyAdds, Views};
 ghost use Rattle.receiver_grown.specs.InOrder.{InOrder};
 
-use receiver::{Lent, SigfoxReceiver};
+use receiver::{SigfoxReceiver, View};
 use shifts::Given;
 
 // Whether a push of these raw samples is accepted and only adds them to those held: `SigfoxReceiver::adds_raw` without a look at what is held.
-pub fn adds_raw(s: &SigfoxReceiver, raw: &[u8], given: &Given, lent: &Lent) -> bool
-    requires { InOrder s.now lent.now.samples.now }
-    ensures { result ≡ true → OnlyAdds s.now (push_raw raw.now) (schedule given.now) (length raw.now) (memory lent.now) }
+pub fn adds_raw(s: &SigfoxReceiver, raw: &[u8], given: &Given, lent: View) -> bool
+    requires { InOrder s.now lent.samples.now }
+    ensures { result ≡ true → (m : Memory) → Views lent.entry m → OnlyAdds s.now (push_raw raw.now) (schedule given.now) (length raw.now) m }
 {
     let n = raw.len();
-    if receiver::check_given(s.rate, lent, n).is_err() {
+    if receiver::check_given(s.rate, lent.lengths(), n).is_err() {
         return false;
     }
     if receiver::check_stream(s.base, s.held, n).is_err() {

@@ -60,6 +60,10 @@ module _ (rate : ℕ) (d : Demod) (wait : ℕ) where
       let m = each_stays (take_one_if rate d wait l b) bs in
       record { held = m.held ∙ o.held; base = m.base ∙ o.base; unscanned = m.unscanned ∙ o.unscanned }
 
+  pub scan-stays : (l : Ledger by_entry) → Stays l (scan_if rate d wait l)
+  unfolding scan_if forget
+  scan-stays l = let m = each_stays l (d.bursts l.held) in record { held = m.held; base = m.base; unscanned = m.unscanned }
+
 -- ---- the loop
 
 module _ (rate wait base : ℕ) (held : List Float) where

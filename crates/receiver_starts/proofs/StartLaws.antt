@@ -19,6 +19,7 @@ use Rattle.receiver_starts.specs.Starts.{distances, over, near_one, lately, move
 use Rattle.receiver_starts.specs.declared.Starts.{Starts}
 use Rattle.receiver_starts.proofs.Places.{laid_over, over_again, store_next, take-few, take_store}
 use Rattle.receiver_starts.proofs.Signed.{ahead, behind, apart_is, below_is, biased_is, from_is, minus_is, sub_same}
+use Rattle.endian.specs.Bytes.{signed_of}
 
 -- ---- a distance by what it is with 2^31 added
 
@@ -215,3 +216,20 @@ unfolding over
 moved_all by s r h e =
     let n : length (moved by (distances s)) ≡ s.count = length-map (distances s) _ ∙ length-take-le s.count s.at h in
     rw (e, n) refl
+
+-- ---- a distance by its pattern of 32 bits
+
+module _ (n : ℕ) where
+  pub unbiased-low : n < 2 ^ 31 → signed_of 32 (n + 2 ^ 31) ≡ sub_ℕ n (2 ^ 31)
+  unfolding signed_of
+  unbiased-low h =
+      let e : 2 ^ 32 - suc (n + 2 ^ 31) ≡ 2 ^ 31 - suc n = omega arith in
+      rw (le-ltb (n + 2 ^ 31) (2 ^ 31) (omega arith), lt-ltb n (2 ^ 31) h, e) refl
+
+  pub unbiased-high : 2 ^ 31 ≤ n → n < 2 ^ 32 → signed_of 32 (n - 2 ^ 31) ≡ sub_ℕ n (2 ^ 31)
+  unfolding signed_of
+  unbiased-high h k = rw (lt-ltb (n - 2 ^ 31) (2 ^ 31) (omega arith), le-ltb n (2 ^ 31) h) refl
+
+  pub index_is : n < 2 ^ 31 → signed_of 32 n ≡ pos n
+  unfolding signed_of
+  index_is h = rw (lt-ltb n (2 ^ 31) h) refl

@@ -303,6 +303,12 @@ unlike_is (m ∷ l) c = rw (waits_is m l c.0 c.1, unlike_is l c.1) refl
 
 -- ---- a state's messages
 
+pub none_wait : (w : Waiting) (now : Float) → w.count ≡ 0 → Checked w now (record { ok = true; nan = false; expires = false })
+unfolding unlike all_fit any_nan any_expires
+none_wait w now e =
+    let h = le-leb w.count most_waiting (omega (arith, e)) in
+    record { ok = rw (h, e) refl; nan = rw (h, e) refl; expires = rw (h, e) refl }
+
 pub too_many : (w : Waiting) (now : Float) → most_waiting < w.count → Checked w now (record { ok = false; nan = false; expires = false })
 too_many w now h =
     let e = lt-leb w.count most_waiting h in

@@ -225,6 +225,13 @@ pub fn check(w: &Waiting, now: f64) -> Condition
     ensures { Checked w.now now result }
 {
     let n = w.count;
+    if n == 0 {
+        return Condition {
+            ok: true,
+            nan: false,
+            expires: false,
+        };
+    }
     if MOST_WAITING < n {
         return Condition {
             ok: false,

@@ -70,6 +70,8 @@ fn case(rt: &(impl Input + Print), head: &[u8; 33]) -> Result<(), Unanswered> {
     let dbm = replay::read_list(rt, &mut dbm)?;
     let noise = bursts::noise_floor(dbm, &mut scratch)?;
     let asked = asked_of(head, noise);
+    // asked once also where there are no samples, so that a refusal shows
+    next(dbm, asked, 0)?;
     let count = walk(dbm, asked, |_| {})?;
     replay::print(rt, b"B ");
     replay::print_number(rt, count);

@@ -1,4 +1,6 @@
 // The block behind a call's arguments: start second, windows and closed dates.
+ghost use Rattle.std.specs.Prelude.{IfOk, ◌≤◌, length};
+
 use replay::Unanswered;
 use shifts::{Given, Shifts, Window};
 
@@ -20,13 +22,17 @@ fn read_windows(rt: &impl Input, n: usize) -> Result<[Window; 32], Unanswered> {
 }
 
 // A count, and that many closed dates; those for which the list has no place are read over.
-fn read_dates<'a>(rt: &impl Input, closed: &'a mut [u32]) -> Result<&'a [u32], Unanswered> {
+fn read_dates<'a>(rt: &impl Input, closed: &'a mut [u32]) -> Result<&'a [u32], Unanswered>
+    ensures { IfOk result (λ s. length s.now ≤ length closed.old) }
+{
     let mut count = [0u8; 2];
     replay::read_part(rt, &mut count)?;
     replay::read_n(rt, endian::get::<u16>(&count, 0) as usize, closed)
 }
 
-fn read_behind<'a>(rt: &impl Input, closed: &'a mut [u32]) -> Result<Given<'a>, Unanswered> {
+fn read_behind<'a>(rt: &impl Input, closed: &'a mut [u32]) -> Result<Given<'a>, Unanswered>
+    ensures { IfOk result (λ g. length g.closed.now ≤ length closed.old) }
+{
     let mut head = [0u8; 6];
     replay::read_part(rt, &mut head)?;
     let start = if head[0] == 0 {
@@ -51,7 +57,9 @@ pub fn read_block<'a>(
     rt: &impl Input,
     behind: bool,
     closed: &'a mut [u32],
-) -> Result<Given<'a>, Unanswered> {
+) -> Result<Given<'a>, Unanswered>
+    ensures { IfOk result (λ g. length g.closed.now ≤ length closed.old) }
+{
     if behind {
         return read_behind(rt, closed);
     }

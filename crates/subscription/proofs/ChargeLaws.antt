@@ -9,9 +9,9 @@ use lib.Dec.{T}
 use lib.Signed.{non_neg}
 use lib.ListN.{length, get_or, replicate, get_or-replicate, length-replicate}
 use lib.IntN.{ℤ, nat_abs}
-use Rattle.limits.specs.Limits.{most_record_bytes, long, bad_records}
+use Rattle.limits.specs.Limits.{most_record_bytes, long}
 use Rattle.std.specs.Prelude.{Ok, Err}
-use Rattle.limits.specs.declared.Refusal.TheVariants.{Long, BadPlan, OutsideMonth}
+use Rattle.limits.specs.declared.Refusal.TheVariants.{Long, BadRecords, BadPlan, OutsideMonth}
 use Rattle.limits.specs.Answer.{Answer, said, said_by, answer, accepted}
 use Rattle.limits.proofs.Samples.{and_right}
 use Rattle.event_list.specs.Events.{events_of, messages_of, list_ok}
@@ -25,21 +25,26 @@ use Rattle.subscription.proofs.CountLaws.{counts_all}
 -- ---- of what was read
 
 module _ (v : ℕ) where
-  pub says_plan : (plan start within : Bool) → plan ≡ false → said (Err BadPlan) ≡ answer (month_cause true (plan && start) within) v
+  pub says_bad : (ok sound within : Bool) → ok ≡ false → said (Err BadRecords) ≡ answer (month_cause ok sound within) v
   unfolding said_by answer month_cause
-  says_plan plan start within e = rw e refl
+  says_bad ok sound within e = rw e refl
 
-  pub says_start : (plan start within : Bool) → plan ≡ true → start ≡ false → said (Err BadPlan) ≡ answer (month_cause true (plan && start) within) v
+  pub says_plan : (ok plan start within : Bool) → ok ≡ true → plan ≡ false → said (Err BadPlan) ≡ answer (month_cause ok (plan && start) within) v
   unfolding said_by answer month_cause
-  says_start plan start within e f = rw (e, f) refl
+  says_plan ok plan start within e f = rw (e, f) refl
 
-  pub says_out : (plan start within : Bool) → plan ≡ true → start ≡ true → within ≡ false → said (Err OutsideMonth) ≡ answer (month_cause true (plan && start) within) v
+  pub says_start : (ok plan start within : Bool) → ok ≡ true → plan ≡ true → start ≡ false → said (Err BadPlan) ≡ answer (month_cause ok (plan && start) within) v
   unfolding said_by answer month_cause
-  says_out plan start within e f g = rw (e, f, g) refl
+  says_start ok plan start within e f g = rw (e, f, g) refl
 
-  pub says_cents : (plan start within : Bool) → plan ≡ true → start ≡ true → within ≡ true → (n : ℕ) → n ≡ v → said (Ok n) ≡ answer (month_cause true (plan && start) within) v
+  pub says_out : (ok plan start within : Bool) → ok ≡ true → plan ≡ true → start ≡ true → within ≡ false → said (Err OutsideMonth) ≡ answer (month_cause ok (plan && start) within) v
   unfolding said_by answer month_cause
-  says_cents plan start within e f g n k = rw (e, f, g) (ap accepted k)
+  says_out ok plan start within e f g h = rw (e, f, g, h) refl
+
+  pub says_cents : (ok plan start within : Bool) → ok ≡ true → plan ≡ true → start ≡ true → within ≡ true → (n : ℕ) → n ≡ v
+      → said (Ok n) ≡ answer (month_cause ok (plan && start) within) v
+  unfolding said_by answer month_cause
+  says_cents ok plan start within e f g h n k = rw (e, f, g, h) (ap accepted k)
 
 -- ---- of a list
 
@@ -77,10 +82,6 @@ module _ (l : List ℕ) (plan : Plan) (z : ℤ) where
   pub says_long : most_record_bytes < length l → said (Err Long) ≡ answered
   unfolding said_by answer charge_cause
   says_long h = rw (lt-ltb most_record_bytes (length l) h) refl
-
-  pub bad_cause : length l ≤ most_record_bytes → list_ok l ≡ false → bad_records ≡ charge_cause l plan z
-  unfolding charge_cause month_cause
-  bad_cause h e = rw (le-ltb most_record_bytes (length l) h, e) refl
 
   -- what was read of it from nothing on
   pub says_read : length l ≤ most_record_bytes → (ok within : Bool) (c : List ℕ) → ok ≡ list_ok l → within ≡ all_in_month (second_of z) ms → c ≡ tallied (second_of z) (replicate days 0) (events_of l)

@@ -213,6 +213,13 @@ module _ (start : ℕ) (t : Float) (few : start ≤ latest_start) where
       go true g = (refl, is d (day_at start t) g)
       go false g = cc
 
+  pub day_most : day_at start t ≤ days
+  day_most = go (between start 0 days t) refl
+    where
+      go : (b : Bool) → between start 0 days t ≡ b → day_at start t ≤ days
+      go true f = omega (arith, day-under f)
+      go false f = omega (arith, outside f)
+
 -- ---- the month's start
 
 pub second_is : (z : ℤ) → start_ok z ≡ true → T (non_neg z) × (nat_abs z ≡ second_of z) × (nat_abs z ≤ latest_start)

@@ -1,11 +1,10 @@
 -- Scaffolding. How the code counts and prices: a count for each day of what is read so far of a list that comes in parts, and how far the steps reach. `charges` reads its list as one part. Assumes nothing.
-use Rattle.std.specs.Prelude.{ℕ, zero, suc, ◌+◌, ◌-◌, ◌/◌, ◌≤◌, min, ◌≡◌, Bool, true, cond, ◌&&◌, List, [], ◌∷◌, eqb, length, get_or, set, ℤ, nat_abs, Float, Option, Some, None}
+use Rattle.std.specs.Prelude.{ℕ, zero, suc, ◌+◌, ◌-◌, ◌/◌, ◌≤◌, min, ◌≡◌, Bool, true, cond, List, [], ◌∷◌, eqb, length, get_or, set, ℤ, nat_abs, Float, Option, Some, None}
 use Rattle.std.specs.Float.Ieee.{to_unsigned}
 use Rattle.record.specs.Readers.{time_of}
-use Rattle.event_list.specs.Events.{wholes, events_of, is_message, messages_of}
+use Rattle.event_list.specs.Events.{is_message}
 use Rattle.subscription.specs.declared.Plan.{Plan}
-use Rattle.subscription.specs.declared.Tally.{Tally}
-use Rattle.subscription.specs.Charges.{day_s, days, between, in_month, all_in_month, start_ok, upper_of}
+use Rattle.subscription.specs.Charges.{day_s, days, between, in_month, start_ok, upper_of}
 
 -- where the days begin; where the month's start is refused, anything serves
 abbrev pub second_of : ℤ → ℕ
@@ -38,10 +37,6 @@ unfoldable pub tallied : ℕ → List ℕ → List (List ℕ) → List ℕ
 unfolding stepped
 tallied start c [] = c
 tallied start c (r ∷ rs) = tallied start (stepped start c r) rs
-
--- what was read, with the records of a part
-abbrev pub read_on : ℕ → Tally → List ℕ → Tally
-read_on start t l = record { «records» = t.«records» + wholes l; within = t.within && all_in_month start (messages_of (events_of l)) }
 
 -- no day has more messages than there were records
 pub record Few (c : List ℕ) (n : ℕ) : Type 0 where

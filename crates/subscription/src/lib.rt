@@ -4,12 +4,11 @@
 mod prices; // a plan, and what it takes
 mod days; // the days of a month
 
-ghost use Rattle.std.specs.Prelude.{◌≡◌, true, cond, Ok, Err, ◌&&◌, ◌+◌, ◌≤◌, get_or, nat_abs};
+ghost use Rattle.std.specs.Prelude.{◌≡◌, true, ◌&&◌, ◌+◌, ◌≤◌, get_or, nat_abs};
 ghost use Rattle.limits.specs.Answer.{said, answer};
-ghost use Rattle.limits.specs.declared.Refusal.TheVariants.{BadRecords};
 ghost use Rattle.event_list.specs.Events.{wholes, most_records, events_of, messages_of, list_ok};
-ghost use Rattle.subscription.specs.Charges.{latest_start, plan_ok, start_ok, cents_of, on_day, month_cause, charge_cause};
-ghost use Rattle.subscription.specs.Counting.{second_of, read_on, tallied, Few};
+ghost use Rattle.subscription.specs.Charges.{latest_start, all_in_month, plan_ok, start_ok, cents_of, on_day, month_cause, charge_cause};
+ghost use Rattle.subscription.specs.Counting.{second_of, tallied, Few};
 
 use crate::prices::Accepted;
 use limits::Refusal;
@@ -40,10 +39,11 @@ pub struct Plan {
     pub steps: [Step; 8],
 }
 
-// What was read: how many records, and whether every message lies in the month.
+// What was read: how many records, whether refusal 12 does not apply to them, and whether every message lies in the month.
 #[derive(Clone, Copy)]
 pub struct Tally {
     pub records: usize,
+    pub ok: bool,
     pub within: bool,
 }
 
@@ -66,26 +66,24 @@ pub fn second_of(z: i64) -> usize
 
 // Nothing is read.
 pub fn no_records() -> Tally
-    ensures { (result.«records» ≡ 0) × (result.within ≡ true) }
+    ensures { (result.«records» ≡ 0) × (result.ok ≡ true) × (result.within ≡ true) }
 {
     Tally {
         records: 0,
+        ok: true,
         within: true,
     }
 }
 
-// More records are read, in one pass: each is tested for refusal 12, and a message in the month is counted on its day.
-pub fn read_records(
-    t: Tally,
-    records: &[u8],
-    start: usize,
-    counts: &mut [u32],
-) -> Result<Tally, Refusal>
+// More records are read, in one pass, those behind a bad one too: each is tested, and a message in the month is counted on its day.
+pub fn read_records(t: Tally, records: &[u8], start: usize, counts: &mut [u32]) -> Tally
     requires { (t.«records» + wholes records.now ≤ most_records) × (start ≤ latest_start) × Few counts.old t.«records» }
-    ensures { (result ≡ cond (list_ok records.now) (Ok (read_on start t records.now)) (Err BadRecords))
-        × (counts.new ≡ tallied start counts.old (events_of records.now)) × Few counts.new (t.«records» + wholes records.now) }
+    ensures { (result.«records» ≡ t.«records» + wholes records.now) × (result.ok ≡ t.ok && list_ok records.now)
+        × (result.within ≡ t.within && all_in_month start (messages_of (events_of records.now)))
+        × (counts.new ≡ tallied start counts.old (events_of records.now)) × Few counts.new result.«records» }
 {
-    let mut ok = records.len() % limits::RECORD == 0;
+    let whole = records.len() % limits::RECORD == 0;
+    let mut ok = t.ok & whole;
     let mut within = t.within;
     for r in records.chunks_exact(limits::RECORD) {
         let event = EventRecord::new(r);
@@ -94,18 +92,22 @@ pub fn read_records(
         ok &= right;
         within &= inside;
     }
-    if !ok {
-        return Err(Refusal::BadRecords);
-    }
     let records = t.records + records.len() / limits::RECORD;
-    Ok(Tally { records, within })
+    Tally {
+        records,
+        ok,
+        within,
+    }
 }
 
-// The cents of what was read, or refusal 15 or 16.
+// The cents of what was read, or refusal 12, 15 or 16.
 pub fn total(t: Tally, counts: &[u32], plan: Plan, month_start: i64) -> Result<u64, Refusal>
     requires { Few counts.now most_records }
-    ensures { said result ≡ answer (month_cause true (plan_ok plan && start_ok month_start) t.within) (cents_of plan (λ k. get_or counts.now k 0)) }
+    ensures { said result ≡ answer (month_cause t.ok (plan_ok plan && start_ok month_start) t.within) (cents_of plan (λ k. get_or counts.now k 0)) }
 {
+    if !t.ok {
+        return Err(Refusal::BadRecords);
+    }
     if !prices::plan_ok(plan) || !start_ok(month_start) {
         return Err(Refusal::BadPlan);
     }
@@ -123,6 +125,6 @@ pub fn charges(records: &[u8], plan: Plan, month_start: i64) -> Result<u64, Refu
         return Err(Refusal::Long);
     }
     let mut counts = [0u32; DAYS];
-    let t = read_records(no_records(), records, second_of(month_start), &mut counts)?;
+    let t = read_records(no_records(), records, second_of(month_start), &mut counts);
     total(t, &counts, plan, month_start)
 }

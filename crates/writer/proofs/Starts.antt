@@ -4,7 +4,7 @@ use Rattle.std.specs.Option.{is_none}
 use mathlib.Core.Path.{◌≡◌, refl, sym, ap, ap₂, ◌∙◌}
 use mathlib.Core.Bool.{Bool, true, false, cond, ◌&&◌}
 use mathlib.Core.List.{List, ◌++◌, map, append_assoc}
-use Prim.Native.Nat.{ℕ, zero, suc, ◌+◌, ◌-◌, ◌*◌, ◌/◌, ◌%◌, ◌≤◌, ◌<◌}
+use Prim.Native.Nat.{ℕ, zero, suc, ◌+◌, ◌-◌, ◌*◌, ◌/◌, ◌%◌, ◌^◌, ◌≤◌, ◌<◌}
 use native.Mathlib.Omega.{arith}
 use lib.ListN.{length, take, drop, get_or, length-append, get_or-map, length-drop}
 use lib.Seq.{take_at, drop_at, take-append-le, drop-append-le, drop-drop}
@@ -16,6 +16,7 @@ use Rattle.coding.specs.Convolution.{fresh, convolved, deconvolved}
 use Rattle.coding.proofs.ByteLists.{length-bytes-bits, bytes_back}
 use Rattle.coding.proofs.Codes.{length-convolved, deconvolve-undone}
 use Rattle.coding.proofs.Digits.{length_digits}
+use Rattle.coding.proofs.Values.{value-lt}
 use Rattle.frame.specs.Kinds.{alternating, preamble, sync_size, sync_bits, type_of, plain, kinds, blank_kind, kind_of}
 use Rattle.frame.specs.Sizes.{body_bytes}
 use Rattle.frame.specs.Fields.{crc_right, frame_from}
@@ -185,3 +186,6 @@ pub type_is : (r c : ℕ) → r ≤ 2 → c ≤ 4 → get_or rust_types (6 * r +
 type_is r c h k =
     let e : 6 * r + c + 1 ≡ 6 * r + suc c = omega arith in
     ap (λ (i : ℕ). get_or rust_types i 0) e ∙ sym (type_at (6 * r + suc c) (omega arith)) ∙ ap word_of (sym (place_of r c k h))
+
+pub type_lt : (k : FrameKind) → word_of k < 65536
+type_lt k = omega (arith, value-lt (sync_bits k), ap (λ (n : ℕ). 2 ^ n) (length-sync k))

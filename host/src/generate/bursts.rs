@@ -130,6 +130,16 @@ fn thresholds(cases: &mut Vec<Case>) {
 
 fn refused(cases: &mut Vec<Case>) {
     let loud = list(&[(9, QUIET), (400, LOUD)]);
+    // no samples, so that no burst is sought: the call refuses all the same
+    let wrong = [
+        Ask { rate: 0, ..USUAL },
+        Ask { above: -1.0, ..USUAL },
+        Ask {
+            floor: Some(f32::NAN),
+            ..USUAL
+        },
+    ];
+    cases.extend(wrong.iter().map(|ask| ask.of("no samples, refused", &[])));
     let numbers = [
         -0.0,
         -1e-9,

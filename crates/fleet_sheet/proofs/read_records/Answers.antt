@@ -2,7 +2,8 @@ use Rattle.std.proofs.Common.{◌≡◌, ℕ, ◌+◌, ◌<◌, List, [], ◌∷
 use mathlib.Core.List.{map-append}
 use Rattle.std.specs.Slice.Iter.{chunks_exact_rest}
 use Rattle.limits.specs.Limits.{record_size}
-use Rattle.event_list.specs.Events.{events_of, list_ok, record_ok, wholes}
+use Rattle.limits.proofs.Samples.{and_assoc}
+use Rattle.event_list.specs.Events.{events_of, record_ok, wholes}
 use Rattle.event_list.proofs.EventLaws.{length-records, event_next, event_end, ok_next, ok_last}
 use Rattle.fleet_sheet.specs.Table.{Rising, Gathered, devices_in, rows_in, taken_count, taken_ids, taken_rows}
 use Rattle.fleet_sheet.proofs.DeviceLaws.{rising-devices}
@@ -20,7 +21,7 @@ loop-r-init c =
     let e = c.into_iter-r-iterator.ensures.into_iter_gives in
     let x = c.chunks_exact-r-items.ensures in
     rw (e, x.rest, x.size)
-    (record { size = refl; split = refl; tested = refl; gathered = λ ms g. subst (Gathered (devices_in a.table.now) (rows_in a.table.now) a.t.devices) (read_none ms) g })
+    (record { size = refl; split = refl; tested = and_assoc a.t.ok _ _; gathered = λ ms g. subst (Gathered (devices_in a.table.now) (rows_in a.table.now) a.t.devices) (read_none ms) g })
 
 pub taken-n-requires : goal.taken-n-requires
 taken-n-requires c =
@@ -73,36 +74,16 @@ loop-r-preserved c =
       gathered = λ ms g. read_over ms done r (devices_in l.table) (rows_in l.table) l.n c.if-n-le-MOST_DEVICES.false (v.gathered ms g);
     })
 
-pub returns-then-not-ok : goal.returns-then-not-ok
-returns-then-not-ok c =
-    let a = c.args in
-    let l = c.loop-r in
-    let h : length (chunks_exact_rest l.r-iterator) < record_size = omega (arith, c.in-None.ensures.steps.1.0, l.invariant.size) in
-    let e : list_ok a.«records».now ≡ l.ok = sym (ok_last _ h l.ok _ l.invariant.tested) in
-    let all = all_done a.«records».now _ _ h l.invariant.split in
-    record {
-      read = record { «records» = a.t.«records» + wholes a.«records».now; devices = l.n };
-      answered = rw (e, c.if-not-ok.true) refl;
-      counted = refl;
-      adds = λ ms g. record {
-        gathered = rw (← all) (l.invariant.gathered ms g.gathered);
-        few = omega (arith, g.few, read_few ms (events_of a.«records».now) a.t.«records» g.few, length-records (wholes a.«records».now) a.«records».now);
-      };
-    }
-
 pub returns : goal.returns
 returns c =
     let a = c.args in
     let l = c.loop-r in
     let h : length (chunks_exact_rest l.r-iterator) < record_size = omega (arith, c.in-None.ensures.steps.1.0, l.invariant.size) in
-    let e : list_ok a.«records».now ≡ l.ok = sym (ok_last _ h l.ok _ l.invariant.tested) in
-    let all = all_done a.«records».now _ _ h l.invariant.split in
-    record {
-      read = record { «records» = a.t.«records» + wholes a.«records».now; devices = l.n };
-      answered = rw (e, c.if-not-ok.false) refl;
-      counted = refl;
-      adds = λ ms g. record {
+    let all = all_done a.«records».now _ _ h l.invariant.split in (
+      refl,
+      ok_last _ h l.ok _ l.invariant.tested,
+      λ ms g. record {
         gathered = rw (← all) (l.invariant.gathered ms g.gathered);
         few = omega (arith, g.few, read_few ms (events_of a.«records».now) a.t.«records» g.few, length-records (wholes a.«records».now) a.«records».now);
-      };
-    }
+      },
+    )

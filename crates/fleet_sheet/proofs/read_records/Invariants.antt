@@ -12,6 +12,6 @@ invariant-loop-r l =
     let done = map (λ r. r.now) l.yielded in record {
       size : chunks_exact_size l.r-iterator ≡ record_size;
       split : done ++ events_of left ≡ events_of l.«records»;
-      tested : l.ok && all_ok (events_of left) ≡ list_ok l.«records»;
+      tested : l.ok && all_ok (events_of left) ≡ l.t.ok && list_ok l.«records»;
       gathered : (ms : List (List ℕ)) → Gathered (devices_in l.initial.table) (rows_in l.initial.table) l.t.devices ms → Gathered (devices_in l.table) (rows_in l.table) l.n (read_to ms done);
     }

@@ -23,7 +23,7 @@ returns-then-not-readings_in_order c =
 pub numbers_ok-numbers-requires : goal.numbers_ok-numbers-requires
 numbers_ok-numbers-requires c =
     let a = c.args in
-    (ordered-r a.t.now a.readings.now (sym c.readings_in_order.ensures ∙ c.if-not-readings_in_order.false)).places
+    ((ordered-r a.t.now a.readings.now (sym c.readings_in_order.ensures ∙ c.if-not-readings_in_order.false)).places, c.is_sound-settled.ensures)
 
 pub returns-then-not-numbers-ok : goal.returns-then-not-numbers-ok
 unfolding cause_of cause_frame

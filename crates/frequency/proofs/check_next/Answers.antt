@@ -25,7 +25,7 @@ returns-then-not-in_order c =
 pub numbers_ok-requires : goal.numbers_ok-requires
 numbers_ok-requires c =
     let a = c.args in
-    (ordered_of a.t.now (lists a.readings.now a.tunings.now) (sym c.in_order.ensures ∙ c.if-not-in_order.false)).r.places
+    ((ordered_of a.t.now (lists a.readings.now a.tunings.now) (sym c.in_order.ensures ∙ c.if-not-in_order.false)).r.places, c.is_sound-settled.ensures)
 
 pub returns-then-not-numbers_ok : goal.returns-then-not-numbers_ok
 unfolding cause_of cause_next

@@ -24,38 +24,38 @@ unfolding cause_of cause_samples
 returns-then-not-all_dbm c =
     let a = c.args in sym (passed 1 _ (ap not (sym c.rate_ok.ensures ∙ c.if-not-rate_ok.false)) ∙ passed 3 _ (le-ltb _ _ c.if-dbm-t.false) ∙ chosen 4 _ (ap not (sym c.all_dbm.ensures ∙ c.if-not-all_dbm.true)))
 
-pub in_order_looked-requires : goal.in_order_looked-requires
-in_order_looked-requires c =
+pub in_order-requires : goal.in_order-requires
+in_order-requires c =
     c.requires
 
-pub returns-then-not-in_order_looked : goal.returns-then-not-in_order_looked
+pub returns-then-not-in_order : goal.returns-then-not-in_order
 unfolding cause_of cause_samples
-returns-then-not-in_order_looked c =
-    let a = c.args in sym (passed 1 _ (ap not (sym c.rate_ok.ensures ∙ c.if-not-rate_ok.false)) ∙ passed 3 _ (le-ltb _ _ c.if-dbm-t.false) ∙ passed 4 _ (ap not (sym c.all_dbm.ensures ∙ c.if-not-all_dbm.false)) ∙ chosen 5 _ (ap not (sym c.in_order_looked.ensures ∙ c.if-not-in_order_looked.true)))
+returns-then-not-in_order c =
+    let a = c.args in sym (passed 1 _ (ap not (sym c.rate_ok.ensures ∙ c.if-not-rate_ok.false)) ∙ passed 3 _ (le-ltb _ _ c.if-dbm-t.false) ∙ passed 4 _ (ap not (sym c.all_dbm.ensures ∙ c.if-not-all_dbm.false)) ∙ chosen 5 _ (ap not (sym c.in_order.ensures ∙ c.if-not-in_order.true)))
 
 pub overflow_add-t : goal.overflow_add-t
 overflow_add-t c =
     let a = c.args in
-    let o = ordered_of a.t.now (lists a.readings.now a.tunings.now) (sym c.in_order_looked.ensures ∙ c.if-not-in_order_looked.false) in
+    let o = ordered_of a.t.now (lists a.readings.now a.tunings.now) (sym c.in_order.ensures ∙ c.if-not-in_order.false) in
     let h = o.t.signals.stream in
     record { fits = omega arith }
 
 pub returns-then-t-dbm-gt-LONGEST_STREAM : goal.returns-then-t-dbm-gt-LONGEST_STREAM
 unfolding cause_of cause_samples
 returns-then-t-dbm-gt-LONGEST_STREAM c =
-    let a = c.args in sym (passed 1 _ (ap not (sym c.rate_ok.ensures ∙ c.if-not-rate_ok.false)) ∙ passed 3 _ (le-ltb _ _ c.if-dbm-t.false) ∙ passed 4 _ (ap not (sym c.all_dbm.ensures ∙ c.if-not-all_dbm.false)) ∙ passed 5 _ (ap not (sym c.in_order_looked.ensures ∙ c.if-not-in_order_looked.false)) ∙ chosen 7 _ (lt-ltb _ _ c.if-t-dbm-gt-LONGEST_STREAM.true))
+    let a = c.args in sym (passed 1 _ (ap not (sym c.rate_ok.ensures ∙ c.if-not-rate_ok.false)) ∙ passed 3 _ (le-ltb _ _ c.if-dbm-t.false) ∙ passed 4 _ (ap not (sym c.all_dbm.ensures ∙ c.if-not-all_dbm.false)) ∙ passed 5 _ (ap not (sym c.in_order.ensures ∙ c.if-not-in_order.false)) ∙ chosen 7 _ (lt-ltb _ _ c.if-t-dbm-gt-LONGEST_STREAM.true))
 
 pub numbers_ok-requires : goal.numbers_ok-requires
 numbers_ok-requires c =
     let a = c.args in
-    (ordered_of a.t.now (lists a.readings.now a.tunings.now) (sym c.in_order_looked.ensures ∙ c.if-not-in_order_looked.false)).r.places
+    ((ordered_of a.t.now (lists a.readings.now a.tunings.now) (sym c.in_order.ensures ∙ c.if-not-in_order.false)).r.places, c.requires)
 
 pub returns-then-not-numbers_ok : goal.returns-then-not-numbers_ok
 unfolding cause_of cause_samples
 returns-then-not-numbers_ok c =
-    let a = c.args in sym (passed 1 _ (ap not (sym c.rate_ok.ensures ∙ c.if-not-rate_ok.false)) ∙ passed 3 _ (le-ltb _ _ c.if-dbm-t.false) ∙ passed 4 _ (ap not (sym c.all_dbm.ensures ∙ c.if-not-all_dbm.false)) ∙ passed 5 _ (ap not (sym c.in_order_looked.ensures ∙ c.if-not-in_order_looked.false)) ∙ passed 7 _ (le-ltb _ _ c.if-t-dbm-gt-LONGEST_STREAM.false) ∙ chosen 9 _ (ap not (sym c.numbers_ok.ensures ∙ c.if-not-numbers_ok.true)))
+    let a = c.args in sym (passed 1 _ (ap not (sym c.rate_ok.ensures ∙ c.if-not-rate_ok.false)) ∙ passed 3 _ (le-ltb _ _ c.if-dbm-t.false) ∙ passed 4 _ (ap not (sym c.all_dbm.ensures ∙ c.if-not-all_dbm.false)) ∙ passed 5 _ (ap not (sym c.in_order.ensures ∙ c.if-not-in_order.false)) ∙ passed 7 _ (le-ltb _ _ c.if-t-dbm-gt-LONGEST_STREAM.false) ∙ chosen 9 _ (ap not (sym c.numbers_ok.ensures ∙ c.if-not-numbers_ok.true)))
 
 pub returns : goal.returns
 unfolding cause_of cause_samples
 returns c =
-    let a = c.args in sym (passed 1 _ (ap not (sym c.rate_ok.ensures ∙ c.if-not-rate_ok.false)) ∙ passed 3 _ (le-ltb _ _ c.if-dbm-t.false) ∙ passed 4 _ (ap not (sym c.all_dbm.ensures ∙ c.if-not-all_dbm.false)) ∙ passed 5 _ (ap not (sym c.in_order_looked.ensures ∙ c.if-not-in_order_looked.false)) ∙ passed 7 _ (le-ltb _ _ c.if-t-dbm-gt-LONGEST_STREAM.false) ∙ passed 9 _ (ap not (sym c.numbers_ok.ensures ∙ c.if-not-numbers_ok.false)))
+    let a = c.args in sym (passed 1 _ (ap not (sym c.rate_ok.ensures ∙ c.if-not-rate_ok.false)) ∙ passed 3 _ (le-ltb _ _ c.if-dbm-t.false) ∙ passed 4 _ (ap not (sym c.all_dbm.ensures ∙ c.if-not-all_dbm.false)) ∙ passed 5 _ (ap not (sym c.in_order.ensures ∙ c.if-not-in_order.false)) ∙ passed 7 _ (le-ltb _ _ c.if-t-dbm-gt-LONGEST_STREAM.false) ∙ passed 9 _ (ap not (sym c.numbers_ok.ensures ∙ c.if-not-numbers_ok.false)))

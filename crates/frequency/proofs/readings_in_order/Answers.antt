@@ -11,6 +11,12 @@ pub returns-then-not-fits_readings : goal.returns-then-not-fits_readings
 unfolding readings_in_order
 returns-then-not-fits_readings c = sym (holds _ (sym c.signal_ok.ensures ∙ c.if-not-signal_ok.false) ∙ fails _ (sym c.fits_readings.ensures ∙ c.if-not-fits_readings.true))
 
+pub returns-then-settled : goal.returns-then-settled
+unfolding readings_in_order
+returns-then-settled c =
+    let s = c.requires c.if-settled.true in
+    sym (holds _ (sym c.signal_ok.ensures ∙ c.if-not-signal_ok.false) ∙ holds _ (sym c.fits_readings.ensures ∙ c.if-not-fits_readings.false) ∙ s.indices)
+
 pub returns : goal.returns
 unfolding readings_in_order
 returns c = c.within.ensures ∙ sym (holds _ (sym c.signal_ok.ensures ∙ c.if-not-signal_ok.false) ∙ holds _ (sym c.fits_readings.ensures ∙ c.if-not-fits_readings.false))

@@ -21,12 +21,12 @@ loop-x-preserved c =
     let a = c.args in
     let l = c.loop-x in
     let y = c.is_late.ensures in
-    gathers_turn (λ (x : Reading). late a.stream.rate a.from x.at) a.readings.now a.out.now l.x-index l.w c.put-w.result _ l.out c.put-w.new.l c.loop-x-test.true c.requires.2 l.invariant
+    gathers_turn (λ (x : Reading). late a.pace.rate a.from x.at) a.readings.now a.out.now l.x-index l.w c.put-w.result _ l.out c.put-w.new.l c.loop-x-test.true c.requires.2 l.invariant
     (c.put-w.ensures.next ∙ ap (λ (b : Bool). cond b (l.w + 1) l.w) y) (c.put-w.ensures.list ∙ rw y refl)
 
 pub returns : goal.returns
 returns c =
     let a = c.args in
     let h = c.requires.2 in
-    subst (λ (z : List Bool). Front (hzs (retained z a.readings.now)) a.out.now c.loop-x.w c.loop-x.out) (map-map (λ (x : Reading). x.at) (late a.stream.rate a.from) a.readings.now)
-    (gathers_end (λ (x : Reading). late a.stream.rate a.from x.at) a.readings.now a.out.now c.loop-x.x-index c.loop-x.w c.loop-x.out (omega arith) (omega arith) c.loop-x.invariant)
+    subst (λ (z : List Bool). Front (hzs (retained z a.readings.now)) a.out.now c.loop-x.w c.loop-x.out) (map-map (λ (x : Reading). x.at) (late a.pace.rate a.from) a.readings.now)
+    (gathers_end (λ (x : Reading). late a.pace.rate a.from x.at) a.readings.now a.out.now c.loop-x.x-index c.loop-x.w c.loop-x.out (omega arith) (omega arith) c.loop-x.invariant)

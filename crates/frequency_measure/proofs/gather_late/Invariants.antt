@@ -4,4 +4,4 @@ use Rattle.frequency_measure.proofs.Frames.{Gathers}
 use Rattle.frequency_measure.proofs.gather_late.Given as goal
 
 abbrev pub invariant-loop-x : goal.invariant-loop-x
-invariant-loop-x l = Gathers (λ (x : Reading). late l.stream.rate l.from x.at) l.readings l.initial.out l.x-index l.w l.out
+invariant-loop-x l = Gathers (λ (x : Reading). late l.pace.rate l.from x.at) l.readings l.initial.out l.x-index l.w l.out

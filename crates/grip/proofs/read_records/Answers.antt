@@ -1,18 +1,17 @@
 use Rattle.std.proofs.Common.{◌≡◌, ◌<◌, length, refl, sym, ap, ◌∙◌, arith, length-append}
 use Rattle.std.specs.Slice.Iter.{chunks_exact_rest}
 use Rattle.limits.specs.Limits.{record_size}
-use Rattle.event_list.specs.Events.{events_of, list_ok, record_ok}
-use Rattle.event_list.proofs.EventLaws.{ok_next, ok_last}
+use Rattle.event_list.specs.Events.{events_of}
 use Rattle.grip.specs.declared.Best.{Best}
-use Rattle.grip.specs.Reading.{looks, looked}
-use Rattle.grip.proofs.NearLaws.{looks-next, looks-last, looked-count}
+use Rattle.grip.specs.Reading.{looks, looked, read_part}
+use Rattle.grip.proofs.NearLaws.{looks-next, looks-last, looked-count, part_ok}
 use Rattle.grip.proofs.read_records.Goals as goal
 
 pub loop-r-init : goal.loop-r-init
 loop-r-init c =
     let e = c.into_iter-r-iterator.ensures.into_iter_gives in
     let x = c.chunks_exact-r-items.ensures in
-    rw (e, x.rest, x.size) (record { size = refl; count = refl; tested = refl; looked = refl })
+    rw (e, x.rest, x.size) (record { size = refl; count = refl; looked = refl })
 
 pub looked_at-best-requires : goal.looked_at-best-requires
 looked_at-best-requires c =
@@ -29,27 +28,18 @@ loop-r-preserved c =
     let s = c.in-Some.ensures.steps in
     let split = s.1.0 in
     let whole = s.1.1 ∙ l.invariant.size in
-    let e = c.looked_at-best.ensures ∙ ap (looked a.grip a.within l.best) c.new-event.ensures in
+    let e = c.looked_at-best.ensures ∙ ap (looked a.grip a.within l.best) c.new.ensures in
     let n = ap (λ (b : Best). b.count) e ∙ looked-count a.grip a.within l.best c.in-Some.r.now in
     record {
       size = s.0 ∙ l.invariant.size;
       count = omega (arith, n, whole, ap length split, length-append c.in-Some.r.now (chunks_exact_rest c.next.new.self), l.invariant.count);
-      tested = ok_next _ _ _ split whole l.ok _ _ (c.record_ok-ok.ensures ∙ ap record_ok c.new-event.ensures) l.invariant.tested;
       looked = ap (λ (b : Best). looks a.grip a.within b (events_of (chunks_exact_rest c.next.new.self))) e ∙ sym (looks-next a.grip a.within _ _ _ split whole l.best) ∙ l.invariant.looked;
     }
-
-pub returns-then-not-ok : goal.returns-then-not-ok
-returns-then-not-ok c =
-    let l = c.loop-r in
-    let h : length (chunks_exact_rest l.r-iterator) < record_size = omega (arith, c.in-None.ensures.steps.1.0, l.invariant.size) in
-    let e : list_ok c.args.records.now ≡ l.ok = sym (ok_last _ h l.ok _ l.invariant.tested) in
-    (rw (e, c.if-not-ok.true) refl, tt)
 
 pub returns : goal.returns
 returns c =
     let a = c.args in
     let l = c.loop-r in
     let h : length (chunks_exact_rest l.r-iterator) < record_size = omega (arith, c.in-None.ensures.steps.1.0, l.invariant.size) in
-    let e : list_ok a.records.now ≡ l.ok = sym (ok_last _ h l.ok _ l.invariant.tested) in
-    let b : l.best ≡ looks a.grip a.within a.b (events_of a.records.now) = sym (looks-last a.grip a.within _ h l.best) ∙ l.invariant.looked in
-    (rw (e, c.if-not-ok.false, b) refl, omega (arith, h, l.invariant.count))
+    let e : l.best ≡ read_part a.grip a.within a.b a.records.now = sym (looks-last a.grip a.within _ h l.best) ∙ l.invariant.looked in
+    (e, omega (arith, h, l.invariant.count), ap (λ (b : Best). b.ok) e ∙ part_ok a.grip a.within a.b a.records.now)

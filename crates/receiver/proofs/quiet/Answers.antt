@@ -4,17 +4,17 @@ use Prim.Native.Nat.{◌+◌}
 use native.Mathlib.Omega.{arith}
 use Rattle.ledger.proofs.Basics.{clash}
 use Rattle.receiver.specs.State.{given_cause, samples_ok}
-use Rattle.receiver.specs.Calls.{memory, lengths_of}
-use Rattle.receiver.proofs.CauseLaws.{given-fits, no_error}
+use Rattle.receiver.specs.Running.{viewed}
+use Rattle.receiver.proofs.CauseLaws.{given-fits, given_same, no_error}
 use Rattle.receiver.proofs.QuickLaws.{given-rated, samples-calm, stream_none}
 use Rattle.receiver.proofs.StateLaws.{samples-fit}
 use Rattle.receiver.proofs.quiet.Goals.{Else-is_err, Else-not-samples_in_order}
 use Rattle.receiver.proofs.quiet.Goals as goal
 
-given : (c : Else-is_err) → given_cause c.args.s.now.rate (lengths_of (memory c.args.lent.now)) c.args.n ≡ 0
-given c = sym c.check_given.ensures ∙ no_error c.check_given.result (sym c.is_err.ensures.value ∙ c.if-is_err.false)
+given : (c : Else-is_err) → given_cause c.args.s.now.rate (viewed c.args.lent) c.args.n ≡ 0
+given c = sym (given_same _ _ c.lengths.ensures c.check_given.ensures) ∙ no_error c.check_given.result (sym c.is_err.ensures.value ∙ c.if-is_err.false)
 
-ordered : (c : Else-not-samples_in_order) → let s = c.args.s.now in samples_ok s.rate s.held s.base s.unscanned s.starts c.args.lent.now.samples.now ≡ true
+ordered : (c : Else-not-samples_in_order) → let s = c.args.s.now in samples_ok s.rate s.held s.base s.unscanned s.starts c.args.lent.samples.now ≡ true
 ordered c = sym c.samples_in_order.ensures ∙ c.if-not-samples_in_order.false
 
 pub returns-then-is_err : goal.returns-then-is_err
@@ -22,7 +22,7 @@ returns-then-is_err c e = clash false e refl
 
 pub samples_in_order-requires : goal.samples_in_order-requires
 samples_in_order-requires c =
-    let f = given-fits c.args.s.now.rate (lengths_of (memory c.args.lent.now)) c.args.n (given (goal.at.samples_in_order-requires c).Else-is_err) in
+    let f = given-fits c.args.s.now.rate (viewed c.args.lent) c.args.n (given (goal.at.samples_in_order-requires c).Else-is_err) in
     f.0
 
 pub returns-then-not-samples_in_order : goal.returns-then-not-samples_in_order
@@ -33,8 +33,8 @@ check_stream-requires c =
     let s = c.args.s.now in
     let d = goal.at.check_stream-requires c in
     let z = given d.Else-is_err in
-    let f = given-fits s.rate (lengths_of (memory c.args.lent.now)) c.args.n z in
-    omega (arith, f.1, given-rated s.rate (lengths_of (memory c.args.lent.now)) c.args.n z, (samples-fit s.rate s.held s.base s.unscanned s.starts c.args.lent.now.samples.now (ordered d.Else-not-samples_in_order)).1)
+    let f = given-fits s.rate (viewed c.args.lent) c.args.n z in
+    omega (arith, f.1, given-rated s.rate (viewed c.args.lent) c.args.n z, (samples-fit s.rate s.held s.base s.unscanned s.starts c.args.lent.samples.now (ordered d.Else-not-samples_in_order)).1)
 
 pub returns-then-is_err-2 : goal.returns-then-is_err-2
 returns-then-is_err-2 c e = clash false e refl
@@ -45,8 +45,8 @@ fits-requires c =
     let d = goal.at.fits-requires c in
     let z = given d.Else-is_err in
     let y = ordered d.Else-not-samples_in_order in
-    let f = given-fits s.rate (lengths_of (memory c.args.lent.now)) c.args.n z in
-    (given-rated s.rate (lengths_of (memory c.args.lent.now)) c.args.n z, (samples-fit s.rate s.held s.base s.unscanned s.starts c.args.lent.now.samples.now y).0, f.1, samples-calm s.rate s.held s.base s.unscanned s.starts c.args.lent.now.samples.now y)
+    let f = given-fits s.rate (viewed c.args.lent) c.args.n z in
+    (given-rated s.rate (viewed c.args.lent) c.args.n z, (samples-fit s.rate s.held s.base s.unscanned s.starts c.args.lent.samples.now y).0, f.1, samples-calm s.rate s.held s.base s.unscanned s.starts c.args.lent.samples.now y)
 
 pub returns : goal.returns
 returns c e =

@@ -8,9 +8,12 @@ use borrow.Author.Rules.{rules}
 use Rattle.ledger.specs.Room.{open_places}
 use Rattle.ledger.specs.declared.Pending.{Pending}
 use Rattle.receiver_message.proofs.SpanLaws.{length_mapped}
-use Rattle.receiver_waiting.proofs.WaitingLaws.{checked_is, too_many}
+use Rattle.receiver_waiting.proofs.WaitingLaws.{checked_is, none_wait, too_many}
 use Rattle.receiver_waiting.specs.Waiting.{waiting_of}
 use Rattle.receiver_waiting.proofs.check.Goals as goal
+
+pub returns-then-n-eq0 : goal.returns-then-n-eq0
+returns-then-n-eq0 c = none_wait c.args.w.now c.args.now c.if-n-eq0.true
 
 pub returns-then-n-gt-MOST_WAITING : goal.returns-then-n-gt-MOST_WAITING
 returns-then-n-gt-MOST_WAITING c = too_many c.args.w.now c.args.now (omega (arith, c.if-n-gt-MOST_WAITING.true))

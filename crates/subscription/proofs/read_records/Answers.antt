@@ -1,7 +1,8 @@
-use Rattle.std.proofs.Common.{◌≡◌, ◌+◌, ◌<◌, ℕ, [], ◌∷◌, length, refl, sym, ap, ◌∙◌, subst, arith, length-append}
+use Rattle.std.proofs.Common.{◌≡◌, ◌+◌, ◌<◌, ℕ, [], ◌∷◌, length, refl, ap, ◌∙◌, subst, arith, length-append}
 use Rattle.std.specs.Slice.Iter.{chunks_exact_rest}
 use Rattle.limits.specs.Limits.{record_size}
-use Rattle.event_list.specs.Events.{wholes, list_ok, record_ok}
+use Rattle.limits.proofs.Samples.{and_assoc}
+use Rattle.event_list.specs.Events.{wholes, record_ok}
 use Rattle.event_list.proofs.EventLaws.{ok_next, ok_last}
 use Rattle.subscription.specs.Counting.{Few, inside, stepped}
 use Rattle.subscription.proofs.CountLaws.{few_none, few-turn, within_next, tallied_next, within_last, tallied_last}
@@ -14,7 +15,7 @@ loop-r-init c =
     rw (e, x.rest, x.size) (record {
       size = refl;
       count = omega arith;
-      tested = refl;
+      tested = and_assoc c.args.t.ok _ _;
       inside = refl;
       tally = refl;
       few = few_none c.args.counts.now c.args.t.«records» c.requires.2;
@@ -47,26 +48,15 @@ loop-r-preserved c =
       few = rw many (few-turn a.start l.counts c.in-Some.r.now _ a.t.«records» (length l.yielded) (k.ensures.1 ∙ ap (stepped a.start l.counts) c.new-event.ensures) l.invariant.few);
     }
 
-pub returns-then-not-ok : goal.returns-then-not-ok
-returns-then-not-ok c =
-    let a = c.args in
-    let l = c.loop-r in
-    let h : length (chunks_exact_rest l.r-iterator) < record_size = omega (arith, c.in-None.ensures.steps.1.0, l.invariant.size) in
-    let e : list_ok a.«records».now ≡ l.ok = sym (ok_last _ h l.ok _ l.invariant.tested) in
-    let n : length l.yielded ≡ wholes a.«records».now = omega (arith, h, l.invariant.count) in (
-      rw (e, c.if-not-ok.true) refl,
-      tallied_last a.start _ h l.counts _ l.invariant.tally,
-      subst (λ (n : ℕ). Few l.counts (a.t.«records» + n)) n l.invariant.few,
-    )
-
 pub returns : goal.returns
 returns c =
     let a = c.args in
     let l = c.loop-r in
     let h : length (chunks_exact_rest l.r-iterator) < record_size = omega (arith, c.in-None.ensures.steps.1.0, l.invariant.size) in
-    let e : list_ok a.«records».now ≡ l.ok = sym (ok_last _ h l.ok _ l.invariant.tested) in
     let n : length l.yielded ≡ wholes a.«records».now = omega (arith, h, l.invariant.count) in (
-      rw (e, c.if-not-ok.false, within_last a.start _ h l.within _ l.invariant.inside) refl,
+      refl,
+      ok_last _ h l.ok _ l.invariant.tested,
+      within_last a.start _ h l.within _ l.invariant.inside,
       tallied_last a.start _ h l.counts _ l.invariant.tally,
       subst (λ (n : ℕ). Few l.counts (a.t.«records» + n)) n l.invariant.few,
     )

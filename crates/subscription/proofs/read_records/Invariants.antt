@@ -11,7 +11,7 @@ invariant-loop-r l =
     let left = chunks_exact_rest l.r-iterator in record {
       size : chunks_exact_size l.r-iterator ≡ record_size;
       count : length l.yielded + wholes left ≡ wholes l.«records»;
-      tested : l.ok && all_ok (events_of left) ≡ list_ok l.«records»;
+      tested : l.ok && all_ok (events_of left) ≡ l.t.ok && list_ok l.«records»;
       inside : l.within && all_in_month l.start (messages_of (events_of left)) ≡ l.t.within && all_in_month l.start (messages_of (events_of l.«records»));
       tally : tallied l.start l.counts (events_of left) ≡ tallied l.start l.initial.counts (events_of l.«records»);
       few : Few l.counts (l.t.«records» + length l.yielded);

@@ -2,7 +2,8 @@ use Rattle.std.proofs.Common.{ℕ, refl, sym}
 use Rattle.std.proofs.lemmas.Option.{IfSome_then}
 use Rattle.limits.specs.Answer.{cause_of}
 use Rattle.limits.proofs.AnswerLaws.{cause_refused}
-use Rattle.frequency_retain.specs.Retain.{Looked}
+use Rattle.frequency_retain.specs.Retain.{Leads}
+use Rattle.frequency.specs.Order.{Sound}
 use Rattle.frequency.proofs.FrequencyTracker.samples.Goals as goal
 
 pub returns-in_err-check_samples : goal.returns-in_err-check_samples
@@ -13,7 +14,7 @@ returns-in_err-check_samples c =
 
 pub hear_line-requires : goal.hear_line-requires
 unfolding cause_of
-hear_line-requires c = (sym c.in_ok-check_samples.ensures, IfSome_then _ c.first_look-look.ensures (λ (lead : ℕ) (l : Looked _ _ lead _). l.front))
+hear_line-requires c = (sym c.in_ok-check_samples.ensures, IfSome_then _ c.sound_look-look.ensures (λ (lead : ℕ) (l : Sound _ _ × Leads _ lead _). l.1))
 
 pub returns : goal.returns
 unfolding cause_of

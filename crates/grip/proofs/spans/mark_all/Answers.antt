@@ -2,13 +2,11 @@ use Rattle.std.proofs.Common.{◌≡◌, ◌<◌, ℕ, length, refl, sym, ap, �
 use Rattle.std.specs.Iterator.Adapters.{enumerate_source, enumerate_count}
 use Rattle.std.specs.Slice.Iter.{chunks_exact_rest}
 use Rattle.limits.specs.Limits.{record_size}
-use Rattle.limits.specs.Answer.{cause_of}
-use Rattle.event_list.specs.Events.{events_of, wholes, record_ok, list_ok}
+use Rattle.event_list.specs.Events.{events_of, wholes, record_ok}
 use Rattle.event_list.proofs.EventLaws.{length-records, event_at, ok_next, none_left, ok_last}
-use Rattle.grip.specs.OnAir.{is_on_air, air_numbers}
+use Rattle.grip.specs.OnAir.{is_on_air}
 use Rattle.grip.specs.Marks.{marked_of}
 use Rattle.grip.proofs.MarkLaws.{marked_start, marked_turn, marked_end}
-use Rattle.grip.proofs.spans.mark_all.Goals.{In-None}
 use Rattle.grip.proofs.spans.mark_all.Goals as goal
 
 pub loop-i-init : goal.loop-i-init
@@ -50,9 +48,8 @@ loop-i-preserved c =
           (c.is_on_air.ensures ∙ ap (is_on_air a.x) (c.new-event.ensures ∙ at.1)) (rw (← n.1) c.mark.ensures) l.invariant.marked;
     })
 
--- the marks at the end, and what the test says of the list
-done : (c : In-None) → (c.loop-i.ok ≡ list_ok c.args.«records».now) × (marked_of (wholes c.args.«records».now) c.loop-i.marks ≡ air_numbers c.args.x c.args.«records».now)
-done c =
+pub returns : goal.returns
+returns c =
     let a = c.args in
     let x = a.«records».now in
     let es = events_of x in
@@ -61,15 +58,3 @@ done c =
     let e : enumerate_count l.i-iterator ≡ length es = none_left _ h es (enumerate_count l.i-iterator) l.invariant.many l.invariant.place in
     let m : wholes x ≡ enumerate_count l.i-iterator = omega (arith, e, length-records (wholes x) x) in
     (ok_last _ h l.ok _ l.invariant.tested, ap (λ (k : ℕ). marked_of k l.marks) m ∙ marked_end a.x es _ l.marks e l.invariant.marked)
-
-pub returns-then-not-ok : goal.returns-then-not-ok
-unfolding cause_of
-returns-then-not-ok c =
-    let d = done (goal.at.returns-then-not-ok c).In-None in
-    (rw (sym d.0, c.if-not-ok.true) refl, d.1)
-
-pub returns : goal.returns
-unfolding cause_of
-returns c =
-    let d = done (goal.at.returns c).In-None in
-    (rw (sym d.0, c.if-not-ok.false) refl, d.1)

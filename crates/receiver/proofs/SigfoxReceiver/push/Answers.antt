@@ -1,10 +1,11 @@
-use mathlib.Core.Path.{◌≡◌}
+use mathlib.Core.Path.{◌≡◌, ◌∙◌}
 use Rattle.limits.specs.Answer.{cause_of}
 use Rattle.ledger.specs.Ledger.{push}
 use Rattle.shifts.specs.Shifts.{schedule}
 use Rattle.receiver.specs.Calls.{memory, refusal_of}
 use Rattle.receiver.specs.Running.{Passes}
 use Rattle.receiver.proofs.AnswerLaws.{passes, no_cause, refused_first, refused_later, refused_none, answered_exit, answered_yes}
+use Rattle.receiver.proofs.CauseLaws.{view_cause}
 use Rattle.receiver.proofs.SigfoxReceiver.push.Goals.{Start, After-lengths_known, In_ok-check}
 use Rattle.receiver.proofs.SigfoxReceiver.push.Goals as goal
 
@@ -14,21 +15,21 @@ passing c e = passes c.args.self.now (push c.args.dbm.now) (memory c.args.lent.n
 -- no cause applies
 none : (c : In_ok-check) → refusal_of c.args.self.now (push c.args.dbm.now) (schedule c.args.given.now) (memory c.args.lent.now) ≡ 0
 unfolding cause_of
-none c = refused_none c.args.self.now (push c.args.dbm.now) (schedule c.args.given.now) (memory c.args.lent.now) c.in_ok-check_push.ensures c.in_ok-check.ensures
+none c = refused_none c.args.self.now (push c.args.dbm.now) (schedule c.args.given.now) (memory c.args.lent.now) (c.in_ok-check_push.ensures ∙ view_cause c.args.self.now (push c.args.dbm.now) c.view.result (memory c.args.lent.now) c.view.ensures) c.in_ok-check.ensures
 
 pub returns-in_err-check_push-clause-answered : goal.returns-in_err-check_push-clause-answered
 unfolding cause_of
 returns-in_err-check_push-clause-answered c =
     let e = c.in_err-check_push.field-0.0 in
     answered_exit c.args.self.now (push c.args.dbm.now) (schedule c.args.given.now) (memory c.args.lent.now) c.from_residual.result e c.from_residual.ensures.1
-    (refused_first c.args.self.now (push c.args.dbm.now) (schedule c.args.given.now) (memory c.args.lent.now) e c.in_err-check_push.ensures)
+    (refused_first c.args.self.now (push c.args.dbm.now) (schedule c.args.given.now) (memory c.args.lent.now) e (c.in_err-check_push.ensures ∙ view_cause c.args.self.now (push c.args.dbm.now) c.view.result (memory c.args.lent.now) c.view.ensures))
 
 pub returns-in_err-check-clause-answered : goal.returns-in_err-check-clause-answered
 unfolding cause_of
 returns-in_err-check-clause-answered c =
     let e = c.in_err-check.field-0.0 in
     answered_exit c.args.self.now (push c.args.dbm.now) (schedule c.args.given.now) (memory c.args.lent.now) c.from_residual-in_err-check.result e c.from_residual-in_err-check.ensures.1
-    (refused_later c.args.self.now (push c.args.dbm.now) (schedule c.args.given.now) (memory c.args.lent.now) e c.in_ok-check_push.ensures c.in_err-check.ensures)
+    (refused_later c.args.self.now (push c.args.dbm.now) (schedule c.args.given.now) (memory c.args.lent.now) e (c.in_ok-check_push.ensures ∙ view_cause c.args.self.now (push c.args.dbm.now) c.view.result (memory c.args.lent.now) c.view.ensures) c.in_err-check.ensures)
 
 pub hear-requires : goal.hear-requires
 hear-requires c =

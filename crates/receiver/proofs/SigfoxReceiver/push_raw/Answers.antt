@@ -1,5 +1,5 @@
 use mathlib.Core.List.{map}
-use mathlib.Core.Path.{◌≡◌}
+use mathlib.Core.Path.{◌≡◌, ◌∙◌}
 use Prim.Native.Nat.{◌≤◌}
 use native.Mathlib.Omega.{arith}
 use lib.ListN.{length, take}
@@ -9,6 +9,7 @@ use Rattle.shifts.specs.Shifts.{schedule}
 use Rattle.receiver.specs.Calls.{memory, refusal_of}
 use Rattle.receiver.specs.Running.{Passes}
 use Rattle.receiver.proofs.AnswerLaws.{passes, no_cause, refused_first, refused_later, refused_none, answered_exit, answered_yes, scratch-long, raw-taken, raw-fits}
+use Rattle.receiver.proofs.CauseLaws.{view_cause}
 use Rattle.receiver.proofs.SigfoxReceiver.push_raw.Goals.{Start, After-lengths_known, In_ok-check, After-dbm_of_all}
 use Rattle.receiver.proofs.SigfoxReceiver.push_raw.Goals as goal
 
@@ -18,21 +19,21 @@ passing c e = passes c.args.self.now (push_raw c.args.raw.now) (memory c.args.le
 -- no cause applies
 none : (c : In_ok-check) → refusal_of c.args.self.now (push_raw c.args.raw.now) (schedule c.args.given.now) (memory c.args.lent.now) ≡ 0
 unfolding cause_of
-none c = refused_none c.args.self.now (push_raw c.args.raw.now) (schedule c.args.given.now) (memory c.args.lent.now) c.in_ok-check_push_raw.ensures c.in_ok-check.ensures
+none c = refused_none c.args.self.now (push_raw c.args.raw.now) (schedule c.args.given.now) (memory c.args.lent.now) (c.in_ok-check_push_raw.ensures ∙ view_cause c.args.self.now (push_raw c.args.raw.now) c.view.result (memory c.args.lent.now) c.view.ensures) c.in_ok-check.ensures
 
 pub returns-in_err-check_push_raw-clause-answered : goal.returns-in_err-check_push_raw-clause-answered
 unfolding cause_of
 returns-in_err-check_push_raw-clause-answered c =
     let e = c.in_err-check_push_raw.field-0.0 in
     answered_exit c.args.self.now (push_raw c.args.raw.now) (schedule c.args.given.now) (memory c.args.lent.now) c.from_residual.result e c.from_residual.ensures.1
-    (refused_first c.args.self.now (push_raw c.args.raw.now) (schedule c.args.given.now) (memory c.args.lent.now) e c.in_err-check_push_raw.ensures)
+    (refused_first c.args.self.now (push_raw c.args.raw.now) (schedule c.args.given.now) (memory c.args.lent.now) e (c.in_err-check_push_raw.ensures ∙ view_cause c.args.self.now (push_raw c.args.raw.now) c.view.result (memory c.args.lent.now) c.view.ensures))
 
 pub returns-in_err-check-clause-answered : goal.returns-in_err-check-clause-answered
 unfolding cause_of
 returns-in_err-check-clause-answered c =
     let e = c.in_err-check.field-0.0 in
     answered_exit c.args.self.now (push_raw c.args.raw.now) (schedule c.args.given.now) (memory c.args.lent.now) c.from_residual-in_err-check.result e c.from_residual-in_err-check.ensures.1
-    (refused_later c.args.self.now (push_raw c.args.raw.now) (schedule c.args.given.now) (memory c.args.lent.now) e c.in_ok-check_push_raw.ensures c.in_err-check.ensures)
+    (refused_later c.args.self.now (push_raw c.args.raw.now) (schedule c.args.given.now) (memory c.args.lent.now) e (c.in_ok-check_push_raw.ensures ∙ view_cause c.args.self.now (push_raw c.args.raw.now) c.view.result (memory c.args.lent.now) c.view.ensures) c.in_err-check.ensures)
 
 -- the bytes' samples have room
 narrow : (c : After-lengths_known) → refusal_of c.args.self.now (push_raw c.args.raw.now) (schedule c.args.given.now) (memory c.args.lent.now) ≡ 0 → length c.args.raw.now ≤ length c.args.lent.now.scratch32.now

@@ -1,4 +1,4 @@
-use Rattle.std.proofs.Common.{◌≡◌, ℕ, ◌<◌, Option, Some, sym, ap, ◌∙◌, arith}
+use Rattle.std.proofs.Common.{◌≡◌, ◌<◌, Some, sym, ap, ◌∙◌, arith}
 use Rattle.subscription.specs.Charges.{days}
 use Rattle.subscription.specs.Counting.{day_in}
 use Rattle.subscription.proofs.CountLaws.{skips, refuses, raises, under_days}

@@ -8,10 +8,9 @@ use lib.ListN.{length}
 use Rattle.coding.specs.Bits.{odd, to_bytes}
 use Rattle.coding.specs.Convolution.{fresh, deconvolved}
 use Rattle.frame.specs.Sizes.{most_bytes}
-use Rattle.frame.specs.Fields.{padded}
+use Rattle.frame.specs.Fields.{padded, crc_right}
 use Rattle.frame.specs.Repairs.{repaired}
-use Rattle.frame.specs.Splices.{spliced}
-use Rattle.frame.specs.declared.bodies.Body.{Body}
+use Rattle.frame.specs.Bodies.{bits_of}
 use Rattle.frame.proofs.SpliceLaws.{bits_are}
 use Rattle.frame.proofs.FieldLaws.{parse-short, parse-long}
 use Rattle.frame.proofs.bodies.Body.parse.Goals as goal
@@ -23,14 +22,21 @@ returns-then-len-self c = let b = c.args.self in
     parse-short b.kind c.args.how l
     (omega (arith, c.if-len-self.true, c.len.ensures, ap length (bits_are b v.result v.ensures.0 (repaired c.args.how l) v.ensures.1), b.whole))
 
+pub frame_from-requires : goal.frame_from-requires
+frame_from-requires c = let b = c.args.self in
+    let p = c.plain_bytes in
+    (b.class, p.ensures.1 ∙ ap (λ (n : ℕ). crc_right n p.result.bytes) (c.repaired-spliced.ensures.0.2 ∙ b.whole))
+
 pub returns : goal.returns
 returns c = let b = c.args.self in
     let v = c.repaired-spliced in
+    let e = v.ensures.0 in
     let l = map odd b.bits.now in
     let r = repaired c.args.how l in
-    let bytes : Body → List ℕ = λ x. padded most_bytes (to_bytes x.size (deconvolved x.kind.rank fresh (spliced v.result.splice (map odd x.bits.now)))) in
-    ap Some c.frame.ensures
+    let m = bits_are b v.result e r v.ensures.1 in
+    ap Some c.frame_from.ensures
     ∙ parse-long b.kind c.args.how l r c.plain_bytes.result.bytes refl
-    (omega (arith, c.if-len-self.false, c.len.ensures, ap length (bits_are b v.result v.ensures.0 r v.ensures.1), b.whole))
-    (c.plain_bytes.ensures.0 ∙ ap bytes v.ensures.0
-    ∙ ap₂ (λ (n : ℕ) (m : List Bool). padded most_bytes (to_bytes n (deconvolved b.kind.rank fresh m))) b.whole v.ensures.1)
+    (omega (arith, c.if-len-self.false, c.len.ensures, ap length m, b.whole))
+    (c.plain_bytes.ensures.0
+    ∙ ap (λ (k : ℕ). padded most_bytes (to_bytes v.result.size (deconvolved k fresh (bits_of v.result)))) e.1
+    ∙ ap₂ (λ (n : ℕ) (x : List Bool). padded most_bytes (to_bytes n (deconvolved b.kind.rank fresh x))) (e.2 ∙ b.whole) m)

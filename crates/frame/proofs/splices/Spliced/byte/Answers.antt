@@ -6,9 +6,9 @@ use Rattle.frame.specs.Plain.{NextByte}
 use Rattle.frame.proofs.SpliceLaws.{length-spliced, drop-spliced}
 use Rattle.frame.proofs.splices.Spliced.byte.Goals as goal
 
-pub byte-requires : goal.byte-requires
-byte-requires c = let v = c.args.self in omega (arith, c.requires.0, length-spliced v, c.if-s-from.true, v.inside)
+pub straight_byte-requires : goal.straight_byte-requires
+straight_byte-requires c = let v = c.args.self in omega (arith, c.requires.0, length-spliced v, c.if-s-from.true, v.inside)
 
 pub returns-then-s-from : goal.returns-then-s-from
 returns-then-s-from c = let a = c.args in
-    subst (λ (x : List Bool). NextByte a.self.body.kind.rank x a.last c.byte.result) (sym (drop-spliced a.self a.from c.if-s-from.true)) c.byte.ensures
+    subst (λ (x : List Bool). NextByte a.self.rank x a.last c.straight_byte.result) (sym (drop-spliced a.self a.from c.if-s-from.true)) c.straight_byte.ensures

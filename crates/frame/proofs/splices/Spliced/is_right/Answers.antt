@@ -8,10 +8,10 @@ use Rattle.frame.proofs.PassedLaws.{passed-spliced, passed_right}
 use Rattle.frame.proofs.splices.Spliced.is_right.Goals as goal
 
 pub returns-then-len-self : goal.returns-then-len-self
-returns-then-len-self c = let v = c.args.self in right_short v.body.kind.rank v.body.size (bits_of v) (omega (arith, c.len.ensures, c.if-len-self.true))
+returns-then-len-self c = let v = c.args.self in right_short v.rank v.size (bits_of v) (omega (arith, c.len.ensures, c.if-len-self.true))
 
 pub loop-init : goal.loop-init
-loop-init c = let a = c.args in (omega (arith, c.requires.2), passed-spliced a.self.body.kind.rank a.self a.front c.requires.1 c.requires.0)
+loop-init c = let a = c.args in (omega (arith, c.requires.2), passed-spliced a.self.rank a.self a.front c.requires.1 c.requires.0)
 
 pub returns : goal.returns
 returns c = let v = c.args.self in
@@ -19,5 +19,5 @@ returns c = let v = c.args.self in
     let high = c.byte-high in
     let low = c.byte-low in
     ap₂ (λ (x y : ℕ). eqb (65535 - f.crc) (x * 256 + y)) c.from.ensures c.from-2.ensures
-    ∙ passed_right v.body.kind.rank v.body.size (bits_of v) f high.result low.result v.body.some
+    ∙ passed_right v.rank v.size (bits_of v) f high.result low.result v.some
     (omega (arith, c.len.ensures, c.if-len-self.false)) (omega (arith, c.loop.invariant.0, c.loop-test.false)) c.loop.invariant.1 high.ensures low.ensures

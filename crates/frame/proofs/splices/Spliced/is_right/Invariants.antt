@@ -5,4 +5,4 @@ use Rattle.frame.specs.Bodies.{bits_of}
 use Rattle.frame.proofs.splices.Spliced.is_right.Given as goal
 
 abbrev pub invariant-loop : goal.invariant-loop
-invariant-loop l = (l.f.bytes ≡ l.counter) × Passed l.self.body.kind.rank (bits_of l.self) l.f
+invariant-loop l = (l.f.bytes ≡ l.counter) × Passed l.self.rank (bits_of l.self) l.f

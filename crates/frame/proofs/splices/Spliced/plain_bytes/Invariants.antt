@@ -8,5 +8,5 @@ use Rattle.frame.proofs.PlainLaws.{held}
 use Rattle.frame.proofs.splices.Spliced.plain_bytes.Given as goal
 
 abbrev pub invariant-loop-i : goal.invariant-loop-i
-invariant-loop-i l = Passed l.self.body.kind.rank (bits_of l.self) (record { bytes = l.i; crc = l.crc; last = l.last })
-    × (l.bytes ≡ held most_bytes l.i (deconvolved l.self.body.kind.rank fresh (bits_of l.self)))
+invariant-loop-i l = Passed l.self.rank (bits_of l.self) (record { bytes = l.i; crc = l.crc; last = l.last })
+    × (l.bytes ≡ held most_bytes l.i (deconvolved l.self.rank fresh (bits_of l.self)))

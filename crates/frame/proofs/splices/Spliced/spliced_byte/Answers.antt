@@ -10,7 +10,7 @@ use Rattle.frame.proofs.PlainLaws.{part_none, part_more, part-whole}
 use Rattle.frame.proofs.splices.Spliced.spliced_byte.Goals as goal
 
 pub loop-j-init : goal.loop-j-init
-loop-j-init c = let a = c.args in part_none a.self.body.kind.rank a.last (drop a.from (bits_of a.self))
+loop-j-init c = let a = c.args in part_none a.self.rank a.last (drop a.from (bits_of a.self))
 
 pub loop-j-preserved : goal.loop-j-preserved
 loop-j-preserved c = let a = c.args in
@@ -20,10 +20,10 @@ loop-j-preserved c = let a = c.args in
     let y = c.bit.result in
     let h : j < length r = omega (arith, length-drop a.from z, c.requires.0) in
     let g : y ≡ bit_of (get_or r j false) = c.bit.ensures ∙ ap bit_of (sym (get_or-drop a.from z j false)) in
-    part_more a.self.body.kind.rank a.last r j c.loop-j.v c.loop-j.a c.loop-j.b c.coded_bit-x.result y c.loop-j.invariant (omega arith) h g c.coded_bit-x.ensures
+    part_more a.self.rank a.last r j c.loop-j.v c.loop-j.a c.loop-j.b c.coded_bit-x.result y c.loop-j.invariant (omega arith) h g c.coded_bit-x.ensures
 
 pub returns : goal.returns
 returns c = let a = c.args in
     let z = bits_of a.self in
-    part-whole a.self.body.kind.rank a.last (drop a.from z) c.loop-j.j c.loop-j.v c.loop-j.a c.loop-j.b c.loop-j.invariant (omega arith)
+    part-whole a.self.rank a.last (drop a.from z) c.loop-j.j c.loop-j.v c.loop-j.a c.loop-j.b c.loop-j.invariant (omega arith)
     (omega (arith, length-drop a.from z, c.requires.0))

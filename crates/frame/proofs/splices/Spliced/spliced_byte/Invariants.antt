@@ -6,4 +6,4 @@ use Rattle.frame.proofs.PlainLaws.{Part}
 use Rattle.frame.proofs.splices.Spliced.spliced_byte.Given as goal
 
 abbrev pub invariant-loop-j : goal.invariant-loop-j
-invariant-loop-j l = Part l.self.body.kind.rank (ending l.last) (drop l.from (bits_of l.self)) l.j l.v l.a l.b
+invariant-loop-j l = Part l.self.rank (ending l.last) (drop l.from (bits_of l.self)) l.j l.v l.a l.b

@@ -1,6 +1,5 @@
-use mathlib.Core.Path.{ap, ◌∙◌}
-use Rattle.frame.specs.Fields.{frame_from, crc_right}
-use Rattle.frame.proofs.bodies.Body.frame.Goals as goal
+use Rattle.frame.specs.Fields.{frame_from}
+use Rattle.frame.proofs.bodies.frame_from.Goals as goal
 
 pub returns : goal.returns
 unfolding frame_from
@@ -13,5 +12,5 @@ returns c = rw (
   c.auth_size.ensures.0,
   c.payload_size.ensures.0,
   c.li.ensures.0,
-  c.requires ∙ ap (λ n. crc_right n c.args.plain.bytes) c.args.self.whole,
+  c.requires.1,
 )

@@ -3,7 +3,7 @@ use Rattle.frequency_signal.specs.Seconds.{late}
 use Rattle.frequency_signal.specs.Order.{Index}
 use Rattle.limits.specs.Limits.{longest_stream}
 use Rattle.std.proofs.Common.{◌≤◌, sym, ap, ◌∙◌, subst, arith, Option, ℕ}
-use Rattle.frequency_signal.proofs.Stream.is_late.Goals as goal
+use Rattle.frequency_signal.proofs.Pace.is_late.Goals as goal
 
 pub overflow_mul-result-in-Some : goal.overflow_mul-result-in-Some
 overflow_mul-result-in-Some c =

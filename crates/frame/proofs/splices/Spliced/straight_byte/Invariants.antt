@@ -4,7 +4,7 @@ use lib.ListN.{drop}
 use Rattle.coding.specs.Bits.{odd}
 use Rattle.frame.specs.Plain.{ending}
 use Rattle.frame.proofs.PlainLaws.{Part}
-use Rattle.frame.proofs.bodies.Body.byte.Given as goal
+use Rattle.frame.proofs.splices.Spliced.straight_byte.Given as goal
 
 abbrev pub invariant-loop-bit : goal.invariant-loop-bit
-invariant-loop-bit l = Part l.self.kind.rank (ending l.last) (drop l.from (map odd l.self.bits.now)) l.bit-index l.v l.a l.b
+invariant-loop-bit l = Part l.self.rank (ending l.last) (drop l.from (map odd l.self.bits.now)) l.bit-index l.v l.a l.b
