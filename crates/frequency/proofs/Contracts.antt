@@ -6,11 +6,10 @@ use contract.Lifetimes.{Lfts}
 use borrow.Fn.World.{ArgsD, ResD}
 use borrow.Fn.Kinds.{ended_of}
 use denote.Triple.Clauses.{AtExit}
-use Rattle.std.specs.Prelude.{IfOk}
 use Rattle.limits.specs.Answer.{said, cause_of}
 use Rattle.frequency.specs.Lent.{lists}
 use Rattle.frequency.specs.Order.{cause_new}
-use Rattle.frequency.specs.Calls.{SamplesEnd, CfoEnd, TunedEnd, NextEnd, FrameEnd, Frame1End, freq_answer, tune_of, fresh}
+use Rattle.frequency.specs.Calls.{SamplesEnd, CfoEnd, TunedEnd, NextEnd, FrameEnd, Frame1End, freq_answer, tune_of, fresh, cause_of_new, tracker_of}
 use Rattle.frequency.specs.contracts.FrequencyTracker.new as new-fn
 use Rattle.frequency.proofs.FrequencyTracker.new.Kinds as new-kinds
 use Rattle.frequency.proofs.FrequencyTracker.new.Reads as new-reads
@@ -41,7 +40,7 @@ use Rattle.frequency.proofs.FrequencyTracker.frame1.Reads as first_reads
 abbrev pub NewTells : Type 0
 NewTells =
     (κs : Lfts 0) (a : ArgsD new-fn.signature κs) (r : ResD new-fn.signature κs) (s : AtExit (ended_of 0 new-kinds.ps new-kinds.r) κs)
-    → new-reads.Learnt κs a r s → (cause_of r ≡ cause_new a.0 a.1.1.0) × IfOk r (λ t. t ≡ fresh a.0 a.1.0 a.1.1.0)
+    → new-reads.Learnt κs a r s → (cause_of_new r ≡ cause_new a.0 a.1.1.0) × (tracker_of r ≡ fresh a.0 a.1.0 a.1.1.0)
 
 abbrev pub FreqTells : Type 0
 FreqTells =

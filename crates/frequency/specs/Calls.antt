@@ -2,6 +2,7 @@
 use Rattle.std.specs.Prelude.{ℕ, ◌≤◌, ◌≡◌, Bool, false, List, length, take, Float, Option, None, Result, Ok, Err}
 use Rattle.limits.specs.declared.Refusal.{Refusal}
 use Rattle.limits.specs.Answer.{Answer, said, answer, Free}
+use Rattle.limits.specs.Refusals.{number_of}
 use Rattle.frequency_lists.specs.declared.Reading.{Reading}
 use Rattle.frequency_lists.specs.declared.Tuning.{Tuning}
 use Rattle.frequency_lists.specs.Lists.{freqs, last_or}
@@ -10,6 +11,7 @@ use Rattle.record.specs.declared.FrameSpan.{FrameSpan}
 use Rattle.frequency_measure.specs.Measured.{frame_frequency, frame1}
 use Rattle.record.specs.Spans.{span_ok, spans_ok}
 use Rattle.frequency.specs.declared.FrequencyTracker.{FrequencyTracker}
+use Rattle.frequency.specs.declared.RefusedTracker.{RefusedTracker}
 use Rattle.frequency.specs.Lent.{Lists, lists, tracker, packed, stored}
 use Rattle.frequency.specs.Order.{cause_freq, cause_tuned, cause_samples, cause_cfo, cause_next, cause_frame}
 use Rattle.frequency.specs.Tracker.{Tracker, tuned, samples, cfo, next_tuning, after_tuning}
@@ -85,3 +87,12 @@ fresh rate base step = record {
   requested = None;
   signal = record { n = 0; floor = None; frame_from = None; last_signal = None; retuned = false };
 }
+
+-- what new answers with, accepted or refused: the number, and the tracker
+unfoldable pub cause_of_new : Result FrequencyTracker RefusedTracker → ℕ
+cause_of_new (Ok t) = 0
+cause_of_new (Err e) = number_of e.refusal
+
+abbrev pub tracker_of : Result FrequencyTracker RefusedTracker → FrequencyTracker
+tracker_of (Ok t) = t
+tracker_of (Err e) = e.tracker

@@ -1,7 +1,7 @@
 // The frequency tracker: frequency.rs, with its lists lent.
 #![tactic(auto)]
 
-ghost use Rattle.std.specs.Prelude.{◌≡◌, true, ◌+◌, ◌≤◌, length, take, IfOk, IfSome};
+ghost use Rattle.std.specs.Prelude.{◌≡◌, true, ◌+◌, ◌≤◌, length, take, IfSome};
 ghost use Rattle.frequency_signal.specs.Seconds.{oldest_of};
 ghost use Rattle.frequency_lists.specs.Lists.{ats, freqs, last_or};
 ghost use Rattle.frequency_retain.specs.Retain.{Leads, Looked};
@@ -9,7 +9,7 @@ ghost use Rattle.frequency_tuning.specs.Steps.{settled_by};
 ghost use Rattle.frequency.specs.Lent.{lists};
 ghost use Rattle.frequency.specs.Order.{ahead, tunings_in_order, readings_in_order, in_order, floats_ok, numbers_ok, due_of, cause_new, cause_freq, cause_tuned, cause_samples, cause_cfo, cause_next, cause_frame, Sound};
 ghost use Rattle.limits.specs.Answer.{said, cause_of};
-ghost use Rattle.frequency.specs.Calls.{SamplesEnd, CfoEnd, TunedEnd, NextEnd, FrameEnd, Frame1End, freq_answer, tune_of, fresh};
+ghost use Rattle.frequency.specs.Calls.{SamplesEnd, CfoEnd, TunedEnd, NextEnd, FrameEnd, Frame1End, freq_answer, tune_of, fresh, cause_of_new, tracker_of};
 ghost use Rattle.frequency.specs.Waiting.{Settling, settled_of, step_by};
 
 use frequency_lists::{Reading, Tuning};
@@ -32,6 +32,21 @@ pub struct FrequencyTracker {
     pub tunings: usize,
     pub requested: Option<u32>,
     pub signal: Signal,
+}
+
+// Why `new` refuses, and the tracker that it refuses.
+#[derive(Clone, Copy)]
+pub struct RefusedTracker {
+    pub refusal: Refusal,
+    pub tracker: FrequencyTracker,
+}
+
+impl From<RefusedTracker> for Refusal {
+    ghost from_gives = { λ r n. n ≡ r.refusal };
+
+    fn from(refused: RefusedTracker) -> Refusal {
+        refused.refusal
+    }
 }
 
 fn floats_ok(t: &FrequencyTracker) -> bool
@@ -415,18 +430,21 @@ impl FrequencyTracker {
         }
     }
 
-    // The same where rate and step are in range; refusals 1 (rate) and 9 (step).
-    pub fn new(rate: u32, base_freq: u32, step_hz: f64) -> Result<Self, Refusal>
-        ensures number { cause_of result ≡ cause_new rate step_hz }
-        ensures value { IfOk result (λ t. t ≡ fresh rate base_freq step_hz) }
+    // The same where rate and step are in range; refusals 1 (rate) and 9 (step), which hand it back.
+    pub fn new(rate: u32, base_freq: u32, step_hz: f64) -> Result<Self, RefusedTracker>
+        ensures number { cause_of_new result ≡ cause_new rate step_hz }
+        ensures value { tracker_of result ≡ fresh rate base_freq step_hz }
     {
+        let tracker = Self::fresh(rate, base_freq, step_hz);
         if !limits::rate_ok(rate) {
-            return Err(Refusal::BadRate);
+            let refusal = Refusal::BadRate;
+            return Err(RefusedTracker { refusal, tracker });
         }
         if !frequency_tuning::step_ok(step_hz) {
-            return Err(Refusal::BadNumber);
+            let refusal = Refusal::BadNumber;
+            return Err(RefusedTracker { refusal, tracker });
         }
-        Ok(Self::fresh(rate, base_freq, step_hz))
+        Ok(tracker)
     }
 
     // The frequency that the receiver is tuned to; refusals 1, 5, 9.

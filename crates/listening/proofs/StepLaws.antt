@@ -9,6 +9,7 @@ use lib.ListN.{length, drop, drop_of_length-le}
 use lib.Ieee.{Float, lt, le, eq, of_bits, of_int, round}
 use Rattle.ledger.specs.Ledger.{by_frames, Ledger, Call, push_raw, flush, dbm_of}
 use Rattle.frequency.specs.declared.FrequencyTracker.{FrequencyTracker}
+use Rattle.frequency.specs.declared.RefusedTracker.{RefusedTracker}
 use Rattle.std.proofs.Common.{Option, Result, Ok, Err, IsOk}
 use Rattle.limits.specs.declared.Refusal.{Refusal}
 use Rattle.limits.specs.Answer.{cause_of}
@@ -18,7 +19,7 @@ use Rattle.frequency.specs.Calls.{tune_of}
 use Rattle.frequency.specs.Lent.{Lists, tracker, packed, stored}
 use Rattle.frequency.specs.Order.{cause_new, cause_tuned, cause_samples, cause_cfo, cause_next}
 use Rattle.frequency.specs.Tracker.{tuned, samples, cfo, next_tuning, after_tuning}
-use Rattle.frequency.specs.Calls.{fresh}
+use Rattle.frequency.specs.Calls.{fresh, cause_of_new}
 use Rattle.frequency_grown.specs.Rising as rising
 use Rattle.frequency_grown.specs.Rising.{Single}
 use Rattle.receiver.specs.declared.SigfoxReceiver.{SigfoxReceiver}
@@ -174,10 +175,10 @@ unfolding lt le eq of_bits of_int round
 taken = refl
 
 -- so that the tracker is made
-pub accepted_ok : {A : Type 0} (r : Result A Refusal) → cause_of r ≡ 0 → IsOk r
-unfolding cause_of
-accepted_ok (Ok v) h = refl
-accepted_ok (Err e) h = absurd (number-positive e h)
+pub made_ok : (r : Result FrequencyTracker RefusedTracker) → cause_of_new r ≡ 0 → IsOk r
+unfolding cause_of_new
+made_ok (Ok t) h = refl
+made_ok (Err e) h = absurd (number-positive e.refusal h)
 
 pub first_single : (t : FrequencyTracker) (hz : ℕ) (m : Lists) → hz < 2 ^ 32 → t ≡ fresh rate hz step_hz → Single t m
 first_single t hz m h e = subst (λ (x : FrequencyTracker). Single x m) (sym e) (rising.new rate hz step_hz m h taken)

@@ -226,7 +226,9 @@ fn start(rt: &impl Input) -> Result<State, Unanswered> {
             freq: TUNINGS,
             scratch: READINGS,
         },
-        tracker: FrequencyTracker::new(rate, base, endian::get::<f64>(&head, 8)),
+        tracker: FrequencyTracker::new(rate, base, endian::get::<f64>(&head, 8)).map_err(
+            Refusal::from,
+        ),
     })
 }
 

@@ -1,6 +1,6 @@
 use mathlib.Core.Path.{◌∙◌}
-use Rattle.listening.proofs.StepLaws.{taken, accepted_ok}
+use Rattle.listening.proofs.StepLaws.{taken, made_ok}
 use Rattle.listening.proofs.fresh.Goals as goal
 
 pub unwrap-tracker-requires : goal.unwrap-tracker-requires
-unwrap-tracker-requires c = accepted_ok _ (c.new.ensures.number ∙ taken)
+unwrap-tracker-requires c = made_ok _ (c.new.ensures.number ∙ taken)
