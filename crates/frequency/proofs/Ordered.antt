@@ -1,7 +1,7 @@
 -- What the order rules tell, once they are passed. Assumes nothing.
 use Rattle.std.proofs.Common.{Option, None, Some}
-use mathlib.Core.Path.{◌≡◌}
-use mathlib.Core.Bool.{true, ◌&&◌}
+use mathlib.Core.Path.{◌≡◌, refl}
+use mathlib.Core.Bool.{Bool, true, false, ◌&&◌}
 use mathlib.Core.List.{List}
 use Prim.Native.Nat.{ℕ, ◌+◌, ◌≤◌}
 use native.Mathlib.Omega.{arith}
@@ -117,3 +117,16 @@ small_tunings s ts o i h =
     let b = tuned_at s.signal.n (take s.tunings ts) o.indices i h in
     let m = o.signals.stream in
     omega arith
+
+-- the order of the tunings, with room for the readings, is the whole where a look has settled the readings' indices
+pub both_ordered : (t : FrequencyTracker) (rs : List Reading) (ts : List Tuning) (a b : Bool) → a ≡ tunings_in_order t ts → b ≡ fits_readings t.readings rs
+    → read_up_to (t.signal.n + ahead) (take t.readings rs) ≡ true → (a && b) ≡ (tunings_in_order t ts && readings_in_order t rs)
+unfolding tunings_in_order readings_in_order
+both_ordered t rs ts a b e f u =
+    rw (e, f, u) (go (signal_ok t.line_start t.signal) (fits_tunings t.tunings ts && tuned_up_to t.signal.n (take t.tunings ts)) (fits_readings t.readings rs))
+  where
+    go : (s x y : Bool) → ((s && x) && y) ≡ ((s && x) && (s && (y && true)))
+    go false x y = refl
+    go true false y = refl
+    go true true false = refl
+    go true true true = refl

@@ -174,6 +174,12 @@ pub taken : cause_new rate step_hz ≡ 0
 unfolding lt le eq of_bits of_int round
 taken = refl
 
+-- a call to which no cause applies is accepted
+pub accepted_ok : {A : Type 0} (r : Result A Refusal) → cause_of r ≡ 0 → IsOk r
+unfolding cause_of
+accepted_ok (Ok v) h = refl
+accepted_ok (Err e) h = absurd (number-positive e h)
+
 -- so that the tracker is made
 pub made_ok : (r : Result FrequencyTracker RefusedTracker) → cause_of_new r ≡ 0 → IsOk r
 unfolding cause_of_new
